@@ -1,0 +1,25 @@
+//! The words of the store: identifiers, names, keys, holds, and the commands and answers of clients.
+#![tactic(auto)]
+
+mod answer;
+mod command;
+mod dump;
+mod ids;
+mod items;
+mod key;
+mod name;
+mod script;
+mod values;
+
+pub use answer::Answer;
+pub use command::Command;
+pub use dump::{DirState, DumpLine, FileState};
+pub use ids::{
+    BlkId, Counts, DirId, DiskId, FileId, Hold, Layer, NoMemory, Node, OpId, Place, ROOT, Tag,
+    Token,
+};
+pub use items::{Bytes, Items};
+pub use key::{Key, Upper};
+pub use name::{BadName, Name, Path};
+pub use script::{Act, Line, Plan, ReportLine};
+pub use values::{BlockList, Class, Listed, Listing, Location, Row, RowPart};

@@ -1,0 +1,56 @@
+use crate::ids::{BlkId, DiskId, Node, Tag};
+use crate::items::Items;
+use crate::name::Name;
+
+/// An entry as a listing shows it.
+#[derive(Debug, Drop)]
+pub struct Listed {
+    pub name: Name,
+    pub node: Node,
+}
+
+/// The entries of a directory, in the order of their names.
+#[derive(Debug, Drop)]
+pub struct Listing {
+    pub sealed: bool,
+    pub items: Items<Listed>,
+}
+
+/// A row of a file as a listing shows it: a block and its length in bytes.
+#[derive(Clone, Copy, Debug, PartialEq, Eq)]
+pub struct RowPart {
+    pub blk: BlkId,
+    pub len: u32,
+}
+
+/// The blocks of a file, in order.
+#[derive(Debug, Drop)]
+pub struct BlockList {
+    pub sealed: bool,
+    pub rows: Items<RowPart>,
+}
+
+/// How a block's bytes lie on its disks.
+#[derive(Clone, Copy, Debug, PartialEq, Eq)]
+pub enum Class {
+    /// Each disk has all of them.
+    Copies,
+}
+
+/// A row of a block: its chunk on a disk.
+#[derive(Clone, Copy, Debug, PartialEq, Eq)]
+pub struct Row {
+    pub disk: DiskId,
+    pub tag: Tag,
+    pub placed: bool,
+}
+
+/// Where a block lies.
+#[derive(Debug, Drop)]
+pub struct Location {
+    pub class: Class,
+    pub len: u32,
+    pub sealed: bool,
+    pub version: u64,
+    pub rows: Items<Row>,
+}
