@@ -1,2 +1,4 @@
 pub mod Names
 pub mod NameFault
+pub mod Keys
+pub mod Codes

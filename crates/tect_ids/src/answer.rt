@@ -9,17 +9,31 @@ pub enum Answer {
     /// Done: delete, rename, rmdir, drop, seal, and a move of a directory or inside one.
     Done,
     /// The directory or file: look, create, mkdir, and a move of a file.
-    Found { node: Node },
+    Found {
+        node: Node,
+    },
     /// The entries of a directory, in the order of their names.
-    Entries { items: Items<Listed> },
+    Entries {
+        items: Items<Listed>,
+    },
     /// The file and the token that was written into it.
-    Opened { file: FileId, token: Token },
+    Opened {
+        file: FileId,
+        token: Token,
+    },
     /// The block that was added, and its index in the file.
-    Appended { blk: BlkId, index: u32 },
+    Appended {
+        blk: BlkId,
+        index: u32,
+    },
     /// The blocks of a file with their lengths in bytes.
-    Blocks { rows: Items<RowPart> },
+    Blocks {
+        rows: Items<RowPart>,
+    },
     /// The bytes of a file.
-    Read { bytes: Bytes },
+    Read {
+        bytes: Bytes,
+    },
     /// How many objects a sweep removed.
     Swept {
         dirs: u32,
@@ -36,9 +50,14 @@ pub enum Answer {
         chunks: u32,
     },
     /// How many rows a repair moved and left.
-    Repaired { moved: u32, left: u32 },
+    Repaired {
+        moved: u32,
+        left: u32,
+    },
     /// The disk is lost.
-    LostDisk { disk: DiskId },
+    LostDisk {
+        disk: DiskId,
+    },
     NoDir,
     NoName,
     NoFile,
@@ -50,38 +69,76 @@ pub enum Answer {
     NotSealed,
     NotOpen,
     /// The entry is pinned by that op.
-    Pending { op: OpId },
+    Pending {
+        op: OpId,
+    },
     /// The directory is being removed by that op.
-    Closing { op: OpId },
+    Closing {
+        op: OpId,
+    },
     /// The file is being moved by that op.
-    Frozen { op: OpId },
+    Frozen {
+        op: OpId,
+    },
     /// Another directory is being moved by that op.
-    Turn { op: OpId },
+    Turn {
+        op: OpId,
+    },
     /// The entry is not the one that was found.
-    Changed { key: Key, now: Option<Node> },
+    Changed {
+        key: Key,
+        now: Option<Node>,
+    },
     /// The file has another token.
-    TokenChanged { now: Token },
+    TokenChanged {
+        now: Token,
+    },
     /// The op was cancelled by a collector.
-    Cancelled { op: OpId },
+    Cancelled {
+        op: OpId,
+    },
     /// The destination lies below the directory that is moved.
-    Below { dir: DirId },
+    Below {
+        dir: DirId,
+    },
     /// The walk up from the destination was too long.
-    Deep { dir: DirId },
+    Deep {
+        dir: DirId,
+    },
     /// The directory or file with that number has as many entries or blocks as it may have.
-    Full { id: u64 },
-    FewDisks { have: u32, need: u32 },
+    Full {
+        id: u64,
+    },
+    FewDisks {
+        have: u32,
+        need: u32,
+    },
     /// That disk was lost while a block was written to it.
-    DiskLost { disk: DiskId },
+    DiskLost {
+        disk: DiskId,
+    },
     /// All disks of that block are lost.
-    Lost { blk: BlkId },
+    Lost {
+        blk: BlkId,
+    },
     /// The block was moved again and again while it was read.
-    Moving { blk: BlkId, first: u64, last: u64 },
+    Moving {
+        blk: BlkId,
+        first: u64,
+        last: u64,
+    },
     /// The block was removed while it was read.
-    Gone { blk: BlkId },
+    Gone {
+        blk: BlkId,
+    },
     /// The actor's part of the history has no room, at a transaction of that place; place 256 is the part itself.
-    HistoryFull { place: Place },
+    HistoryFull {
+        place: Place,
+    },
     NoMemory,
     Stopped,
     /// A reply of that place which the command's program has no use for. No run answers it.
-    Odd { place: Place },
+    Odd {
+        place: Place,
+    },
 }

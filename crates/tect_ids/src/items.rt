@@ -1,7 +1,7 @@
 ghost use Rattle.std.specs.Prelude.{◌≡◌, ◌↔◌, [], ◌∷◌, ◌++◌, IsTrue, IfOk, OnOk, OnErr, length};
 
 use crate::ids::NoMemory;
-use std::alloc::{Global};
+use std::alloc::Global;
 use std::marker::Model;
 
 /// A list, which contracts see as such.

@@ -4,6 +4,7 @@
 mod answer;
 mod command;
 mod dump;
+mod holds;
 mod ids;
 mod items;
 mod key;
@@ -14,6 +15,7 @@ mod values;
 pub use answer::Answer;
 pub use command::Command;
 pub use dump::{DirState, DumpLine, FileState};
+pub use holds::HoldList;
 pub use ids::{
     BlkId, Counts, DirId, DiskId, FileId, Hold, Layer, NoMemory, Node, OpId, Place, ROOT, Tag,
     Token,
@@ -22,4 +24,4 @@ pub use items::{Bytes, Items};
 pub use key::{Key, Upper};
 pub use name::{BadName, Name, Path};
 pub use script::{Act, Line, Plan, ReportLine};
-pub use values::{BlockList, Class, Listed, Listing, Location, Row, RowPart};
+pub use values::{BlockList, Class, Listed, Listing, Location, Over, Row, RowPart, Want};

@@ -50,6 +50,9 @@ pub enum ReportLine {
         answer: Answer,
     },
     /// The answer of a world line.
-    House { steps: u32, answer: Answer },
+    House {
+        steps: u32,
+        answer: Answer,
+    },
     Dump(DumpLine),
 }

@@ -2,6 +2,22 @@ use crate::ids::{BlkId, DiskId, Node, Tag};
 use crate::items::Items;
 use crate::name::Name;
 
+/// What a bind may replace.
+#[derive(Clone, Copy, Debug, PartialEq, Eq)]
+pub enum Over {
+    /// Nothing: the name has to be free.
+    Absent,
+    /// A file.
+    File,
+}
+
+/// What an unbind takes away.
+#[derive(Clone, Copy, Debug, PartialEq, Eq)]
+pub enum Want {
+    AnyFile,
+    Exactly(Node),
+}
+
 /// An entry as a listing shows it.
 #[derive(Debug, Drop)]
 pub struct Listed {

@@ -1,0 +1,2 @@
+//! Finite maps at the keys of the store: directories, files, entries and holds.
+#![tactic(auto)]

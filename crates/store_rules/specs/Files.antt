@@ -1,0 +1,65 @@
+-- A shard of the File layer, and the rule of each request to it.
+use Rattle.std.specs.Prelude.{◌≡◌, Bool, true, false, not, Option, Some, None, is_some, if◌then◌else◌}
+use Rattle.std.specs.FinMap.{FinMap, empty, get}
+use Rattle.ordered_rows.specs.Maps.{set_at}
+use Rattle.tect_ids.specs.declared.ids.FileId.{FileId}
+use Rattle.tect_ids.specs.declared.ids.Hold.{Hold}
+use Rattle.tect_ids.specs.declared.ids.OpId.{OpId}
+use Rattle.tect_ids.specs.declared.key.Key.{Key}
+use Rattle.tect_ids.specs.declared.key.Upper.{Upper}
+use Rattle.tect_ids.specs.declared.key.Upper.TheVariants as uppers
+use Rattle.tect_ids.specs.Keys.{file_cmp}
+use Rattle.store_rules.specs.declared.files.File.{File}
+use Rattle.store_rules.specs.declared.files.FileReq.{FileReq}
+use Rattle.store_rules.specs.declared.files.FileReq.TheVariants as req
+use Rattle.store_rules.specs.declared.files.FileReply.{FileReply}
+use Rattle.store_rules.specs.declared.files.FileReply.TheVariants.{Made, Granted, Released, HasId, NoFile}
+use Rattle.store_rules.specs.Outcomes.{Outcome, Leaves, Changes, changes, refuse, found}
+
+abbrev pub Files : Type 0
+Files = FinMap file_cmp File
+
+-- the file with that hold listed, or not
+abbrev pub file_with_hold : Option File → Hold → Option Upper → Option File
+file_with_hold None h u = None
+file_with_hold (Some f) h u = Some record f { holds = set_at f.holds h u }
+
+-- MakeFile
+abbrev pub make_file_answer : Files → FileId → Outcome FileReply
+make_file_answer s f = refuse (is_some (get s f)) HasId (Changes Made)
+
+abbrev pub make_file_change : Files → FileId → Hold → Key → Option OpId → Files
+make_file_change s f h k t = set_at s f (Some record { token = t; holds = set_at empty h (Some (uppers.Entry k)) })
+
+-- Grant
+abbrev pub grant_file_answer : Files → FileId → Outcome FileReply
+grant_file_answer s f = found (get s f) NoFile (λ x. Changes Granted)
+
+abbrev pub grant_file_change : Files → FileId → Hold → Key → Files
+grant_file_change s f h k = set_at s f (file_with_hold (get s f) h (Some (uppers.Entry k)))
+
+-- Release
+abbrev pub file_lists : Option File → Hold → Option Upper
+file_lists None h = None
+file_lists (Some f) h = get f.holds h
+
+abbrev pub release_file_answer : Files → FileId → Hold → Outcome FileReply
+release_file_answer s f h = refuse (not (is_some (file_lists (get s f) h))) (Released false) (Changes (Released true))
+
+abbrev pub release_file_change : Files → FileId → Hold → Files
+release_file_change s f h = set_at s f (file_with_hold (get s f) h None)
+
+-- the whole table
+abbrev pub file_answer : Files → FileReq → Outcome FileReply
+file_answer s (req.MakeFile f h k t) = make_file_answer s f
+file_answer s (req.Grant f h k) = grant_file_answer s f
+file_answer s (req.Release f h) = release_file_answer s f h
+
+-- what a request does where it is not refused
+abbrev pub file_change : Files → FileReq → Files
+file_change s (req.MakeFile f h k t) = make_file_change s f h k t
+file_change s (req.Grant f h k) = grant_file_change s f h k
+file_change s (req.Release f h) = release_file_change s f h
+
+abbrev pub file_step : Files → FileReq → Files
+file_step s r = if changes (file_answer s r) then file_change s r else s

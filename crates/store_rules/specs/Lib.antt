@@ -1,0 +1,5 @@
+pub mod Outcomes
+pub mod Names
+pub mod Files
+pub mod Store
+pub mod Views

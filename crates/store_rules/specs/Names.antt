@@ -1,0 +1,194 @@
+-- A shard of the Name layer, and the rule of each request to it: what it answers, its refusals in their order, and what
+-- it changes where it is not refused.
+use Rattle.std.specs.Prelude.{◌≡◌, ℕ, Bool, true, false, not, List, Option, Some, None, is_some, nat_le, if◌then◌else◌, map}
+use Rattle.std.specs.FinMap.{FinMap, empty, get, len, entries}
+use Rattle.ordered_rows.specs.Maps.{set_at}
+use Rattle.tect_ids.specs.declared.ids.DirId.{DirId}
+use Rattle.tect_ids.specs.declared.ids.FileId.{FileId}
+use Rattle.tect_ids.specs.declared.ids.Hold.{Hold}
+use Rattle.tect_ids.specs.declared.ids.Node.{Node}
+use Rattle.tect_ids.specs.declared.ids.Node.TheVariants.{Dir, File}
+use Rattle.tect_ids.specs.declared.key.Key.{Key}
+use Rattle.tect_ids.specs.declared.key.Upper.{Upper}
+use Rattle.tect_ids.specs.declared.key.Upper.TheVariants as uppers
+use Rattle.tect_ids.specs.declared.values.Listed.{Listed}
+use Rattle.tect_ids.specs.Keys.{dir_cmp, key_cmp, node_eq}
+use Rattle.key_maps.specs.Maps.{within}
+use Rattle.store_rules.specs.declared.names.Directory.{Directory}
+use Rattle.store_rules.specs.declared.names.Entry.{Entry}
+use Rattle.tect_ids.specs.declared.values.Over.{Over}
+use Rattle.tect_ids.specs.declared.values.Over.TheVariants as over
+use Rattle.tect_ids.specs.declared.values.Want.{Want}
+use Rattle.tect_ids.specs.declared.values.Want.TheVariants.{AnyFile, Exactly}
+use Rattle.store_rules.specs.declared.names.Replaced.{Replaced}
+use Rattle.store_rules.specs.declared.names.NameReq.{NameReq}
+use Rattle.store_rules.specs.declared.names.NameReq.TheVariants as req
+use Rattle.store_rules.specs.declared.names.NameReply.{NameReply}
+use Rattle.store_rules.specs.declared.names.NameReply.TheVariants.{DirIs, Found, Listing, Made, Bound, Swapped, Unbound, Granted, Released, NoDir, NoName, HasId, Sealed, Exists, IsDir, Full, Changed}
+use Rattle.store_rules.specs.Outcomes.{Outcome, Leaves, Changes, changes, refuse, found}
+
+pub record Names : Type 0 where
+  pub dirs : FinMap dir_cmp Directory
+  pub entries : FinMap key_cmp Entry
+
+-- the root alone, with no parent
+abbrev pub root_names : Names
+root_names = record {
+  dirs = set_at empty (record { 0 = 1 }) (Some record { parent = record { 0 = 0 }; sealed = false; holds = empty });
+  entries = empty;
+}
+
+abbrev pub no_names : Names
+no_names = record { dirs = empty; entries = empty }
+
+-- as many entries as a directory may have
+abbrev pub entry_limit : ℕ
+entry_limit = 65536
+
+abbrev pub is_file : Node → Bool
+is_file (Dir d) = false
+is_file (File f) = true
+
+abbrev pub replaced_file : Node → FileId
+replaced_file (Dir d) = record { 0 = d.0 }
+replaced_file (File f) = f
+
+-- what a bind or a swap takes the name from
+abbrev pub replaced : Entry → Replaced
+replaced e = record { file = replaced_file e.node; hold = e.hold }
+
+abbrev pub set_entry : Names → Key → Option Entry → Names
+set_entry s k e = record s { entries = set_at s.entries k e }
+
+abbrev pub set_dir : Names → DirId → Option Directory → Names
+set_dir s d x = record s { dirs = set_at s.dirs d x }
+
+abbrev pub key_in : DirId → List ℕ → Key
+key_in d n = record { dir = d; name = n }
+
+-- the node that a name has now
+abbrev pub node_now : Option Entry → Option Node
+node_now None = None
+node_now (Some e) = Some e.node
+
+-- the directory with that hold listed, or not
+abbrev pub dir_with_hold : Option Directory → Hold → Option Upper → Option Directory
+dir_with_hold None h u = None
+dir_with_hold (Some d) h u = Some record d { holds = set_at d.holds h u }
+
+-- CheckDir
+abbrev pub check_dir_answer : Names → DirId → Outcome NameReply
+check_dir_answer s d = found (get s.dirs d) NoDir (λ x. Leaves (DirIs x.parent x.sealed))
+
+-- Look
+abbrev pub look_answer : Names → Key → Outcome NameReply
+look_answer s k = found (get s.dirs k.dir) NoDir (λ d. found (get s.entries k) NoName (λ e. Leaves (Found e.node)))
+
+-- List
+abbrev pub listed : Key × Entry → Listed
+listed e = record { name = (e.0).name; node = (e.1).node }
+
+abbrev pub list_answer : Names → DirId → Outcome NameReply
+list_answer s d = found (get s.dirs d) NoDir (λ x. Leaves (Listing x.sealed (map listed (entries (within s.entries d)))))
+
+-- MakeDir
+abbrev pub make_dir_answer : Names → DirId → Outcome NameReply
+make_dir_answer s d = refuse (is_some (get s.dirs d)) HasId (Changes Made)
+
+abbrev pub make_dir_change : Names → DirId → DirId → Hold → Key → Names
+make_dir_change s d p h k = set_dir s d (Some record { parent = p; sealed = false; holds = set_at empty h (Some (uppers.Entry k)) })
+
+-- Bind: what stands at the name decides
+abbrev pub bind_over : Names → Key → Option Entry → Over → Outcome NameReply
+bind_over s k (Some e) over.Absent = Leaves Exists
+bind_over s k (Some e) over.File = refuse (not (is_file e.node)) IsDir (Changes (Bound (Some (replaced e))))
+bind_over s k None o = refuse (nat_le entry_limit (len (within s.entries k.dir))) Full (Changes (Bound None))
+
+abbrev pub bind_answer : Names → Key → Over → Outcome NameReply
+bind_answer s k o =
+    found (get s.dirs k.dir) NoDir (λ d.
+    refuse d.sealed Sealed
+    (bind_over s k (get s.entries k) o))
+
+abbrev pub bind_change : Names → Key → Node → Hold → Names
+bind_change s k n h = set_entry s k (Some record { node = n; hold = h })
+
+-- Swap: what stands at the new name decides
+abbrev pub swap_over : Option Entry → Node → Hold → Outcome NameReply
+swap_over None n was = Changes (Swapped was None)
+swap_over (Some e) n was =
+    refuse (not (is_file e.node)) IsDir
+    (refuse (not (is_file n)) Exists
+    (Changes (Swapped was (Some (replaced e)))))
+
+abbrev pub swap_answer : Names → DirId → List ℕ → List ℕ → Node → Outcome NameReply
+swap_answer s d from to n =
+    found (get s.dirs d) NoDir (λ x.
+    refuse x.sealed Sealed
+    (found (get s.entries (key_in d from)) (Changed None) (λ e.
+    refuse (not (node_eq e.node n)) (Changed (Some e.node))
+    (swap_over (get s.entries (key_in d to)) n e.hold))))
+
+abbrev pub swap_change : Names → DirId → List ℕ → List ℕ → Node → Hold → Names
+swap_change s d from to n h = set_entry (set_entry s (key_in d from) None) (key_in d to) (Some record { node = n; hold = h })
+
+-- Unbind: of any file, or of just this node
+abbrev pub unbind_any : Option Entry → Outcome NameReply
+unbind_any None = Leaves NoName
+unbind_any (Some e) = refuse (not (is_file e.node)) IsDir (Changes (Unbound e.node e.hold))
+
+abbrev pub unbind_node : Option Entry → Node → Outcome NameReply
+unbind_node None n = Leaves (Changed None)
+unbind_node (Some e) n = refuse (not (node_eq e.node n)) (Changed (Some e.node)) (Changes (Unbound e.node e.hold))
+
+abbrev pub unbind_want : Option Entry → Want → Outcome NameReply
+unbind_want e AnyFile = unbind_any e
+unbind_want e (Exactly n) = unbind_node e n
+
+abbrev pub unbind_answer : Names → Key → Want → Outcome NameReply
+unbind_answer s k w = found (get s.dirs k.dir) NoDir (λ d. refuse d.sealed Sealed (unbind_want (get s.entries k) w))
+
+-- Grant
+abbrev pub grant_dir_answer : Names → DirId → Outcome NameReply
+grant_dir_answer s d = found (get s.dirs d) NoDir (λ x. Changes Granted)
+
+abbrev pub grant_dir_change : Names → DirId → Hold → Key → Names
+grant_dir_change s d h k = set_dir s d (dir_with_hold (get s.dirs d) h (Some (uppers.Entry k)))
+
+-- Release
+abbrev pub dir_lists : Option Directory → Hold → Option Upper
+dir_lists None h = None
+dir_lists (Some d) h = get d.holds h
+
+abbrev pub release_dir_answer : Names → DirId → Hold → Outcome NameReply
+release_dir_answer s d h = refuse (not (is_some (dir_lists (get s.dirs d) h))) (Released false) (Changes (Released true))
+
+abbrev pub release_dir_change : Names → DirId → Hold → Names
+release_dir_change s d h = set_dir s d (dir_with_hold (get s.dirs d) h None)
+
+-- the whole table
+abbrev pub name_answer : Names → NameReq → Outcome NameReply
+name_answer s (req.CheckDir d) = check_dir_answer s d
+name_answer s (req.Look k) = look_answer s k
+name_answer s (req.List d) = list_answer s d
+name_answer s (req.MakeDir d p h k) = make_dir_answer s d
+name_answer s (req.Bind k n h o) = bind_answer s k o
+name_answer s (req.Swap d from to n h) = swap_answer s d from to n
+name_answer s (req.Unbind k w) = unbind_answer s k w
+name_answer s (req.Grant d h k) = grant_dir_answer s d
+name_answer s (req.Release d h) = release_dir_answer s d h
+
+-- what a request does where it is not refused
+abbrev pub name_change : Names → NameReq → Names
+name_change s (req.CheckDir d) = s
+name_change s (req.Look k) = s
+name_change s (req.List d) = s
+name_change s (req.MakeDir d p h k) = make_dir_change s d p h k
+name_change s (req.Bind k n h o) = bind_change s k n h
+name_change s (req.Swap d from to n h) = swap_change s d from to n h
+name_change s (req.Unbind k w) = set_entry s k None
+name_change s (req.Grant d h k) = grant_dir_change s d h k
+name_change s (req.Release d h) = release_dir_change s d h
+
+abbrev pub name_step : Names → NameReq → Names
+name_step s r = if changes (name_answer s r) then name_change s r else s

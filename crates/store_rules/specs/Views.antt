@@ -1,0 +1,46 @@
+-- A reply seen as the one that matters to a request. What else it may be is not looked at.
+use Rattle.std.specs.Prelude.{Bool, true, false, Option, Some, None, List}
+use Rattle.tect_ids.specs.declared.ids.Hold.{Hold}
+use Rattle.tect_ids.specs.declared.ids.Node.{Node}
+use Rattle.tect_ids.specs.declared.values.Listed.{Listed}
+use Rattle.store_rules.specs.declared.names.Replaced.{Replaced}
+use Rattle.store_rules.specs.declared.names.NameReply.{NameReply}
+use Rattle.store_rules.specs.declared.names.NameReply.TheVariants as names
+use Rattle.store_rules.specs.declared.files.FileReply.{FileReply}
+use Rattle.store_rules.specs.declared.files.FileReply.TheVariants as files
+use Rattle.store_rules.specs.declared.any.AnyReply.{AnyReply}
+use Rattle.store_rules.specs.declared.any.AnyReply.TheVariants.{Name, File}
+
+abbrev pub as_found : AnyReply → Option Node
+as_found (Name (names.Found n)) = Some n
+as_found _ = None
+
+abbrev pub as_listing : AnyReply → Option (List Listed)
+as_listing (Name (names.Listing sealed items)) = Some items
+as_listing _ = None
+
+-- a directory or a file was made, with a hold
+abbrev pub is_made : AnyReply → Bool
+is_made (Name names.Made) = true
+is_made (File files.Made) = true
+is_made _ = false
+
+-- a hold was granted
+abbrev pub is_granted : AnyReply → Bool
+is_granted (Name names.Made) = true
+is_granted (Name names.Granted) = true
+is_granted (File files.Made) = true
+is_granted (File files.Granted) = true
+is_granted _ = false
+
+abbrev pub as_bound : AnyReply → Option (Option Replaced)
+as_bound (Name (names.Bound old)) = Some old
+as_bound _ = None
+
+abbrev pub as_unbound : AnyReply → Option (Node × Hold)
+as_unbound (Name (names.Unbound n h)) = Some (n, h)
+as_unbound _ = None
+
+abbrev pub as_swapped : AnyReply → Option (Hold × Option Replaced)
+as_swapped (Name (names.Swapped h old)) = Some (h, old)
+as_swapped _ = None

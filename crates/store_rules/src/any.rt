@@ -1,0 +1,16 @@
+use crate::files::{FileReply, FileReq};
+use crate::names::{NameReply, NameReq};
+
+/// A request to a shard of any layer.
+#[derive(Debug, Drop)]
+pub enum AnyReq {
+    Name(NameReq),
+    File(FileReq),
+}
+
+/// A reply of a shard of any layer.
+#[derive(Debug, Drop)]
+pub enum AnyReply {
+    Name(NameReply),
+    File(FileReply),
+}

@@ -1,0 +1,38 @@
+use tect_ids::{FileId, Hold, HoldList, Key, Token};
+
+/// A file as its shard keeps it.
+#[derive(Drop)]
+pub struct File {
+    pub token: Option<Token>,
+    pub holds: HoldList,
+}
+
+/// A request to a shard of the File layer.
+#[derive(Debug, Drop)]
+pub enum FileReq {
+    MakeFile {
+        file: FileId,
+        hold: Hold,
+        key: Key,
+        token: Option<Token>,
+    },
+    Grant {
+        file: FileId,
+        hold: Hold,
+        key: Key,
+    },
+    Release {
+        file: FileId,
+        hold: Hold,
+    },
+}
+
+/// What a shard of the File layer replies.
+#[derive(Debug, Drop)]
+pub enum FileReply {
+    Made,
+    Granted,
+    Released { was: bool },
+    HasId,
+    NoFile,
+}

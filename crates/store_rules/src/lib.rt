@@ -1,0 +1,10 @@
+//! The requests of each layer, what a shard replies, and the rules: one definition for each request.
+#![tactic(auto)]
+
+mod any;
+mod files;
+mod names;
+
+pub use any::{AnyReply, AnyReq};
+pub use files::{File, FileReply, FileReq};
+pub use names::{Directory, Entry, NameReply, NameReq, Replaced};

@@ -1,0 +1,7 @@
+//! The small machine that the store is compared with: a tree of names, with one step for each visible change. It knows
+//! nothing of layers, shards, holds and caches.
+#![tactic(auto)]
+
+mod step;
+
+pub use step::{Refusal, Shown, TreeDir, TreeFile, TreeReply, TreeStep};
