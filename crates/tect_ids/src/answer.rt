@@ -151,24 +151,18 @@ impl Answer {
     pub fn copy(&self, alloc: Global) -> Result<Answer, NoMemory>
         ensures { IfOk result (λ answer. answer ≡ self.now) }
     {
-        match self {
+        match *self {
             Answer::Done => Ok(Answer::Done),
-            Answer::Found { node } => Ok(Answer::Found { node: *node }),
-            Answer::Entries { items } => Ok(Answer::Entries {
+            Answer::Found { node } => Ok(Answer::Found { node }),
+            Answer::Entries { ref items } => Ok(Answer::Entries {
                 items: items.copy(alloc)?,
             }),
-            Answer::Opened { file, token } => Ok(Answer::Opened {
-                file: *file,
-                token: *token,
-            }),
-            Answer::Appended { blk, index } => Ok(Answer::Appended {
-                blk: *blk,
-                index: *index,
-            }),
-            Answer::Blocks { rows } => Ok(Answer::Blocks {
+            Answer::Opened { file, token } => Ok(Answer::Opened { file, token }),
+            Answer::Appended { blk, index } => Ok(Answer::Appended { blk, index }),
+            Answer::Blocks { ref rows } => Ok(Answer::Blocks {
                 rows: rows.copy(alloc)?,
             }),
-            Answer::Read { bytes } => Ok(Answer::Read {
+            Answer::Read { ref bytes } => Ok(Answer::Read {
                 bytes: bytes.copy(alloc)?,
             }),
             Answer::Swept {
@@ -177,10 +171,10 @@ impl Answer {
                 blocks,
                 chunks,
             } => Ok(Answer::Swept {
-                dirs: *dirs,
-                files: *files,
-                blocks: *blocks,
-                chunks: *chunks,
+                dirs,
+                files,
+                blocks,
+                chunks,
             }),
             Answer::SweptAll {
                 rounds,
@@ -189,17 +183,14 @@ impl Answer {
                 blocks,
                 chunks,
             } => Ok(Answer::SweptAll {
-                rounds: *rounds,
-                dirs: *dirs,
-                files: *files,
-                blocks: *blocks,
-                chunks: *chunks,
+                rounds,
+                dirs,
+                files,
+                blocks,
+                chunks,
             }),
-            Answer::Repaired { moved, left } => Ok(Answer::Repaired {
-                moved: *moved,
-                left: *left,
-            }),
-            Answer::LostDisk { disk } => Ok(Answer::LostDisk { disk: *disk }),
+            Answer::Repaired { moved, left } => Ok(Answer::Repaired { moved, left }),
+            Answer::LostDisk { disk } => Ok(Answer::LostDisk { disk }),
             Answer::NoDir => Ok(Answer::NoDir),
             Answer::NoName => Ok(Answer::NoName),
             Answer::NoFile => Ok(Answer::NoFile),
@@ -210,35 +201,28 @@ impl Answer {
             Answer::Sealed => Ok(Answer::Sealed),
             Answer::NotSealed => Ok(Answer::NotSealed),
             Answer::NotOpen => Ok(Answer::NotOpen),
-            Answer::Pending { op } => Ok(Answer::Pending { op: *op }),
-            Answer::Closing { op } => Ok(Answer::Closing { op: *op }),
-            Answer::Frozen { op } => Ok(Answer::Frozen { op: *op }),
-            Answer::Turn { op } => Ok(Answer::Turn { op: *op }),
-            Answer::Changed { key, now } => Ok(Answer::Changed {
+            Answer::Pending { op } => Ok(Answer::Pending { op }),
+            Answer::Closing { op } => Ok(Answer::Closing { op }),
+            Answer::Frozen { op } => Ok(Answer::Frozen { op }),
+            Answer::Turn { op } => Ok(Answer::Turn { op }),
+            Answer::Changed { ref key, now } => Ok(Answer::Changed {
                 key: key.copy(alloc)?,
-                now: *now,
+                now,
             }),
-            Answer::TokenChanged { now } => Ok(Answer::TokenChanged { now: *now }),
-            Answer::Cancelled { op } => Ok(Answer::Cancelled { op: *op }),
-            Answer::Below { dir } => Ok(Answer::Below { dir: *dir }),
-            Answer::Deep { dir } => Ok(Answer::Deep { dir: *dir }),
-            Answer::Full { id } => Ok(Answer::Full { id: *id }),
-            Answer::FewDisks { have, need } => Ok(Answer::FewDisks {
-                have: *have,
-                need: *need,
-            }),
-            Answer::DiskLost { disk } => Ok(Answer::DiskLost { disk: *disk }),
-            Answer::Lost { blk } => Ok(Answer::Lost { blk: *blk }),
-            Answer::Moving { blk, first, last } => Ok(Answer::Moving {
-                blk: *blk,
-                first: *first,
-                last: *last,
-            }),
-            Answer::Gone { blk } => Ok(Answer::Gone { blk: *blk }),
-            Answer::HistoryFull { place } => Ok(Answer::HistoryFull { place: *place }),
+            Answer::TokenChanged { now } => Ok(Answer::TokenChanged { now }),
+            Answer::Cancelled { op } => Ok(Answer::Cancelled { op }),
+            Answer::Below { dir } => Ok(Answer::Below { dir }),
+            Answer::Deep { dir } => Ok(Answer::Deep { dir }),
+            Answer::Full { id } => Ok(Answer::Full { id }),
+            Answer::FewDisks { have, need } => Ok(Answer::FewDisks { have, need }),
+            Answer::DiskLost { disk } => Ok(Answer::DiskLost { disk }),
+            Answer::Lost { blk } => Ok(Answer::Lost { blk }),
+            Answer::Moving { blk, first, last } => Ok(Answer::Moving { blk, first, last }),
+            Answer::Gone { blk } => Ok(Answer::Gone { blk }),
+            Answer::HistoryFull { place } => Ok(Answer::HistoryFull { place }),
             Answer::NoMemory => Ok(Answer::NoMemory),
             Answer::Stopped => Ok(Answer::Stopped),
-            Answer::Odd { place } => Ok(Answer::Odd { place: *place }),
+            Answer::Odd { place } => Ok(Answer::Odd { place }),
         }
     }
 }
