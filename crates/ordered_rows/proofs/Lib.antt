@@ -1,2 +1,6 @@
+pub mod ById
+pub mod Entries
 pub mod Finds
+pub mod Made
+pub mod Maps
 pub mod Ranges

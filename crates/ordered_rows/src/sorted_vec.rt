@@ -48,7 +48,8 @@ impl<K: Ord, V> Rows<K, V> {
     }
 
     pub fn is_empty(&self) -> bool
-        ensures { result ≡ (length (pairs self.now) == 0) }
+        ensures empty { result ≡ (length (pairs self.now) == 0) }
+        ensures rising { IsRising K.cmp (pairs self.now) }
     {
         self.items.is_empty()
     }
