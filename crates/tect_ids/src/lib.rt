@@ -9,6 +9,7 @@ mod ids;
 mod items;
 mod key;
 mod name;
+mod place;
 mod script;
 mod values;
 
@@ -23,5 +24,6 @@ pub use ids::{
 pub use items::{Bytes, Items};
 pub use key::{Key, Upper};
 pub use name::{BadName, Name, Path};
+pub use place::place_of;
 pub use script::{Act, Line, Plan, ReportLine};
 pub use values::{BlockList, Class, Listed, Listing, Location, Over, Row, RowPart, Want};
