@@ -1,3 +1,4 @@
 pub mod Counts
-pub mod Prefixes
 pub mod Memory
+pub mod Prefixes
+pub mod Reading

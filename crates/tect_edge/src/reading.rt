@@ -1,6 +1,7 @@
-ghost use Rattle.std.specs.Prelude.{◌≡◌, ℕ, ◌+◌, ◌<◌, ◌≤◌, ◌++◌, List, length, vec_len, IfOk, IfSome, OnOk, IsErrOf, Ok, None};
+ghost use Rattle.std.specs.Prelude.{◌≡◌, ℕ, ◌+◌, ◌<◌, ◌≤◌, ◌++◌, List, length, vec_len, IfOk, IfSome, Ok, None};
 ghost use Rattle.std.specs.Io.KnownBytes.{Consumes, IsAtEnd};
-ghost use Rattle.tect_edge.specs.Counts.{Rose, next_count};
+ghost use Rattle.tect_edge.specs.Counts.{next_count};
+ghost use Rattle.tect_edge.specs.Reading.{HasReadCause};
 
 use crate::source::{Failed, Source};
 use std::alloc::Global;
@@ -33,10 +34,7 @@ fn read_more<S: Source>(
     ensures bound { IfOk result (λ n. vec_len bytes.old + n ≤ limit + 1) }
     ensures taken { (front : List ℕ) × Consumes (S.left source.old) (S.left source.new) front × (vec_len bytes.old + length front ≤ limit + 1) }
     ensures call { S.calls source.new ≡ next_count (S.calls source.old) }
-    ensures later { S.faults source.old ≤ S.faults source.new }
-    ensures kept { OnOk result (S.faults source.new ≡ S.faults source.old) }
-    ensures no_memory { IsErrOf result ReadFault.NoMemory → S.faults source.new ≡ S.faults source.old }
-    ensures failed { IsErrOf result ReadFault.Failed → Rose (S.faults source.old) (S.faults source.new) }
+    ensures cause { HasReadCause (S.faults source.old) (S.faults source.new) result }
 {
     let room = chunk.len().min((limit - bytes.len()).saturating_add(1));
     let count = match source.take(&mut chunk[..room]) {
@@ -60,17 +58,14 @@ pub fn read_input<S: Source>(
 ) -> Result<Option<Vec<u8>>, ReadFault>
     ensures whole { IfOk result (λ found. IfSome found (λ bytes.
         Consumes (S.left source.old) (S.left source.new) bytes.items × IsAtEnd (S.left source.new) × (length bytes.items ≤ limit)
-            × (S.calls source.new ≤ S.calls source.old + length bytes.items + 1))) }
+        × (S.calls source.new ≤ S.calls source.old + length bytes.items + 1))) }
     ensures long { result ≡ Ok None → (front : List ℕ) ×
         Consumes (S.left source.old) (S.left source.new) front × (length front ≡ limit + 1)
-            × (S.calls source.new ≤ S.calls source.old + length front) }
+        × (S.calls source.new ≤ S.calls source.old + length front) }
     ensures taken { (front : List ℕ) × Consumes (S.left source.old) (S.left source.new) front × (length front ≤ limit + 1)
         × (S.calls source.new ≤ S.calls source.old + length front + 1) }
 
-    ensures later { S.faults source.old ≤ S.faults source.new }
-    ensures kept { OnOk result (S.faults source.new ≡ S.faults source.old) }
-    ensures no_memory { IsErrOf result ReadFault.NoMemory → S.faults source.new ≡ S.faults source.old }
-    ensures failed { IsErrOf result ReadFault.Failed → Rose (S.faults source.old) (S.faults source.new) }
+    ensures cause { HasReadCause (S.faults source.old) (S.faults source.new) result }
 {
     let mut bytes = Vec::new(alloc);
     let mut chunk = [0; CHUNK];

@@ -25,6 +25,13 @@ impl<R: Read> StdSource<R> {
             faults: 0,
         }
     }
+
+    /// How often the reader failed, by a count that stays at its last value.
+    pub fn faults(&self) -> u64
+        ensures { result ≡ ⟦<StdSource<R> as Source>⟧.faults self.now }
+    {
+        self.faults
+    }
 }
 
 impl<R: Read> Source for StdSource<R> {
@@ -61,6 +68,13 @@ impl<W: Write> StdSink<W> {
         ensures faults { ⟦<StdSink<W> as Sink>⟧.faults result ≡ 0 }
     {
         StdSink { inner, faults: 0 }
+    }
+
+    /// How often the writer failed, by a count that stays at its last value.
+    pub fn faults(&self) -> u64
+        ensures { result ≡ ⟦<StdSink<W> as Sink>⟧.faults self.now }
+    {
+        self.faults
     }
 }
 

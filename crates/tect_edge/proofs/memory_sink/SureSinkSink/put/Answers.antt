@@ -12,4 +12,4 @@ returns-clause-after c =
     let whole : IsOk c.extend_from_slice.result = search rules in
     let count : c.min-count.result ≡ min (length piece) (room - length kept) = search rules in
     rw (← c.self.view_is) (ap (λ l. record { room = room; kept = l })
-      (rw whole at c.extend_from_slice.ensures.items ∙ ap (λ n. kept ++ take n piece) count ∙ keeps_first room kept piece c.self.invariant.0))
+    (rw whole at c.extend_from_slice.ensures.items ∙ ap (λ n. kept ++ take n piece) count ∙ keeps_first room kept piece c.self.invariant.0))
