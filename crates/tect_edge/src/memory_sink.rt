@@ -59,7 +59,8 @@ impl Sink for BytesSink {
 
     ghost faults = { λ s. s.faults };
 
-    /// Takes the whole piece. Fails where the call's number is listed, and else only for want of memory.
+    /// Takes the whole piece. Fails where the call's number is listed, and else only for want of memory, which a
+    /// nonempty piece alone can meet.
     fn put(&mut self, piece: &[u8]) -> Result<usize, Failed>
         ensures bound { WritesAtMost result piece.now }
         ensures some { 0 < length piece.now → IfOk result (λ n. 0 < n) }
@@ -67,6 +68,7 @@ impl Sink for BytesSink {
         ensures cause { HasCause self.old.faults self.new.faults result }
 
         ensures fails { PutFails self.old → IsErr result }
+        ensures wanting { IsErr result → ¬ PutFails self.old → 0 < length piece.now }
         ensures count { IfOk result (λ n. n ≡ length piece.now) }
         ensures after { OnOk result (self.new ≡ after_put self.old piece.now) }
         ensures failed { OnErr result (self.new ≡ after_failed_put self.old) }
