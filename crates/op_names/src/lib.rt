@@ -1,0 +1,7 @@
+//! The programs of the commands on names: which requests a command makes, one at a time, and how it goes on at each
+//! reply.
+#![tactic(auto)]
+
+mod program;
+
+pub use program::{Phase, Program};
