@@ -6,10 +6,10 @@ use Rattle.tect_ids.proofs.holds.HoldList.release.Goals as goal
 
 pub returns-clause-was : goal.returns-clause-was
 returns-clause-was c =
-    let get = map_get hold_cmp hold_cmp_total hold_antisymmetric c.self.inside.rows c.args.hold c.take.ensures.sorted in
+    let get = map_get hold_cmp c.self.inside.rows c.args.hold c.take.ensures.rising in
     grind arith
 
 pub returns-clause-gone : goal.returns-clause-gone
 returns-clause-gone c =
-    let gone = map_take hold_cmp hold_cmp_total hold_antisymmetric c.self.inside.rows c.args.hold c.take.ensures.sorted in
+    let gone = map_take hold_cmp hold_cmp_total hold_antisymmetric c.self.inside.rows c.args.hold c.take.ensures.rising in
     rw (c.take.ensures.others, gone, c.self.view_is)

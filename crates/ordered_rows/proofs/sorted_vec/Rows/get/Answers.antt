@@ -1,7 +1,7 @@
 use Rattle.std.proofs.Common.{sym, arith}
 use Rattle.std.proofs.lemmas.List.{get_or_default}
 use Rattle.ordered_rows.proofs.Finds.{find_at, find_gap}
-use Rattle.ordered_rows.proofs.Rows.get.Goals as goal
+use Rattle.ordered_rows.proofs.sorted_vec.Rows.get.Goals as goal
 
 pub returns-in-Ok-clause-value : goal.returns-in-Ok-clause-value
 returns-in-Ok-clause-value g c =
@@ -9,4 +9,4 @@ returns-in-Ok-clause-value g c =
     grind (arith, c.self.view_is)
 
 pub returns-in-Err-clause-value : goal.returns-in-Err-clause-value
-returns-in-Err-clause-value g c = sym (find_gap g.K.Ord.cmp c.args.key.now g.met.K.Ord.total c.args.self.now _ c.in-Err.ensures.sorted c.in-Err.ensures.absent)
+returns-in-Err-clause-value g c = sym (find_gap g.K.Ord.cmp c.args.key.now g.met.K.Ord.total c.args.self.now _ c.in-Err.ensures.rising c.in-Err.ensures.absent)

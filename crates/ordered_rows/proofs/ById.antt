@@ -1,0 +1,46 @@
+-- maps from numbers
+use Rattle.std.proofs.Common.{◌≡◌, ◌≢◌, ℕ, List, [], Bool, true, false, eqb, if◌then◌else◌, ◌⊎◌, Some, None, Option, length, refl, sym, ap, ◌∙◌, arith}
+use Rattle.std.specs.Ordering.{nat_cmp, eq_by_cmp}
+use Rattle.std.specs.Cmp.{nat_cmp_total}
+use Rattle.std.specs.FinMap.{FinMap, empty, get, len, find, put, from_sorted, get-empty, nat_cmp-IsAntisymmetric}
+use Rattle.ordered_rows.specs.Pairs.{IsRising, without, pairs_after}
+use Rattle.ordered_rows.specs.Maps.{set_at, entries_after}
+use Rattle.ordered_rows.proofs.Maps.{get-set_at-by}
+use Rattle.ordered_rows.proofs.Made.{map_new, map_get, map_put, map_take, map_len, map_after}
+
+pub num_eq_cases : (a b : ℕ) → ((eqb a b ≡ true) × (a ≡ b)) ⊎ ((eqb a b ≡ false) × (a ≢ b))
+num_eq_cases a b = grind arith
+
+num_cmp_cases : (a b : ℕ) → ((eq_by_cmp nat_cmp a b ≡ true) × (a ≡ b)) ⊎ ((eq_by_cmp nat_cmp a b ≡ false) × (a ≢ b))
+num_cmp_cases a b = grind arith
+
+num_ties : (a b : ℕ) → eq_by_cmp nat_cmp a b ≡ eqb a b
+num_ties a b = grind (arith, num_cmp_cases, num_eq_cases)
+
+pub get-id_at : {X : Type 0} (m : FinMap nat_cmp X) (k : ℕ) (w : Option X) (q : ℕ) → get (set_at m k w) q ≡ (if eqb q k then w else get m q)
+get-id_at m k w q = get-set_at-by nat_cmp_total eqb num_ties m k w q
+
+-- what `get` answers after a put, with the cases of the test
+pub ruleset id_maps = (num_eq_cases, get-id_at, get-empty)
+
+-- rows by number as maps
+pub id_rows_new : {X : Type 0} → ◌≡◌ {A = FinMap nat_cmp X} (from_sorted []) empty
+id_rows_new = map_new nat_cmp nat_cmp_total nat_cmp-IsAntisymmetric
+
+module _ {X : Type 0} (rows : List (ℕ × X)) where
+  pub id_rows_len : IsRising nat_cmp rows → len (from_sorted {R = nat_cmp} rows) ≡ length rows
+  id_rows_len rising = map_len nat_cmp rows rising
+
+  pub id_rows_get : (k : ℕ) → IsRising nat_cmp rows → get (from_sorted {R = nat_cmp} rows) k ≡ find nat_cmp k rows
+  id_rows_get k rising = map_get nat_cmp rows k rising
+
+  pub id_rows_put : (k : ℕ) (v : X) → IsRising nat_cmp rows → from_sorted {R = nat_cmp} (put nat_cmp k v rows) ≡ set_at (from_sorted rows) k (Some v)
+  id_rows_put k v rising = map_put nat_cmp nat_cmp_total nat_cmp-IsAntisymmetric rows k v rising
+
+  pub id_rows_take : (k : ℕ) → IsRising nat_cmp rows → from_sorted {R = nat_cmp} (without nat_cmp k rows) ≡ set_at (from_sorted rows) k None
+  id_rows_take k rising = map_take nat_cmp nat_cmp_total nat_cmp-IsAntisymmetric rows k rising
+
+  pub id_rows_after : (k : Option ℕ) → IsRising nat_cmp rows → entries_after (from_sorted {R = nat_cmp} rows) k ≡ pairs_after nat_cmp k rows
+  id_rows_after k rising = map_after nat_cmp rows k rising
+
+pub ruleset id_rows = (id_rows_new, id_rows_len, id_rows_get, id_rows_put, id_rows_take, id_rows_after)
