@@ -12,7 +12,7 @@ use Rattle.tect_ids.specs.declared.key.Key.{Key}
 use Rattle.tect_ids.specs.Keys.{dir_eq, file_eq, key_eq, hold_eq, node_eq, dir_cmp, file_cmp, key_cmp, hold_cmp, node_cmp}
 use Rattle.tect_ids.proofs.KeyTests.{keys, dir_cmp_total, file_cmp_total, key_cmp_total, hold_cmp_total, node_cmp_total, dir_ties, file_ties, key_ties, hold_ties, node_ties, dir_antisymmetric, file_antisymmetric, key_antisymmetric, hold_antisymmetric}
 use Rattle.ordered_rows.specs.Maps.{set_at}
-use Rattle.ordered_rows.proofs.Lookups.{get-set_at}
+use Rattle.ordered_rows.proofs.Maps.{get-set_at}
 use Rattle.key_maps.specs.Maps.{within}
 
 pub get-dir_at : {X : Type 0} (m : FinMap dir_cmp X) (k : DirId) (w : Option X) (q : DirId) → get (set_at m k w) q ≡ (if dir_eq q k then w else get m q)

@@ -2,7 +2,6 @@
 use Rattle.std.specs.Prelude.{◌≡◌, ℕ, List, ◌⊎◌, refl}
 use Rattle.std.proofs.Common.{inl, inr}
 use Rattle.std.specs.Coded.{Coded, code_by, coded×, coded⊎, coded_ℕ, coded_list}
-use Rattle.tect_ids.specs.declared.ids.FileId.{FileId}
 use Rattle.tect_ids.specs.declared.ids.Hold.{Hold}
 use Rattle.tect_ids.specs.declared.key.Key.{Key}
 use Rattle.tect_ids.specs.declared.key.Upper.{Upper}

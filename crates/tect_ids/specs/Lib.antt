@@ -3,3 +3,4 @@ pub mod NameFault
 pub mod Keys
 pub mod Codes
 pub mod Places
+pub mod Cancels

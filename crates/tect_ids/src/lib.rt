@@ -2,6 +2,7 @@
 #![tactic(auto)]
 
 mod answer;
+mod cancels;
 mod command;
 mod dump;
 mod holds;
@@ -14,6 +15,7 @@ mod script;
 mod values;
 
 pub use answer::Answer;
+pub use cancels::Cancels;
 pub use command::Command;
 pub use dump::{DirState, DumpLine, FileState};
 pub use holds::HoldList;

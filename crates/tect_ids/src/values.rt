@@ -54,7 +54,7 @@ impl Items<Listed> {
 }
 
 /// The entries of a directory, in the order of their names.
-#[derive(Debug, Drop)]
+#[derive(Drop)]
 pub struct Listing {
     pub sealed: bool,
     pub items: Items<Listed>,
@@ -68,7 +68,7 @@ pub struct RowPart {
 }
 
 /// The blocks of a file, in order.
-#[derive(Debug, Drop)]
+#[derive(Drop)]
 pub struct BlockList {
     pub sealed: bool,
     pub rows: Items<RowPart>,
@@ -90,7 +90,7 @@ pub struct Row {
 }
 
 /// Where a block lies.
-#[derive(Debug, Drop)]
+#[derive(Drop)]
 pub struct Location {
     pub class: Class,
     pub len: u32,
