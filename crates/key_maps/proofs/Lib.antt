@@ -1,1 +1,3 @@
+pub mod Front
 pub mod Lookups
+pub mod MapRows

@@ -1,2 +1,14 @@
-//! Finite maps at the keys of the store: directories, files, entries and holds.
+//! Finite maps at the keys of the store: directories, files, nodes and entries.
 #![tactic(auto)]
+
+mod by_dir;
+mod by_file;
+mod by_key;
+mod by_node;
+mod within;
+
+pub use by_dir::DirMap;
+pub use by_file::FileMap;
+pub use by_key::KeyMap;
+pub use by_node::NodeMap;
+pub use within::DirCursor;

@@ -2,6 +2,10 @@
 //! reply.
 #![tactic(auto)]
 
+mod ask;
+mod hear;
+mod paths;
 mod program;
+mod refusals;
 
 pub use program::{Phase, Program};
