@@ -3,3 +3,4 @@ pub mod Names
 pub mod Files
 pub mod Store
 pub mod Views
+pub mod Places

@@ -1,5 +1,6 @@
 -- A reply seen as the one that matters to a request. What else it may be is not looked at.
 use Rattle.std.specs.Prelude.{Bool, true, false, Option, Some, None, List}
+use Rattle.tect_ids.specs.declared.ids.DirId.{DirId}
 use Rattle.tect_ids.specs.declared.ids.Hold.{Hold}
 use Rattle.tect_ids.specs.declared.ids.Node.{Node}
 use Rattle.tect_ids.specs.declared.values.Listed.{Listed}
@@ -10,6 +11,10 @@ use Rattle.store_rules.specs.declared.files.FileReply.{FileReply}
 use Rattle.store_rules.specs.declared.files.FileReply.TheVariants as files
 use Rattle.store_rules.specs.declared.any.AnyReply.{AnyReply}
 use Rattle.store_rules.specs.declared.any.AnyReply.TheVariants.{Name, File}
+
+abbrev pub as_parent : AnyReply → Option (DirId × Bool)
+as_parent (Name (names.DirIs p sealed)) = Some (p, sealed)
+as_parent _ = None
 
 abbrev pub as_found : AnyReply → Option Node
 as_found (Name (names.Found n)) = Some n

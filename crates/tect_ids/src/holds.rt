@@ -1,4 +1,4 @@
-ghost use Rattle.std.specs.Prelude.{◌≡◌, OnOk, OnErr, Some, None, is_some};
+ghost use Rattle.std.specs.Prelude.{◌≡◌, OnOk, OnErr, Some, None, IsSome, IsOk, is_some};
 ghost use Rattle.std.specs.FinMap.{empty, get};
 ghost use Rattle.ordered_rows.specs.Maps.{set_at};
 
@@ -27,6 +27,7 @@ impl Model for HoldList {
     ghost view = { λ list. map.from_sorted list.rows };
 }
 
+#[tactic(auto, using(crate::proofs::HoldRows::hold_rows))]
 impl HoldList {
     /// The empty list. It takes no memory.
     pub fn new(alloc: Global) -> HoldList
@@ -44,10 +45,11 @@ impl HoldList {
         self.rows.get(&hold).is_some()
     }
 
-    /// Lists the hold with that key, which replaces its key where the hold is there.
+    /// Lists the hold with that key, which replaces its key where the hold is there; that takes no memory.
     pub fn grant(&mut self, hold: Hold, key: Upper) -> Result<(), NoMemory>
         ensures ok { OnOk result (self.new ≡ set_at self.old hold (Some key)) }
         ensures err { OnErr result (self.new ≡ self.old) }
+        ensures listed_succeeds { IsSome (get self.old hold) → IsOk result }
     {
         match self.rows.put(hold, key) {
             Ok(_) => Ok(()),

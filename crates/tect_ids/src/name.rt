@@ -90,6 +90,19 @@ impl Name {
     }
 }
 
+impl Items<Name> {
+    /// The same path once more.
+    pub fn copy(&self, alloc: Global) -> Result<Path, NoMemory>
+        ensures { IfOk result (λ path. path ≡ self.now) }
+    {
+        let mut names = Vec::new(alloc);
+        for name in self.as_slice() {
+            names.push(name.copy(alloc)?)?;
+        }
+        Ok(Items::from_vec(names))
+    }
+}
+
 impl PartialEq for Name {
     ghost eq = { eq_by_cmp (slice_cmp nat_cmp) };
 

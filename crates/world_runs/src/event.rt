@@ -1,0 +1,27 @@
+use store_rules::{AnyReply, AnyReq};
+use tect_ids::{Answer, Command, OpId};
+
+/// Something that happened in a run.
+#[derive(Debug, Drop)]
+pub enum Event {
+    /// The op's actor began the command.
+    Began {
+        op: OpId,
+        command: Command,
+    },
+    /// The op's request was done at its shard: one transaction.
+    Acted {
+        op: OpId,
+        req: AnyReq,
+        reply: AnyReply,
+    },
+    /// The op's command came to its answer.
+    Ended {
+        op: OpId,
+        answer: Answer,
+    },
+    /// The op's actor stopped for good, with its command unfinished.
+    Stopped {
+        op: OpId,
+    },
+}
