@@ -1,4 +1,5 @@
 ghost use Rattle.std.specs.Prelude.{◌≡◌, IfOk, OnOk, OnErr};
+ghost use Rattle.std.specs.Option.{option_copied};
 ghost use Rattle.op_names.specs.Paths.{but_last};
 ghost use Rattle.op_names.specs.Programs.{first_phase, from_root};
 
@@ -71,6 +72,16 @@ impl Program {
         ensures { IfOk result (λ req. req ≡ phase_ask self.now.op number self.now.command self.now.phase) }
     {
         ask_of(alloc, self.op, number, &self.command, &self.phase)
+    }
+
+    /// The answer that the command has come to, if it has.
+    pub fn answer(&self) -> Option<&Answer>
+        ensures { option_copied result ≡ phase_answer self.now.phase }
+    {
+        match &self.phase {
+            Phase::End { answer } => Some(answer),
+            _ => None,
+        }
     }
 
     /// Goes on at the reply to that request, which was made at that place. For want of memory the program stays as it
