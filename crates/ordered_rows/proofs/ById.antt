@@ -2,11 +2,11 @@
 use Rattle.std.proofs.Common.{◌≡◌, ◌≢◌, ℕ, List, [], Bool, true, false, eqb, if◌then◌else◌, ◌⊎◌, Some, None, Option, length, refl, sym, ap, ◌∙◌, arith}
 use Rattle.std.specs.Ordering.{nat_cmp, eq_by_cmp}
 use Rattle.std.specs.Cmp.{nat_cmp_total}
-use Rattle.std.specs.FinMap.{FinMap, empty, get, len, find, put, from_sorted, get-empty, nat_cmp-IsAntisymmetric}
+use Rattle.std.specs.FinMap.{FinMap, empty, get, len, entries, find, put, from_sorted, get-empty, nat_cmp-IsAntisymmetric}
 use Rattle.ordered_rows.specs.Pairs.{IsRising, without, pairs_after}
 use Rattle.ordered_rows.specs.Maps.{set_at, entries_after}
 use Rattle.ordered_rows.proofs.Maps.{get-set_at-by}
-use Rattle.ordered_rows.proofs.Made.{map_new, map_get, map_put, map_take, map_len, map_after}
+use Rattle.ordered_rows.proofs.Made.{map_new, map_get, map_put, map_take, map_len, map_after, map_entries}
 
 pub num_eq_cases : (a b : ℕ) → ((eqb a b ≡ true) × (a ≡ b)) ⊎ ((eqb a b ≡ false) × (a ≢ b))
 num_eq_cases a b = grind arith
@@ -43,4 +43,7 @@ module _ {X : Type 0} (rows : List (ℕ × X)) where
   pub id_rows_after : (k : Option ℕ) → IsRising nat_cmp rows → entries_after (from_sorted {R = nat_cmp} rows) k ≡ pairs_after nat_cmp k rows
   id_rows_after k rising = map_after nat_cmp rows k rising
 
-pub ruleset id_rows = (id_rows_new, id_rows_len, id_rows_get, id_rows_put, id_rows_take, id_rows_after)
+  pub id_rows_entries : IsRising nat_cmp rows → entries (from_sorted {R = nat_cmp} rows) ≡ rows
+  id_rows_entries rising = map_entries nat_cmp rows rising
+
+pub ruleset id_rows = (id_rows_new, id_rows_len, id_rows_get, id_rows_put, id_rows_take, id_rows_after, id_rows_entries)

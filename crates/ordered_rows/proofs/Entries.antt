@@ -1,12 +1,12 @@
 -- the entries of a map against its look-ups, and scans of them
 use Rattle.std.proofs.Common.{◌≡◌, ℕ, suc, ◌+◌, List, [], ◌∷◌, Bool, true, false, not, cond, if◌then◌else◌, ◌&&◌, Some, None, Option, T, refl, sym, ap, ◌∙◌, arith}
 use Rattle.std.specs.Prelude.{All, Contains, take_while}
-use Rattle.std.specs.List.{filter}
+use Rattle.std.specs.List.{filter, list_any}
 use Rattle.std.specs.declared.cmp.Ordering.{Ordering}
 use Rattle.std.specs.declared.cmp.Ordering.TheVariants.{Less, Equal, Greater}
 use Rattle.std.specs.Ordering.{eq_by_cmp, is_lt}
 use Rattle.std.specs.Cmp.{IsTotalOrder, tied_itself}
-use Rattle.std.specs.FinMap.{FinMap, IsAntisymmetric, get, entries, entries_sorted, retain_keys, find, get-entries, get-retain_keys, same_map}
+use Rattle.std.specs.FinMap.{FinMap, IsAntisymmetric, get, len, empty_of_len, get-empty, entries, entries_sorted, retain_keys, find, get-entries, get-retain_keys, same_map}
 use Rattle.std.specs.FinMap.Entries.{below_all, same_entries, is_sorted-where_key, find-where_key}
 use Rattle.std.proofs.lemmas.List.Elements.{All-nil, All-cons, All-weaker, All-contains, All-filter}
 use Rattle.ordered_rows.specs.Pairs.{IsRising, IsDownwardClosed, is_after, pairs_past, pairs_after}
@@ -84,15 +84,15 @@ module _ {K X : Type 0} (R : K → K → Ordering) where
   none_pass e [] q w below closed fails within = refl
   none_pass e (x ∷ rows) q w below closed fails within = grind (arith, closed e.0 x.0, within x.0, none_pass e rows q w)
 
-  front_cons : (p : K × X → Bool) (e : K × X) (rows : List (K × X)) → take_while p (e ∷ rows) ≡ cond (p e) (e ∷ take_while p rows) []
-  front_cons p e rows = grind arith
+  pub take_while-cons : (p : K × X → Bool) (e : K × X) (rows : List (K × X)) → take_while p (e ∷ rows) ≡ cond (p e) (e ∷ take_while p rows) []
+  take_while-cons p e rows = grind arith
 
   -- to go on while the keys pass gives each pair that passes
   pub take_while-closed : (rows : List (K × X)) (q : K → Bool) → IsRising R rows → IsDownwardClosed R q → take_while (λ e. q e.0) rows ≡ filter (λ e. q e.0) rows
   take_while-closed [] q rising closed = refl
   take_while-closed (e ∷ rows) q rising closed =
       let first : T (below_all R e.0 rows) × IsRising R rows = grind arith in
-      front_cons (λ x. q x.0) e rows ∙ grind (arith, take_while-closed rows q first.1 closed, none_pass e rows q q first.0 closed)
+      take_while-cons (λ x. q x.0) e rows ∙ grind (arith, take_while-closed rows q first.1 closed, none_pass e rows q q first.0 closed)
 
   -- the same past the keys that pass p, where a key passes w just where it fails p and passes q
   pub take_while-past : (rows : List (K × X)) (p q w : K → Bool) → IsRising R rows → IsDownwardClosed R q → ((x : K) → w x ≡ (not (p x) && q x))
@@ -103,4 +103,32 @@ module _ {K X : Type 0} (R : K → K → Ordering) where
       let within : (x : K) → w x ≡ true → q x ≡ true = λ x passes. grind (arith, is x) in
       let none = none_pass e rows q w first.0 closed in
       let later = take_while-past rows p q w first.1 closed is in
-      grind (arith, is e.0, none, later, within, front_cons (λ x. w x.0) e (pairs_past p rows))
+      grind (arith, is e.0, none, later, within, take_while-cons (λ x. w x.0) e (pairs_past p rows))
+
+module _ {K X : Type 0} (R : K → K → Ordering) (same : IsAntisymmetric R) where
+  none_found : (rows : List (K × X)) (p : K × X → Bool) (k : K) (v : X) → list_any p rows ≡ false → find R k rows ≡ Some v → p (k, v) ≡ false
+  none_found [] p k v none found = absurd (grind arith)
+  none_found (e ∷ rows) p k v none found = grind (arith, same k e.0, none_found rows p k v)
+
+  -- where no entry passes, what `get` finds does not
+  pub none_passes : (m : FinMap R X) (p : K × X → Bool) (k : K) (v : X) → list_any p (entries m) ≡ false → get m k ≡ Some v → p (k, v) ≡ false
+  none_passes m p k v none found = none_found (entries m) p k v none (sym (get-entries m k) ∙ found)
+
+module _ {K X : Type 0} (R : K → K → Ordering) (o : IsTotalOrder R) where
+  some_passes_of : (rows : List (K × X)) (p : K × X → Bool) → list_any p rows ≡ true → (e : K × X) × Contains rows e × (p e ≡ true)
+  some_passes_of [] p some = absurd (grind arith)
+  some_passes_of (e ∷ rows) p some = by_test (p e) refl (some_passes_of rows p)
+    where
+      by_test : (b : Bool) → p e ≡ b → (list_any p rows ≡ true → (x : K × X) × Contains rows x × (p x ≡ true)) → (x : K × X) × Contains (e ∷ rows) x × (p x ≡ true)
+      by_test true passes rest = (e, (0, omega arith, refl), passes)
+      by_test false fails rest =
+          let later = rest (grind (arith, fails)) in
+          (later.0, (suc later.1.0, omega (arith, later.1.1), later.1.2), later.2)
+
+  -- where some entry passes, `get` finds it
+  pub some_passes : (m : FinMap R X) (p : K × X → Bool) → list_any p (entries m) ≡ true → (e : K × X) × (get m e.0 ≡ Some e.1) × (p e ≡ true)
+  some_passes m p some = let found = some_passes_of (entries m) p some in (found.0, get_listed R o m found.0 found.1, found.2)
+
+-- nothing is in a map without entries
+pub get-len_zero : {K X : Type 0} {R : K → K → Ordering} (m : FinMap R X) (k : K) → len m ≡ 0 → get m k ≡ None
+get-len_zero {R = R} m k none = ap (λ n. get n k) (empty_of_len m none) ∙ get-empty R k
