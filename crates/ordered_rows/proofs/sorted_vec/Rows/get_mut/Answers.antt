@@ -1,5 +1,5 @@
-use Rattle.std.proofs.Common.{rules, ◌≡◌, List, sym, ap, ◌∙◌, subst, arith, T, inl, inr, slice_set}
-use Rattle.std.specs.FinMap.{is_sorted, put, find}
+use Rattle.std.proofs.Common.{rules, ◌≡◌, List, sym, ap, ◌∙◌, arith, inr, slice_set}
+use Rattle.std.specs.FinMap.{put, find}
 use Rattle.std.specs.FinMap.Entries.{is_sorted-put}
 use Rattle.ordered_rows.proofs.Finds.{find_at, find_gap, put_at}
 use Rattle.ordered_rows.proofs.sorted_vec.Rows.get_mut.Goals as goal
