@@ -1,12 +1,10 @@
 -- each event keeps what is so at every moment
-use Rattle.std.proofs.Common.{◌≡◌, ◌≢◌, ℕ, ◌+◌, ◌*◌, ◌<◌, ◌≤◌, ◌^◌, List, [], ◌∷◌, Bool, true, false, ◌&&◌, eqb, is_some, Option, Some, None, refl, arith, sym, subst, if◌then◌else◌}
+use Rattle.std.proofs.Common.{◌≡◌, ℕ, ◌+◌, ◌<◌, ◌≤◌, ◌^◌, [], ◌∷◌, Bool, true, false, eqb, Option, Some, None, refl, arith, sym, subst, if◌then◌else◌}
 use Rattle.tect_ids.specs.declared.ids.Counts.{Counts}
 use Rattle.tect_ids.specs.declared.ids.Node.TheVariants.{Dir, File}
 use Rattle.tect_ids.specs.declared.ids.OpId.{OpId}
-use Rattle.tect_ids.specs.declared.ids.Place.{Place}
 use Rattle.tect_ids.specs.declared.command.Command.{Command}
 use Rattle.tect_ids.specs.declared.command.Command.TheVariants as commands
-use Rattle.tect_ids.specs.declared.answer.Answer.{Answer}
 use Rattle.tect_ids.specs.Keys.{op_eq}
 use Rattle.tect_ids.proofs.KeyTests.{keys}
 use Rattle.key_maps.proofs.Lookups.{maps}
@@ -15,19 +13,18 @@ use Rattle.store_rules.specs.declared.any.AnyReply.{AnyReply}
 use Rattle.store_rules.specs.Places.{request_place}
 use Rattle.store_rules.specs.Store.{store_reply}
 use Rattle.op_names.specs.declared.program.Program.{Program}
-use Rattle.op_names.specs.Programs.{root, object_number, own_hold, phase_ask, phase_hear, first_phase, from_root, started}
+use Rattle.op_names.specs.Programs.{root, object_number, own_hold, phase_ask, phase_hear, first_phase}
 use Rattle.world_runs.specs.declared.event.Event.{Event}
 use Rattle.world_runs.specs.declared.event.Event.TheVariants.{Began, Acted, Ended, Stopped}
 use Rattle.world_runs.specs.Served.{IsServed}
 use Rattle.world_runs.specs.Moments.{Actor, Moment, CanBegin, May, after, begun, went_on, next_serial, running, asked, program_of, program_ask, opening, with_actor}
 use Rattle.store_world.specs.Worlds.{World, Ghost, next, ghost_next, opening_ghost}
-use Rattle.store_world.specs.Sound.{Sound, was_made}
 use Rattle.store_world.specs.Later.{actor_of, Later, Within, by_actor}
 use Rattle.store_world.specs.Requests.{Needs, Kept, touched_by}
 use Rattle.store_world.proofs.Frames.{weaken}
 use Rattle.store_world.proofs.Rows.{row_kept, opening_sound}
 use Rattle.sound_runs.specs.Pasts.{ghost_after, world_of}
-use Rattle.sound_runs.specs.Known.{PhaseKnows, Knows, RunningKnows, IsFresh, ActorSound, AllSound, is_whole}
+use Rattle.sound_runs.specs.Known.{PhaseKnows, Knows, RunningKnows, IsFresh, ActorSound, AllSound}
 use Rattle.sound_runs.proofs.PhasesAsk.{IsFree, phase_needs, phase_own, phase_later, MakesNoLater}
 use Rattle.sound_runs.proofs.PhasesKeep.{phase_stays, phase_goes_on}
 
@@ -226,8 +223,7 @@ pub record Asks (m : Moment) (op : OpId) (q : AnyReq) (p : Program) : Type 0 whe
 asks_as : (m : Moment) (op : OpId) (q : AnyReq) (o : Option Program) → running m op ≡ o → program_ask (m.actors op.actor).serial o ≡ Some q → (p : Program) × Asks m op q p
 asks_as m op q None e asks = absurd (grind (arith, asks))
 asks_as m op q (Some p) e asks =
-    let r : RunsAs (m.actors op.actor).running op p = runs_as (m.actors op.actor).running op p e in
-    (
+    let r : RunsAs (m.actors op.actor).running op p = runs_as (m.actors op.actor).running op p e in (
       p,
       record {
         same = r.same;

@@ -1,5 +1,5 @@
 -- what a running command asks: it needs no more than is known, and touches its own alone
-use Rattle.std.proofs.Common.{◌≡◌, ◌≢◌, ℕ, ◌+◌, ◌<◌, ◌≤◌, ◌^◌, List, [], ◌∷◌, Bool, true, false, ◌&&◌, eqb, Option, Some, None, refl, arith, if◌then◌else◌}
+use Rattle.std.proofs.Common.{◌≡◌, ◌≢◌, ℕ, ◌+◌, ◌<◌, ◌≤◌, ◌^◌, List, [], ◌∷◌, true, false, Option, Some, None, refl, arith}
 use Rattle.tect_ids.specs.declared.ids.DirId.{DirId}
 use Rattle.tect_ids.specs.declared.ids.Hold.{Hold}
 use Rattle.tect_ids.specs.declared.ids.Node.{Node}
@@ -10,10 +10,8 @@ use Rattle.tect_ids.specs.declared.command.Command.{Command}
 use Rattle.tect_ids.specs.declared.command.Command.TheVariants as commands
 use Rattle.tect_ids.proofs.KeyTests.{keys}
 use Rattle.store_rules.specs.declared.names.NameReq.TheVariants as names
-use Rattle.store_rules.specs.declared.files.FileReq.TheVariants as files
 use Rattle.store_rules.specs.declared.any.AnyReq.{AnyReq}
 use Rattle.store_rules.specs.declared.any.AnyReq.TheVariants as any
-use Rattle.store_rules.specs.declared.any.AnyReply.{AnyReply}
 use Rattle.store_rules.specs.Names.{key_in}
 use Rattle.store_rules.specs.Store.{store_reply}
 use Rattle.store_rules.specs.Views.{is_made}

@@ -1,5 +1,5 @@
 -- what a running command knows stays so while others act, and after its own request it knows what it needs next
-use Rattle.std.proofs.Common.{◌≡◌, ◌≢◌, ℕ, ◌+◌, ◌<◌, ◌≤◌, ◌^◌, List, [], ◌∷◌, Bool, true, false, ◌&&◌, eqb, is_some, Option, Some, None, refl, arith, if◌then◌else◌}
+use Rattle.std.proofs.Common.{◌≡◌, ◌≢◌, ℕ, ◌<◌, ◌≤◌, ◌^◌, List, [], ◌∷◌, Bool, true, false, eqb, is_some, Option, Some, None, refl, arith, if◌then◌else◌}
 use Rattle.tect_ids.specs.declared.ids.DirId.{DirId}
 use Rattle.tect_ids.specs.declared.ids.FileId.{FileId}
 use Rattle.tect_ids.specs.declared.ids.Hold.{Hold}
@@ -30,10 +30,10 @@ use Rattle.store_rules.specs.Views.{as_found, as_parent, as_listing, is_made, is
 use Rattle.op_names.specs.declared.program.Phase.{Phase}
 use Rattle.op_names.specs.declared.program.Phase.TheVariants.{Walk, Bind, Grant, Swap, Release, End}
 use Rattle.op_names.specs.Paths.{last_name}
-use Rattle.op_names.specs.Programs.{object_number, own_hold, new_path, at_last, grant_ask, release_ask, first_ask, first_hear, phase_ask, phase_hear, refusal, dir_refusal, walked, looked, checked, entries_heard, unbound_heard, source_heard, bound_heard, swapped_heard, then_release, hear_at}
+use Rattle.op_names.specs.Programs.{object_number, own_hold, new_path, at_last, grant_ask, release_ask, phase_ask, phase_hear, refusal, dir_refusal, walked, looked, checked, entries_heard, unbound_heard, source_heard, bound_heard, swapped_heard, then_release}
 use Rattle.world_runs.specs.Moments.{next_serial}
 use Rattle.store_world.specs.Worlds.{World}
-use Rattle.store_world.specs.Sound.{was_made, is_spent, IsGranted}
+use Rattle.store_world.specs.Sound.{was_made, IsGranted}
 use Rattle.store_world.specs.Later.{actor_of, Later, Touched, by_actor}
 use Rattle.store_world.specs.Requests.{Kept, touched_by, FoundTaught, OldSpent, BoundTaught, SwappedTaught, UnboundTaught}
 use Rattle.sound_runs.specs.Known.{PhaseKnows, is_whole, has_name, is_odd, new_key}

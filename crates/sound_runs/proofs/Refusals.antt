@@ -1,5 +1,5 @@
 -- no refusal is odd: a reply is one that its request may get
-use Rattle.std.proofs.Common.{◌≡◌, ◌≢◌, ℕ, ◌+◌, ◌≤◌, List, Bool, true, false, is_some, Option, Some, None, refl, arith, if◌then◌else◌}
+use Rattle.std.proofs.Common.{◌≡◌, ℕ, List, Bool, true, false, is_some, None, arith}
 use Rattle.tect_ids.specs.declared.ids.DirId.{DirId}
 use Rattle.tect_ids.specs.declared.ids.FileId.{FileId}
 use Rattle.tect_ids.specs.declared.ids.Hold.{Hold}

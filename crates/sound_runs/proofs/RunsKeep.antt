@@ -1,31 +1,27 @@
 -- the laws of every run
-use Rattle.std.proofs.Common.{◌≡◌, ◌≢◌, ℕ, zero, suc, ◌+◌, ◌<◌, ◌≤◌, ◌^◌, List, [], ◌∷◌, Bool, true, false, ◌||◌, is_some, take, Option, Some, None, refl, arith, sym, subst, ◌∙◌}
-use Rattle.std.specs.FinMap.{get}
+use Rattle.std.proofs.Common.{◌≡◌, ℕ, zero, suc, List, [], ◌∷◌, Bool, true, false, ◌||◌, is_some, take, Option, Some, None, refl, arith, subst}
 use Rattle.tect_ids.specs.declared.ids.Counts.{Counts}
 use Rattle.tect_ids.specs.declared.ids.DirId.{DirId}
 use Rattle.tect_ids.specs.declared.ids.OpId.{OpId}
-use Rattle.tect_ids.specs.declared.ids.Place.{Place}
-use Rattle.tect_ids.specs.declared.key.Key.{Key}
 use Rattle.tect_ids.specs.declared.command.Command.{Command}
 use Rattle.tect_ids.specs.declared.command.Command.TheVariants as commands
 use Rattle.tect_ids.specs.declared.answer.Answer.{Answer}
 use Rattle.tect_ids.specs.declared.answer.Answer.TheVariants as answers
-use Rattle.store_rules.specs.declared.names.Entry.{Entry}
 use Rattle.store_rules.specs.declared.any.AnyReq.{AnyReq}
 use Rattle.op_names.specs.declared.program.Phase.{Phase}
 use Rattle.op_names.specs.declared.program.Phase.TheVariants.{Walk, Bind, Grant, Swap, Release, End}
 use Rattle.op_names.specs.declared.program.Program.{Program}
 use Rattle.op_names.specs.Programs.{object_number, new_path, at_last, first_ask, phase_ask, phase_answer}
 use Rattle.world_runs.specs.declared.event.Event.{Event}
-use Rattle.world_runs.specs.Moments.{Moment, Actor, RunFrom, IsWorldRun, moment, after, after_all, opening, AtEachMoment, running, asked, answered, program_ask, program_answer}
-use Rattle.world_runs.specs.Sound.{IsSound, IsSoundStore, lists}
-use Rattle.store_world.specs.Worlds.{World, Ghost, Given, Set, opening_ghost}
+use Rattle.world_runs.specs.Moments.{Moment, RunFrom, IsWorldRun, moment, after, after_all, opening, running, asked, answered, program_answer}
+use Rattle.world_runs.specs.Sound.{IsSound, IsSoundStore}
+use Rattle.store_world.specs.Worlds.{World, Ghost, opening_ghost}
 use Rattle.store_world.specs.Sound.{Sound}
 use Rattle.store_world.specs.Later.{Within, by_actor}
 use Rattle.store_world.specs.Requests.{Needs, touched_by}
 use Rattle.sound_runs.specs.Pasts.{ghost_after, ghosts_after, ghosts, world_of, world}
-use Rattle.sound_runs.specs.Known.{PhaseKnows, Knows, RunningKnows, AllSound, is_odd, is_whole, has_name}
-use Rattle.sound_runs.specs.Laws.{EveryMomentIsSound, NoRunAnswersOdd, RunningGoesOn, HasSmallNumbers, NumbersStaySmall, IsLastBegun, RunningIsLastBegun}
+use Rattle.sound_runs.specs.Known.{PhaseKnows, Knows, AllSound, is_odd, is_whole, has_name}
+use Rattle.sound_runs.specs.Laws.{EveryMomentIsSound, NoRunAnswersOdd, RunningGoesOn, NumbersStaySmall, RunningIsLastBegun}
 use Rattle.sound_runs.proofs.MomentsKeep.{event_sound, opening_all_sound, RunsAs, runs_as, Asks, asks_by, asks_what_it_needs, touches_its_own}
 
 -- a sound world's store is sound

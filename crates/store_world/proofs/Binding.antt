@@ -1,25 +1,22 @@
 -- requests that name a node, or take its name away
-use Rattle.std.proofs.Common.{◌≡◌, ◌≢◌, ℕ, List, Bool, true, false, is_some, Option, Some, None, refl, arith, if◌then◌else◌}
+use Rattle.std.proofs.Common.{◌≡◌, ℕ, List, true, false, Option, Some, None, arith}
 use Rattle.std.specs.FinMap.{get}
 use Rattle.tect_ids.specs.declared.ids.DirId.{DirId}
 use Rattle.tect_ids.specs.declared.ids.Hold.{Hold}
 use Rattle.tect_ids.specs.declared.ids.Node.{Node}
-use Rattle.tect_ids.specs.declared.ids.Node.TheVariants.{Dir, File}
+use Rattle.tect_ids.specs.declared.ids.Node.TheVariants.{Dir}
 use Rattle.tect_ids.specs.declared.key.Key.{Key}
-use Rattle.tect_ids.specs.declared.key.Upper.TheVariants as uppers
 use Rattle.tect_ids.specs.declared.values.Over.{Over}
 use Rattle.tect_ids.specs.declared.values.Want.{Want}
-use Rattle.tect_ids.specs.Keys.{hold_eq, key_eq, node_eq}
 use Rattle.key_maps.proofs.Lookups.{maps}
 use Rattle.store_rules.specs.declared.names.Entry.{Entry}
 use Rattle.store_rules.specs.declared.names.Replaced.{Replaced}
 use Rattle.store_rules.specs.declared.names.NameReq.TheVariants as names
-use Rattle.store_rules.specs.declared.any.AnyReq.{AnyReq}
 use Rattle.store_rules.specs.declared.any.AnyReq.TheVariants as any
 use Rattle.store_rules.specs.Names.{key_in, replaced}
 use Rattle.store_rules.specs.Store.{store_changes, store_reply}
-use Rattle.store_rules.specs.Views.{as_bound, as_unbound, as_swapped}
-use Rattle.store_world.specs.Worlds.{World, Given, Live, Set, Past, done, ghost_given_up}
+use Rattle.store_rules.specs.Views.{as_unbound, as_swapped}
+use Rattle.store_world.specs.Worlds.{World, Live, done, ghost_given_up}
 use Rattle.store_world.specs.Sound.{Sound, was_made, dead_in, IsGranted, is_spent}
 use Rattle.store_world.specs.Later.{Later, Touched}
 use Rattle.store_world.specs.Requests.{Needs, Kept}

@@ -1,12 +1,11 @@
 -- what a request that changes nothing keeps, and a request that is refused or done
-use Rattle.std.proofs.Common.{◌≡◌, ℕ, Bool, true, false, if◌then◌else◌, Option, Some, None, refl, arith, eqb}
-use Rattle.tect_ids.proofs.KeyTests.{keys}
+use Rattle.std.proofs.Common.{◌≡◌, Bool, true, false, refl}
 use Rattle.store_rules.specs.declared.any.AnyReq.{AnyReq}
 use Rattle.store_rules.specs.Store.{store_changes, store_reply}
 use Rattle.store_world.specs.Worlds.{World, done, refused, next}
 use Rattle.store_world.specs.Sound.{Sound}
-use Rattle.store_world.specs.Later.{Touched, Later, Within, by_actor}
-use Rattle.store_world.specs.Requests.{Taught, Kept, touched_by}
+use Rattle.store_world.specs.Later.{Touched, Later, Within}
+use Rattle.store_world.specs.Requests.{Taught, Kept}
 
 -- nothing happens
 pub later_same : (by : Touched) (w : World) → Later by w w

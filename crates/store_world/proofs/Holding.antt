@@ -1,19 +1,16 @@
 -- requests that grant and release holds
-use Rattle.std.proofs.Common.{◌≡◌, ◌≢◌, ℕ, Bool, true, false, is_some, Option, Some, None, refl, arith, if◌then◌else◌}
-use Rattle.std.specs.FinMap.{get}
+use Rattle.std.proofs.Common.{◌≡◌, true, arith}
 use Rattle.tect_ids.specs.declared.ids.DirId.{DirId}
 use Rattle.tect_ids.specs.declared.ids.FileId.{FileId}
 use Rattle.tect_ids.specs.declared.ids.Hold.{Hold}
-use Rattle.tect_ids.specs.declared.ids.Node.{Node}
 use Rattle.tect_ids.specs.declared.ids.Node.TheVariants.{Dir, File}
 use Rattle.tect_ids.specs.declared.key.Key.{Key}
-use Rattle.tect_ids.specs.declared.key.Upper.TheVariants as uppers
 use Rattle.key_maps.proofs.Lookups.{maps}
 use Rattle.store_rules.specs.declared.names.NameReq.TheVariants as names
 use Rattle.store_rules.specs.declared.files.FileReq.TheVariants as files
 use Rattle.store_rules.specs.declared.any.AnyReq.TheVariants as any
 use Rattle.store_rules.specs.Store.{store_changes}
-use Rattle.store_world.specs.Worlds.{World, Given, Live, Set, Past, done}
+use Rattle.store_world.specs.Worlds.{World, done}
 use Rattle.store_world.specs.Sound.{Sound}
 use Rattle.store_world.specs.Requests.{Needs, Kept}
 

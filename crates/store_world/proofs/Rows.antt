@@ -1,6 +1,6 @@
 -- every request keeps what a moment needs
-use Rattle.std.proofs.Common.{◌≡◌, ◌≢◌, ℕ, List, Bool, true, false, is_some, Option, Some, None, refl, arith, if◌then◌else◌, eqb}
-use Rattle.std.specs.FinMap.{get, empty}
+use Rattle.std.proofs.Common.{◌≡◌, ℕ, List, true, false, Some, None, refl, arith}
+use Rattle.std.specs.FinMap.{get}
 use Rattle.tect_ids.specs.declared.ids.DirId.{DirId}
 use Rattle.tect_ids.specs.declared.ids.FileId.{FileId}
 use Rattle.tect_ids.specs.declared.ids.Hold.{Hold}
@@ -9,10 +9,9 @@ use Rattle.tect_ids.specs.declared.ids.Node.TheVariants.{Dir, File}
 use Rattle.tect_ids.specs.declared.key.Key.{Key}
 use Rattle.tect_ids.specs.declared.values.Over.{Over}
 use Rattle.tect_ids.specs.declared.values.Want.{Want}
-use Rattle.tect_ids.specs.Keys.{hold_eq, node_eq, node_cmp}
+use Rattle.tect_ids.specs.Keys.{hold_eq}
 use Rattle.tect_ids.proofs.KeyTests.{keys}
 use Rattle.key_maps.proofs.Lookups.{maps}
-use Rattle.ordered_rows.specs.Maps.{set_at}
 use Rattle.store_rules.specs.declared.names.Entry.{Entry}
 use Rattle.store_rules.specs.declared.names.NameReq.{NameReq}
 use Rattle.store_rules.specs.declared.names.NameReq.TheVariants as names
@@ -23,10 +22,9 @@ use Rattle.store_rules.specs.declared.any.AnyReq.TheVariants as any
 use Rattle.store_rules.specs.Names.{key_in}
 use Rattle.store_rules.specs.Store.{opening_store, store_changes, store_reply}
 use Rattle.store_rules.specs.Views.{as_found, as_bound, as_swapped, as_unbound}
-use Rattle.store_world.specs.Worlds.{World, Given, Live, done, refused, next, opening_ghost}
-use Rattle.store_world.specs.Sound.{Sound, was_made, is_spent}
-use Rattle.store_world.specs.Later.{Later}
-use Rattle.store_world.specs.Requests.{Needs, Taught, Kept, FoundTaught, GrantTaught, BoundTaught, SwappedTaught, UnboundTaught}
+use Rattle.store_world.specs.Worlds.{World, refused, next, opening_ghost}
+use Rattle.store_world.specs.Sound.{Sound, was_made}
+use Rattle.store_world.specs.Requests.{Needs, Kept, FoundTaught, GrantTaught, UnboundTaught}
 use Rattle.store_world.proofs.Frames.{by_answer, by_reading}
 use Rattle.store_world.proofs.Making.{file_made, file_not_refused, dir_made, dir_not_refused}
 use Rattle.store_world.proofs.Binding.{given_up_sound, given_up_later, given_up_spent, bind_done, unbind_done, swap_done}

@@ -1,10 +1,10 @@
 -- What a request leaves as it was, by what it touches.
-use Rattle.std.specs.Prelude.{◌≡◌, ℕ, ◌/◌, ◌^◌, Bool, true, false, eqb, Option, Some, None, is_some}
+use Rattle.std.specs.Prelude.{◌≡◌, ℕ, ◌/◌, ◌^◌, Bool, true, false, eqb, Some, None, is_some}
 use Rattle.tect_ids.specs.declared.ids.Hold.{Hold}
 use Rattle.tect_ids.specs.declared.ids.Node.{Node}
 use Rattle.tect_ids.specs.declared.ids.Node.TheVariants.{Dir, File}
 use Rattle.tect_ids.specs.declared.key.Upper.{Upper}
-use Rattle.store_world.specs.Worlds.{HoldPhase, Live, Given, World}
+use Rattle.store_world.specs.Worlds.{Live, Given, World}
 use Rattle.store_world.specs.Sound.{was_made, leads, is_spent}
 
 -- what a request touches: the holds that it grants or binds, the nodes that it makes, and those that it names first

@@ -1,5 +1,5 @@
 -- What each request touches, what has to be known before it is made, and what its reply teaches.
-use Rattle.std.specs.Prelude.{◌≡◌, ◌≢◌, ℕ, Bool, true, false, Option, Some, None}
+use Rattle.std.specs.Prelude.{◌≡◌, ◌≢◌, true, false, Option, Some, None}
 use Rattle.tect_ids.specs.declared.ids.Hold.{Hold}
 use Rattle.tect_ids.specs.declared.ids.Node.{Node}
 use Rattle.tect_ids.specs.declared.ids.Node.TheVariants.{Dir, File}
@@ -16,7 +16,7 @@ use Rattle.store_rules.specs.declared.any.AnyReply.{AnyReply}
 use Rattle.store_rules.specs.Names.{key_in}
 use Rattle.store_rules.specs.Store.{store_reply}
 use Rattle.store_rules.specs.Views.{as_found, is_made, is_granted, as_bound, as_unbound, as_swapped}
-use Rattle.store_world.specs.Worlds.{World, next}
+use Rattle.store_world.specs.Worlds.{World}
 use Rattle.store_world.specs.Sound.{Sound, was_made, is_spent, IsGranted}
 use Rattle.store_world.specs.Later.{Touched, Later}
 
