@@ -69,6 +69,7 @@ serial_grows serial x = grind arith
 -- a running command's transaction
 module _ (m : Moment) (g : Ghost) (s : AllSound m g) (p : Program) (is : (m.actors p.op.actor).running ≡ Some p) (q : AnyReq)
     (ask : phase_ask p.op (object_number p.op.actor (m.actors p.op.actor).serial) p.command p.phase ≡ Some q) where
+  -- its actor, the world before and after, and what is said to it
   abbrev st : Actor
   st = m.actors p.op.actor
 
@@ -99,9 +100,11 @@ module _ (m : Moment) (g : Ghost) (s : AllSound m g) (p : Program) (is : (m.acto
   free : IsFree w (object_number p.op.actor st.serial)
   free = (fresh.file st.serial (omega arith) few, fresh.dir st.serial (omega arith) few)
 
+  -- what it asks needs no more than it knows
   pub asks_what_it_needs : Needs w q
   asks_what_it_needs = rw ask at (phase_needs w p.op (object_number p.op.actor st.serial) free st.serial p.command p.phase knows.phase)
 
+  -- what it asks touches its actor's own alone
   pub touches_its_own : Within (touched_by q) (by_actor p.op.actor)
   touches_its_own = rw ask at (phase_own p.op st.serial few w p.command p.phase knows.phase)
 
@@ -138,6 +141,7 @@ module _ (m : Moment) (g : Ghost) (s : AllSound m g) (p : Program) (is : (m.acto
 
 -- a command begins
 module _ (m : Moment) (g : Ghost) (s : AllSound m g) (op : OpId) (c : Command) (can : CanBegin (m.actors op.actor) op) (served : IsServed c) where
+  -- its actor, and the world
   abbrev idle : Actor
   idle = m.actors op.actor
 
@@ -153,6 +157,7 @@ module _ (m : Moment) (g : Ghost) (s : AllSound m g) (op : OpId) (c : Command) (
   hold_free : g.given (own_hold op) ≡ None
   hold_free = (part.fresh can.is_actor.0).hold (own_hold op) refl (omega (arith, can.next))
 
+  -- what a command knows as it begins
   abbrev Starts : Command → Type 0
   Starts c = PhaseKnows here op idle.serial c (first_phase c)
 
@@ -206,6 +211,7 @@ pub record RunsAs (o : Option Program) (op : OpId) (p : Program) : Type 0 where
   pub is : o ≡ Some p
   pub same : p.op ≡ op
 
+-- the program that runs as an op is found at its actor
 pub runs_as : (o : Option Program) (op : OpId) (p : Program) → program_of o op ≡ Some p → RunsAs o op p
 runs_as None op p e = absurd (grind (arith, e))
 runs_as (Some r) op p e = at (op_eq r.op op) refl e
@@ -232,6 +238,7 @@ asks_as m op q (Some p) e asks =
       },
     )
 
+-- what an op asks, its program asks
 pub asks_by : (m : Moment) (op : OpId) (q : AnyReq) → asked m op ≡ Some q → (p : Program) × Asks m op q p
 asks_by m op q asks = asks_as m op q (running m op) refl asks
 
@@ -240,12 +247,14 @@ acts_sound m g op q x s can =
     let by : (p : Program) × Asks m op q p = asks_by m op q can.0 in
     rw can.1 (subst (λ (o : OpId). AllSound (after m (Acted o q (store_reply m.store q))) (ghost_next m.store g q)) by.1.same (acted_sound m g s by.0 by.1.is q by.1.ask))
 
+-- each event that may happen keeps what is so at every moment
 pub event_sound : (m : Moment) (g : Ghost) (e : Event) → AllSound m g → May m e → AllSound (after m e) (ghost_after m g e)
 event_sound m g (Began op c) s can = began_sound m g s op c can.0 can.1
 event_sound m g (Acted op q x) s can = acts_sound m g op q x s can
 event_sound m g (Ended op a) s can = rest_sound m g s op.actor (m.actors op.actor).stopped
 event_sound m g (Stopped op) s can = rest_sound m g s op.actor true
 
+-- it is so before anything was done
 pub opening_all_sound : (counts : Counts) → AllSound (opening counts) opening_ghost
 opening_all_sound counts = record {
   sound = opening_sound;

@@ -62,6 +62,7 @@ module _ (w : World) (op : OpId) (number : ℕ) (free : IsFree w number) where
   swap_needs [] k n granted other = tt
   swap_needs (m ∷ ms) k n granted other = (granted, other)
 
+  -- what a phase asks needs no more than it knows
   pub phase_needs : (serial : ℕ) (c : Command) (at : Phase) → PhaseKnows w op serial c at → OfAsked (Needs w) (phase_ask op number c at)
   phase_needs serial c (Walk d []) k = first_needs d c k.0 k.1
   phase_needs serial c (Walk d (n ∷ ns)) k = tt
@@ -90,6 +91,7 @@ module _ (op : OpId) where
   named_own n mine = record { hold = λ h o. grind (arith, keys); made = λ m o. refl; named = λ m o. grind (arith, keys) }
 
   module _ (serial : ℕ) (few : serial < 2 ^ 32) where
+    -- an object's number tells its actor
     pub own_file : actor_of (File record { 0 = object_number op.actor serial }) ≡ op.actor
     own_file = omega arith
 
@@ -119,6 +121,7 @@ module _ (op : OpId) where
     swap_own [] k n = tt
     swap_own (m ∷ ms) k n = hold_own
 
+    -- what a phase asks touches its actor's own alone
     pub phase_own : (w : World) (c : Command) (at : Phase) → PhaseKnows w op serial c at → OfAsked (OwnAlone op) (phase_ask op (object_number op.actor serial) c at)
     phase_own w c (Walk d []) k = first_own d c
     phase_own w c (Walk d (n ∷ ns)) k = nothing_own
@@ -190,6 +193,7 @@ module _ (w v : World) (op : OpId) (serial : ℕ) where
     swap_later [] k n = tt
     swap_later (m ∷ ms) k n = same_serial _ refl le hold_later
 
+    -- what a phase asks makes nothing of later
     pub phase_later : (c : Command) (at : Phase) → PhaseKnows w op serial c at → OfAsked (NoLater w v op serial) (phase_ask op (object_number op.actor serial) c at)
     phase_later c (Walk d []) k = first_later d k.2 c
     phase_later c (Walk d (n ∷ ns)) k = same_serial _ refl le nothing_later

@@ -116,6 +116,7 @@ GoesOn w v op serial c place at q =
     Kept w v q → PhaseKnows v op (next_serial serial (store_reply w.store q)) c (phase_hear place op (object_number op.actor serial) c at (store_reply w.store q))
 
 module _ (w v : World) (op : OpId) (serial : ℕ) (few : serial < 2 ^ 32) (place : Place) where
+  -- the command goes on from that phase
   abbrev Goes : Command → Phase → Type 0
   Goes c at = OfAsked (GoesOn w v op serial c place at) (phase_ask op (object_number op.actor serial) c at)
 
@@ -196,6 +197,7 @@ module _ (w v : World) (op : OpId) (serial : ℕ) (few : serial < 2 ^ 32) (place
       let q : AnyReq = any.Name (names.Swap key.dir key.name (last_name (m ∷ ms)) n (own_hold op)) in
       swapped_on v op (later q) c place (said q) key n (as_swapped (said q)) (swap_not_odd w.store place key key.dir key.name (last_name (m ∷ ms)) n (own_hold op)) kept.taught
 
+  -- it does from every phase
   pub phase_goes_on : (c : Command) (at : Phase) → PhaseKnows w op serial c at → Goes c at
   phase_goes_on c (Walk d []) k = first_goes_on c d k
   phase_goes_on c (Walk d (n ∷ ns)) k = walk_goes_on c d n ns k

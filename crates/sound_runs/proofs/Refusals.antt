@@ -19,6 +19,7 @@ use Rattle.store_rules.specs.Views.{as_found, as_parent, as_listing, is_made, is
 use Rattle.op_names.specs.Programs.{refusal, dir_refusal}
 use Rattle.sound_runs.specs.Known.{is_odd}
 
+-- of requests that concern a whole directory
 module _ (s : Store) (place : Place) (d : DirId) where
   pub check_not_odd : is_some (as_parent (store_reply s (any.Name (names.CheckDir d)))) ≡ false → is_odd (dir_refusal place (store_reply s (any.Name (names.CheckDir d)))) ≡ false
   check_not_odd none = grind arith
@@ -26,6 +27,7 @@ module _ (s : Store) (place : Place) (d : DirId) where
   pub list_not_odd : as_listing (store_reply s (any.Name (names.List d))) ≡ None → is_odd (dir_refusal place (store_reply s (any.Name (names.List d)))) ≡ false
   list_not_odd none = grind arith
 
+-- of requests that concern an entry, or a hold for one
 module _ (s : Store) (place : Place) (l : Key) where
   pub look_not_odd : (k : Key) → as_found (store_reply s (any.Name (names.Look k))) ≡ None → is_odd (refusal place l (store_reply s (any.Name (names.Look k)))) ≡ false
   look_not_odd k none = grind arith

@@ -13,7 +13,7 @@ use Rattle.op_names.specs.declared.program.Phase.TheVariants.{Walk, Bind, Grant,
 use Rattle.op_names.specs.declared.program.Program.{Program}
 use Rattle.op_names.specs.Programs.{object_number, new_path, at_last, first_ask, phase_ask, phase_answer}
 use Rattle.world_runs.specs.declared.event.Event.{Event}
-use Rattle.world_runs.specs.Moments.{Moment, RunFrom, IsWorldRun, moment, after, after_all, opening, running, asked, answered, program_answer}
+use Rattle.world_runs.specs.Moments.{Moment, Actor, RunFrom, IsWorldRun, moment, after, after_all, opening, running, asked, answered, program_answer}
 use Rattle.world_runs.specs.Sound.{IsSound, IsSoundStore}
 use Rattle.store_world.specs.Worlds.{World, Ghost, opening_ghost}
 use Rattle.store_world.specs.Sound.{Sound}
@@ -56,9 +56,11 @@ module _ (counts : Counts) (events : List Event) (run : IsWorldRun counts events
   pub run_sound : IsSound (moment counts events)
   run_sound = store_sound (world counts events) run_world_sound
 
+-- at each moment of a run the store is sound
 pub sound_at_each_moment : EveryMomentIsSound
 sound_at_each_moment counts events run n = run_sound counts (take n events) (front_runs n events (opening counts) run)
 
+-- an actor's numbers stay small
 pub numbers_stay_small : NumbersStaySmall
 numbers_stay_small counts events run a =
     let all : AllSound (moment counts events) (ghosts counts events) = run_all_sound counts events run in
@@ -68,6 +70,14 @@ numbers_stay_small counts events run a =
 pub knows_of : (m : Moment) (g : Ghost) → AllSound m g → (a : ℕ) (p : Program) → (m.actors a).running ≡ Some p → Knows (world_of m g) a (m.actors a).serial (m.actors a).number p
 knows_of m g s a p is = rw is at (s.actors a).running
 
+-- so one more serial and each object's number fit
+pub serial_fits : (actor : Actor) → HasSmallNumbers actor → actor.serial + 1 < 2 ^ 32
+serial_fits actor small = omega (arith, small.serial_small, small.number_small)
+
+pub object_fits : (a : ℕ) (actor : Actor) → a ≤ 65 → HasSmallNumbers actor → object_number a actor.serial < 2 ^ 64
+object_fits a actor few small = omega (arith, few, small.serial_small, small.number_small)
+
+-- the running program is the last that its actor began
 pub running_is_last_begun : RunningIsLastBegun
 running_is_last_begun counts events run a p is =
     let k : Knows (world counts events) a ((moment counts events).actors a).serial ((moment counts events).actors a).number p = knows_of (moment counts events) (ghosts counts events) (run_all_sound counts events run) a p is in
@@ -96,6 +106,7 @@ plain_answer w op serial c (Swap key n) a k e = absurd (grind (arith, e))
 plain_answer w op serial c (Release n h old b) a k e = absurd (grind (arith, e))
 plain_answer w op serial c (End b) a k e = let same : b ≡ a = cc in rw (← same) k
 
+-- the same of an op at a moment
 pub answered_plain : (m : Moment) (g : Ghost) → AllSound m g → (op : OpId) (o : Option Program) → running m op ≡ o → (a : Answer) → program_answer o ≡ Some a → is_odd a ≡ false
 answered_plain m g s op None e a is = absurd (grind (arith, is))
 answered_plain m g s op (Some p) e a is =
@@ -103,6 +114,7 @@ answered_plain m g s op (Some p) e a is =
     let k : Knows (world_of m g) op.actor (m.actors op.actor).serial (m.actors op.actor).number p = knows_of m g s op.actor p r.is in
     plain_answer (world_of m g) p.op (m.actors op.actor).serial p.command p.phase a k.phase is
 
+-- no run answers that a reply was odd
 pub no_run_answers_odd : NoRunAnswersOdd
 no_run_answers_odd counts events run op place e =
     let plain : is_odd (answers.Odd place) ≡ false = answered_plain (moment counts events) (ghosts counts events) (run_all_sound counts events run) op (running (moment counts events) op) refl (answers.Odd place) e in
@@ -139,6 +151,7 @@ phase_does w op number serial c (Swap key n) k = one_of _ _ (last_asks (new_path
 phase_does w op number serial c (Release n h old b) k = refl
 phase_does w op number serial c (End b) k = refl
 
+-- the same of an op at a moment
 pub running_does : (m : Moment) (g : Ghost) → AllSound m g → (op : OpId) (p : Program) → running m op ≡ Some p → (is_some (asked m op) || is_some (answered m op)) ≡ true
 running_does m g s op p e =
     let r : RunsAs (m.actors op.actor).running op p = running_is_of m op p e in
@@ -146,5 +159,6 @@ running_does m g s op p e =
     let k : Knows (world_of m g) op.actor serial (m.actors op.actor).number p = knows_of m g s op.actor p r.is in
     rw e (phase_does (world_of m g) p.op (object_number p.op.actor serial) serial p.command p.phase k.phase)
 
+-- the same of a run
 pub running_goes_on : RunningGoesOn
 running_goes_on counts events run op p e = running_does (moment counts events) (ghosts counts events) (run_all_sound counts events run) op p e

@@ -27,6 +27,7 @@ abbrev pub is_odd : Answer → Bool
 is_odd (answers.Odd place) = true
 is_odd _ = false
 
+-- whether the path has a last name
 abbrev pub has_name : List (List ℕ) → Bool
 has_name [] = false
 has_name (n ∷ ns) = true
@@ -63,6 +64,7 @@ pub record Knows (w : World) (a serial number : ℕ) (p : Program) : Type 0 wher
   pub served : IsServed p.command
   pub phase : PhaseKnows w p.op serial p.command p.phase
 
+-- the same of an actor that may be idle
 abbrev pub RunningKnows : World → ℕ → ℕ → ℕ → Option Program → Type 0
 RunningKnows w a serial number None = Unit {0}
 RunningKnows w a serial number (Some p) = Knows w a serial number p

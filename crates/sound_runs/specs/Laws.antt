@@ -29,6 +29,7 @@ pub record HasSmallNumbers (actor : Actor) : Type 0 where
   pub serial_small : actor.serial ≤ actor.number + 1
   pub number_small : actor.number < 2 ^ 31
 
+-- so it is of each actor after every run
 abbrev pub NumbersStaySmall : Type 0
 NumbersStaySmall = (counts : Counts) (events : List Event) → IsWorldRun counts events → (a : ℕ) → HasSmallNumbers ((moment counts events).actors a)
 
@@ -39,6 +40,7 @@ pub record IsLastBegun (a : ℕ) (actor : Actor) (p : Program) : Type 0 where
   pub is_actor : (1 ≤ a) × (a ≤ 65)
   pub served : IsServed p.command
 
+-- so it is of each running program after every run
 abbrev pub RunningIsLastBegun : Type 0
 RunningIsLastBegun =
     (counts : Counts) (events : List Event) → IsWorldRun counts events → (a : ℕ) (p : Program) → ((moment counts events).actors a).running ≡ Some p

@@ -108,6 +108,7 @@ module _ (w : World) (s : Sound w) (k : Key) (n : Node) (h : Hold) (o : Over) (n
 
 -- Unbind
 module _ (w : World) (s : Sound w) (k : Key) (want : Want) where
+  -- what an unbind says of the entry that it took
   abbrev taken : Option Entry → Option (Node × Hold)
   taken None = None
   taken (Some e) = Some (e.node, e.hold)
@@ -148,16 +149,20 @@ module _ (w : World) (s : Sound w) (k : Key) (want : Want) where
 
 -- Swap
 module _ (w : World) (s : Sound w) (d : DirId) (from to : List ℕ) (n : Node) (h : Hold) (needs : Needs w (any.Name (names.Swap d from to n h))) where
+  -- the old key
   abbrev from_key : Key
   from_key = key_in d from
 
+  -- the new key
   abbrev to_key : Key
   to_key = key_in d to
 
+  -- what stood at the new name
   abbrev gone : Option Entry → Option Replaced
   gone None = None
   gone (Some e) = Some (replaced e)
 
+  -- what a swap says of the entries that stood at both
   abbrev both_gone : Option Entry → Option Entry → Option (Hold × Option Replaced)
   both_gone None old = None
   both_gone (Some e) old = Some (e.hold, gone old)
@@ -165,6 +170,7 @@ module _ (w : World) (s : Sound w) (d : DirId) (from to : List ℕ) (n : Node) (
   swap_says : store_changes w.store (any.Name (names.Swap d from to n h)) ≡ true → as_swapped (store_reply w.store (any.Name (names.Swap d from to n h))) ≡ both_gone (get w.store.names.entries from_key) (get w.store.names.entries to_key)
   swap_says ok = grind arith
 
+  -- the node of an entry
   abbrev node_at : Option Entry → Option Node
   node_at None = None
   node_at (Some e) = Some e.node

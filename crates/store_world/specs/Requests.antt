@@ -36,6 +36,7 @@ touches_named n h = record { hold = λ x. hold_eq x h; made = λ m. false; named
 abbrev pub touches_hold : Hold → Touched
 touches_hold h = record { hold = λ x. hold_eq x h; made = λ m. false; named = λ m. false }
 
+-- what a request of the Name layer touches
 abbrev pub name_touches : NameReq → Touched
 name_touches (names.CheckDir d) = touches_nothing
 name_touches (names.Look k) = touches_nothing
@@ -47,6 +48,7 @@ name_touches (names.Unbind k w) = touches_nothing
 name_touches (names.Grant d h k) = touches_hold h
 name_touches (names.Release d h) = touches_nothing
 
+-- what a request of the File layer touches
 abbrev pub file_touches : FileReq → Touched
 file_touches (files.MakeFile f h k t) = touches_new (File f) h
 file_touches (files.Grant f h k) = touches_hold h
@@ -65,6 +67,7 @@ MakeNeeds w n h k = (was_made w.ghost n ≡ false) × (w.ghost.given h ≡ None)
 abbrev pub GrantNeeds : World → Hold → Key → Type 0
 GrantNeeds w h k = (w.ghost.given h ≡ None) × (was_made w.ghost (Dir k.dir) ≡ true)
 
+-- What a request of the Name layer needs. A swap asks for another name than the old one: the tree refuses the same.
 abbrev pub NameNeeds : World → NameReq → Type 0
 NameNeeds w (names.CheckDir d) = Unit {0}
 NameNeeds w (names.Look k) = Unit {0}
@@ -76,6 +79,7 @@ NameNeeds w (names.Unbind k want) = Unit {0}
 NameNeeds w (names.Grant d h k) = GrantNeeds w h k
 NameNeeds w (names.Release d h) = is_spent w h ≡ true
 
+-- what a request of the File layer needs
 abbrev pub FileNeeds : World → FileReq → Type 0
 FileNeeds w (files.MakeFile f h k t) = MakeNeeds w (File f) h k
 FileNeeds w (files.Grant f h k) = GrantNeeds w h k
@@ -100,22 +104,26 @@ abbrev pub OldSpent : World → Option Replaced → Type 0
 OldSpent v None = Unit {0}
 OldSpent v (Some old) = is_spent v old.hold ≡ true
 
--- where it is refused its own hold can be released
+-- where a bind is refused its own hold can be released, and else the hold of what was replaced
 abbrev pub BoundTaught : World → Hold → Option (Option Replaced) → Type 0
 BoundTaught v h None = is_spent v h ≡ true
 BoundTaught v h (Some old) = OldSpent v old
 
+-- the same of a swap, and where it is not refused the node's hold for the old name can be released
 abbrev pub SwappedTaught : World → Hold → Option (Hold × Option Replaced) → Type 0
 SwappedTaught v h None = is_spent v h ≡ true
 SwappedTaught v h (Some p) = (is_spent v p.0 ≡ true) × OldSpent v p.1
 
+-- the hold of what was unbound can be released
 abbrev pub UnboundTaught : World → Option (Node × Hold) → Type 0
 UnboundTaught v None = Unit {0}
 UnboundTaught v (Some p) = is_spent v p.1 ≡ true
 
+-- a hold is granted where the reply says so
 abbrev pub GrantTaught : World → Node → Hold → Key → AnyReply → Type 0
 GrantTaught v n h k x = is_granted x ≡ true → IsGranted v h n k
 
+-- what a reply of the Name layer teaches
 abbrev pub NameTaught : World → NameReq → AnyReply → Type 0
 NameTaught v (names.CheckDir d) x = Unit {0}
 NameTaught v (names.Look k) x = FoundTaught v (as_found x)
@@ -127,6 +135,7 @@ NameTaught v (names.Unbind k want) x = UnboundTaught v (as_unbound x)
 NameTaught v (names.Grant d h k) x = GrantTaught v (Dir d) h k x
 NameTaught v (names.Release d h) x = Unit {0}
 
+-- what a reply of the File layer teaches
 abbrev pub FileTaught : World → FileReq → AnyReply → Type 0
 FileTaught v (files.MakeFile f h k t) x = MadeTaught v (File f) h k x
 FileTaught v (files.Grant f h k) x = GrantTaught v (File f) h k x

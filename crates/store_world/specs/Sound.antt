@@ -72,6 +72,7 @@ pub record SoundNodes (standing : Node → Bool) (made : Node → Bool) (home : 
   pub standing_made : (n : Node) → standing n ≡ true → made n ≡ true
   pub named_made : (n : Node) → is_some (home n) ≡ true → made n ≡ true
 
+-- of a world: all three
 pub record Sound (w : World) : Type 0 where
   pub entries : SoundEntries w.store.names.entries (λ d. is_some (get w.store.names.dirs d)) w.ghost.given w.ghost.home
   pub holds : SoundHolds (lists w.store) (dead_in w.store) w.ghost.given (was_made w.ghost)
