@@ -1,5 +1,5 @@
 -- the laws of every run
-use Rattle.std.proofs.Common.{◌≡◌, ℕ, zero, suc, List, [], ◌∷◌, Bool, true, false, ◌||◌, is_some, take, Option, Some, None, refl, arith, subst}
+use Rattle.std.proofs.Common.{◌≡◌, ◌≤◌, ◌<◌, ◌+◌, ◌^◌, ℕ, zero, suc, List, [], ◌∷◌, Bool, true, false, ◌||◌, is_some, take, Option, Some, None, refl, arith, subst}
 use Rattle.tect_ids.specs.declared.ids.Counts.{Counts}
 use Rattle.tect_ids.specs.declared.ids.DirId.{DirId}
 use Rattle.tect_ids.specs.declared.ids.OpId.{OpId}
@@ -21,7 +21,7 @@ use Rattle.store_world.specs.Later.{Within, by_actor}
 use Rattle.store_world.specs.Requests.{Needs, touched_by}
 use Rattle.sound_runs.specs.Pasts.{ghost_after, ghosts_after, ghosts, world_of, world}
 use Rattle.sound_runs.specs.Known.{PhaseKnows, Knows, AllSound, is_odd, is_whole, has_name}
-use Rattle.sound_runs.specs.Laws.{EveryMomentIsSound, NoRunAnswersOdd, RunningGoesOn, NumbersStaySmall, RunningIsLastBegun}
+use Rattle.sound_runs.specs.Laws.{EveryMomentIsSound, NoRunAnswersOdd, RunningGoesOn, HasSmallNumbers, NumbersStaySmall, RunningIsLastBegun}
 use Rattle.sound_runs.proofs.MomentsKeep.{event_sound, opening_all_sound, RunsAs, runs_as, Asks, asks_by, asks_what_it_needs, touches_its_own}
 
 -- a sound world's store is sound
