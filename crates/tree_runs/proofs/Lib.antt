@@ -1,0 +1,2 @@
+pub mod ValuesSeen
+pub mod RequestsShow

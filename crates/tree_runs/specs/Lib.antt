@@ -1,0 +1,2 @@
+pub mod MapValues
+pub mod View
