@@ -1,2 +1,5 @@
 pub mod ValuesSeen
 pub mod RequestsShow
+pub mod Tracks
+pub mod Phases
+pub mod Runs

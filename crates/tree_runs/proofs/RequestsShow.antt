@@ -38,7 +38,7 @@ use Rattle.tree_model.specs.declared.step.TreeReply.TheVariants.{Ok, Refused}
 use Rattle.tree_model.specs.Tree.{Tree, Allowed, tree_next, tree_change, tree_reply, is_ok, as_listed, at_name}
 use Rattle.world_runs.specs.TreeSteps.{tree_step, says}
 use Rattle.tree_runs.specs.MapValues.{map_values, seen_by}
-use Rattle.tree_runs.specs.View.{Made, view, Shows, stands, AllMade, MakesNew, Follows, StepShows, shown_dir, shown_file, shown_entry}
+use Rattle.tree_runs.specs.View.{Made, view, Shows, stands, AllMade, MakesNew, TreeFollows, StepShows, shown_dir, shown_file, shown_entry}
 use Rattle.tree_runs.proofs.ValuesSeen.{entries-map_values, get-map_values, dir_put, file_put, key_put, dir_alike, file_alike, within_seen, len_within_seen}
 
 -- a listing shows the nodes alone

@@ -87,10 +87,10 @@ MakesNew made (any.File q) = FileMakesNew made q
 
 -- From the tree t on: no step, and the store shows t still; or a step to which t allows what was said, and the store shows
 -- the tree after it.
-abbrev pub Follows : Tree → Store → Option TreeStep → TreeReply → Type 0
-Follows t s None x = Shows s t
-Follows t s (Some step) x = Allowed t step x × Shows s (tree_next t step x)
+abbrev pub TreeFollows : Tree → Store → Option TreeStep → TreeReply → Type 0
+TreeFollows t s None x = Shows s t
+TreeFollows t s (Some step) x = Allowed t step x × Shows s (tree_next t step x)
 
 -- the request, seen by the tree that the store shows
 abbrev pub StepShows : Store → Made → AnyReq → Type 0
-StepShows s made q = Follows (view s made) (store_step s q) (tree_step q (store_reply s q)) (says (store_reply s q))
+StepShows s made q = TreeFollows (view s made) (store_step s q) (tree_step q (store_reply s q)) (says (store_reply s q))

@@ -2,15 +2,27 @@
 //! that the tree gives at the command's point, and a session of one client prints what the tree alone gives.
 #![tactic(auto)]
 
-ghost use Rattle.std.specs.Prelude.{◌≡◌};
-ghost use Rattle.std.specs.FinMap.{FinMap};
+ghost use Rattle.std.specs.Prelude.{List};
 ghost use Rattle.store_rules.specs.Store.{Store};
 ghost use Rattle.store_rules.specs.declared.any.AnyReq.{AnyReq};
-ghost use Rattle.tree_runs.specs.View.{Made, AllMade, MakesNew, StepShows};
+ghost use Rattle.tect_ids.specs.declared.ids.Counts.{Counts};
+ghost use Rattle.tree_model.specs.Tree.{opening_tree};
+ghost use Rattle.world_runs.specs.declared.event.Event.{Event};
+ghost use Rattle.world_runs.specs.Moments.{IsWorldRun, moment};
+ghost use Rattle.world_runs.specs.TreeSteps.{tree_steps, tree_after, IsTreeRun};
+ghost use Rattle.tree_runs.specs.View.{Made, Shows, AllMade, MakesNew, StepShows};
 
 /// Each request is no step of the tree, and then what the store shows stays; or it is a step to which the tree allows what
 /// the store replied, and then what the store shows follows the tree.
 pub fn store_shows_a_tree()
     ensures { (store : Store) (made : Made) (req : AnyReq) → AllMade store made → MakesNew made req → StepShows store made req }
+{
+}
+
+/// In every run of the world the tree allows what was said to each of its steps, and the store at the end shows the tree
+/// after them.
+pub fn every_run_follows_the_tree()
+    ensures shown { (counts : Counts) (events : List Event) → IsWorldRun counts events → Shows (moment counts events).store (tree_after opening_tree (tree_steps events)) }
+    ensures allowed { (counts : Counts) (events : List Event) → IsWorldRun counts events → IsTreeRun opening_tree (tree_steps events) }
 {
 }
