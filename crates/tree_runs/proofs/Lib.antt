@@ -3,3 +3,7 @@ pub mod RequestsShow
 pub mod Tracks
 pub mod Phases
 pub mod Runs
+pub mod Replies
+pub mod Histories
+pub mod Comes
+pub mod Scripts

@@ -82,38 +82,38 @@ granted_step st (Ok shown) = inr refl
 granted_step st (Refused why) = inl refl
 
 module _ (s : Store) (made : Made) (op : OpId) where
-  look_same : (k : Key) → MakesNothing s made op (any.Name (names.Look k))
+  pub look_same : (k : Key) → MakesNothing s made op (any.Name (names.Look k))
   look_same k = (made_same (view s made) (step.Look k) _ refl, grind arith)
 
-  check_same : (d : DirId) → MakesNothing s made op (any.Name (names.CheckDir d))
+  pub check_same : (d : DirId) → MakesNothing s made op (any.Name (names.CheckDir d))
   check_same d = (made_same (view s made) (step.Check d) _ refl, grind arith)
 
-  list_same : (d : DirId) → MakesNothing s made op (any.Name (names.List d))
+  pub list_same : (d : DirId) → MakesNothing s made op (any.Name (names.List d))
   list_same d = (made_same (view s made) (step.List d) _ refl, grind arith)
 
-  bind_same : (k : Key) (n : Node) (h : Hold) (o : Over) → MakesNothing s made op (any.Name (names.Bind k n h o))
+  pub bind_same : (k : Key) (n : Node) (h : Hold) (o : Over) → MakesNothing s made op (any.Name (names.Bind k n h o))
   bind_same k n h o = (made_same (view s made) (step.Bind k n o) _ refl, grind arith)
 
-  swap_same : (d : DirId) (from to : List ℕ) (n : Node) (h : Hold) → MakesNothing s made op (any.Name (names.Swap d from to n h))
+  pub swap_same : (d : DirId) (from to : List ℕ) (n : Node) (h : Hold) → MakesNothing s made op (any.Name (names.Swap d from to n h))
   swap_same d from to n h = (made_same (view s made) (step.Swap d from to n) _ refl, grind arith)
 
-  unbind_same : (k : Key) (w : Want) → MakesNothing s made op (any.Name (names.Unbind k w))
+  pub unbind_same : (k : Key) (w : Want) → MakesNothing s made op (any.Name (names.Unbind k w))
   unbind_same k w = (made_same (view s made) (step.Unbind k w) _ refl, grind arith)
 
-  grant_same : (n : Node) (h : Hold) (k : Key) → MakesNothing s made op (grant_ask n h k)
+  pub grant_same : (n : Node) (h : Hold) (k : Key) → MakesNothing s made op (grant_ask n h k)
   grant_same (nodes.Dir d) h k = (refused_same (view s made) op (step.GrantDir d) _ refl _ (granted_step (step.GrantDir d) _), grind arith)
   grant_same (nodes.File f) h k = (refused_same (view s made) op (step.GrantFile f) _ refl _ (granted_step (step.GrantFile f) _), grind arith)
 
-  release_same : (n : Node) (h : Hold) → MakesNothing s made op (release_ask n h)
+  pub release_same : (n : Node) (h : Hold) → MakesNothing s made op (release_ask n h)
   release_same (nodes.Dir d) h = (refl, grind arith)
   release_same (nodes.File f) h = (refl, grind arith)
 
 -- ---- and those that make one
 module _ (s : Store) (made : Made) (op : OpId) (i : ℕ) (all : AllMade s made) where
-  make_dir_made : (d p : DirId) (h : Hold) (k : Key) → get made (nodes.Dir d) ≡ None → is_made (store_reply s (any.Name (names.MakeDir d p h k))) ≡ true
+  pub make_dir_made : (d p : DirId) (h : Hold) (k : Key) → get made (nodes.Dir d) ≡ None → is_made (store_reply s (any.Name (names.MakeDir d p h k))) ≡ true
   make_dir_made d p h k new = grind (arith, all (nodes.Dir d))
 
-  make_file_made : (f : FileId) (h : Hold) (k : Key) → get made (nodes.File f) ≡ None → is_made (store_reply s (any.File (files.MakeFile f h k None))) ≡ true
+  pub make_file_made : (f : FileId) (h : Hold) (k : Key) → get made (nodes.File f) ≡ None → is_made (store_reply s (any.File (files.MakeFile f h k None))) ≡ true
   make_file_made f h k new = grind (arith, all (nodes.File f))
 
   dir_no_other : (d p : DirId) (h : Hold) (k : Key) → d.0 ≡ i → MakesNoOther i made (made_next s made op (any.Name (names.MakeDir d p h k)))
