@@ -7,3 +7,6 @@ pub mod Replies
 pub mod Histories
 pub mod Comes
 pub mod Scripts
+pub mod Walks
+pub mod Tells
+pub mod PhasesTell
