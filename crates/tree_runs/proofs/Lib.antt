@@ -10,3 +10,4 @@ pub mod Scripts
 pub mod Walks
 pub mod Tells
 pub mod PhasesTell
+pub mod Headlines

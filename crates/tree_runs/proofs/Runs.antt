@@ -86,16 +86,16 @@ module _ (m : Moment) (made : Made) (tracks : Tracks m (view m.store made)) (op 
   abbrev told : List Told
   told = told_as op (tree_step q x) (says x)
 
-  knows : Knows op.actor own_number own_serial (Some p)
+  pub knows : Knows op.actor own_number own_serial (Some p)
   knows = rw a.runs at (tracks.knows op.actor)
 
   few : own_serial < 2 ^ 32
   few = omega (arith, tracks.serials op.actor, tracks.numbers op.actor)
 
-  made_all : AllMade m.store made
+  pub made_all : AllMade m.store made
   made_all = all_made m.store made tracks.made
 
-  acts : Acts m.store made own_number own_serial (request_place m.counts q) op p.command p.phase q
+  pub acts : Acts m.store made own_number own_serial (request_place m.counts q) op p.command p.phase q
   acts = rw a.asks at (phase_acts m.store made made_all own_number own_serial (tracks.serials op.actor) (request_place m.counts q) op
       (tracks.fresh op.actor knows.0 own_serial (omega arith) few).0 (tracks.fresh op.actor knows.0 own_serial (omega arith) few).1 p.command p.phase knows.3)
 

@@ -6,6 +6,7 @@ ghost use Rattle.std.specs.Prelude.{◌≡◌, ℕ, List};
 ghost use Rattle.std.specs.List.{AllByRecursion};
 ghost use Rattle.tect_ids.specs.declared.command.Command.{Command};
 ghost use Rattle.world_runs.specs.Follows.{Follows};
+ghost use Rattle.world_runs.specs.Headline.{Headline};
 ghost use Rattle.world_runs.specs.Report.{report};
 ghost use Rattle.tree_runs.specs.Session.{IsPlayed, session_lines, session_script};
 ghost use Rattle.store_rules.specs.Store.{Store};
@@ -35,3 +36,10 @@ pub fn every_run_follows_the_tree()
 pub fn report_is_session()
     ensures { (counts : Counts) (clients : List (List ℕ)) (client : List ℕ) (commands : List Command) (history : List Event) → AllByRecursion IsPlayed commands → IsWorldRun counts history → Follows (session_script client commands) history → report clients history ≡ session_lines clients opening_tree 1 0 commands }
 {}
+
+/// In every run of the world, whatever its actors ask in whatever order, each answer is the one that the tree gives at the
+/// command's point.
+pub fn each_answer_is_the_trees()
+    ensures { (counts : Counts) (events : List Event) → IsWorldRun counts events → Headline events }
+{
+}
