@@ -5,7 +5,7 @@ use Rattle.tect_world.specs.declared.actors.ActorState.{ActorState}
 
 -- an actor that did nothing
 abbrev pub idle_state : ActorState
-idle_state = record { number = 0; serial = 1; stopped = false; running = None }
+idle_state = record { number = 0; serial = 1; stopped = false; running = None; transactions = 0 }
 
 abbrev pub actor_of : ActorState → Actor
 actor_of s = record { number = s.number; serial = s.serial; stopped = s.stopped; running = s.running }

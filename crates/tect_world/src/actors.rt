@@ -8,13 +8,15 @@ use tect_ids::NoMemory;
 /// How many actors there are: 64 clients, and the one that runs the lines of the whole world.
 const ACTORS: usize = 65;
 
-/// An actor: how many commands it began, the serial of the next object that it makes, and its running command.
+/// An actor: how many commands it began, the serial of the next object that it makes, its running command, and how many
+/// transactions its last command took so far.
 #[derive(Drop)]
 pub struct ActorState {
     pub number: u32,
     pub serial: u32,
     pub stopped: bool,
     pub running: Option<Program>,
+    pub transactions: u64,
 }
 
 /// An actor that did nothing.
@@ -26,6 +28,7 @@ fn idle() -> ActorState
         serial: 1,
         stopped: false,
         running: None,
+        transactions: 0,
     }
 }
 

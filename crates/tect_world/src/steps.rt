@@ -7,8 +7,8 @@ ghost use Rattle.store_rules.specs.Store.{store_reply, store_step};
 ghost use Rattle.world_runs.specs.declared.event.Event.TheVariants as events;
 ghost use Rattle.tect_world.specs.Idle.{actor_of};
 ghost use Rattle.world_runs.specs.Moments.{next_serial};
-ghost use Rattle.tect_world.specs.Life.{ending, ended_actor};
-ghost use Rattle.tect_world.specs.Steps.{Steps};
+ghost use Rattle.tect_world.specs.Life.{ending, ended_actor, actor_asks};
+ghost use Rattle.tect_world.specs.Steps.{Steps, act_count};
 
 use crate::actors::ActorState;
 use crate::shards::{commit, place_in, reply_of};
@@ -96,6 +96,7 @@ fn end(history: &mut Vec<Event>, state: &mut ActorState, op: OpId, answer: Optio
     requires { vec_len history.old < vec_capacity history.old }
     ensures items { history.new.items ≡ history.old.items ++ ending op answer }
     ensures actor { actor_of state.new ≡ ended_actor (actor_of state.old) answer }
+    ensures counted { state.new.transactions ≡ state.old.transactions }
 {
     if let Some(answer) = answer {
         push_event(history, Event::Ended { op, answer });
@@ -105,13 +106,16 @@ fn end(history: &mut Vec<Event>, state: &mut ActorState, op: OpId, answer: Optio
 
 /// The actor after a transaction: its program goes on, and a serial is taken where an object was made.
 fn go_on(state: &mut ActorState, next: Program, reply: &AnyReply)
-    requires { state.old.serial + 1 < 2 ^ 32 }
-    ensures { actor_of state.new ≡ record (actor_of state.old) { serial = next_serial state.old.serial reply.now; running = Some next } }
+    requires serial { state.old.serial + 1 < 2 ^ 32 }
+    requires few { state.old.transactions + 1 < 2 ^ 64 }
+    ensures actor { actor_of state.new ≡ record (actor_of state.old) { serial = next_serial state.old.serial reply.now; running = Some next } }
+    ensures counted { state.new.transactions ≡ state.old.transactions + 1 }
 {
     if reply.is_made() {
         state.serial += 1;
     }
     state.running = Some(next);
+    state.transactions += 1;
 }
 
 /// A step of an actor: the next transaction of its command, if it asks one, and its end, if it then has its answer. For
@@ -128,11 +132,14 @@ pub fn step_actor(
     requires places { HasPlaces counts.now }
     requires actor { actor < 2 ^ 31 }
     requires serial { state.old.serial + 1 < 2 ^ 32 }
+    requires few { state.old.transactions + 1 < 2 ^ 64 }
     requires running { IsSome state.old.running }
     requires own { ForSome state.old.running (λ program. program.op ≡ record { actor = actor; number = state.old.number }) }
     requires room { vec_len history.old + 2 ≤ vec_capacity history.old }
     ensures steps { IfOk result (Steps counts.now (record { names = names.old; files = files.old }) (record { names = names.new; files = files.new })
         (actor_of state.old) (actor_of state.new) (record { actor = actor; number = state.old.number }) history.old.items history.new.items) }
+    ensures counted { OnOk result (state.new.transactions ≡ state.old.transactions
+        + act_count (actor_asks (actor_of state.old) (record { actor = actor; number = state.old.number }))) }
     ensures err { OnErr result ((names.new ≡ names.old) × (files.new ≡ files.old) × (state.new ≡ state.old) × (history.new ≡ history.old)) }
 {
     let Some(program) = &state.running else {

@@ -1,9 +1,11 @@
 ghost use Rattle.std.specs.Prelude.{◌≡◌, ℕ, ◌+◌, ◌^◌, ◌<◌, ◌≤◌, [], ◌∷◌, ◌++◌, List, OnOk, OnErr, IfOk, IsSome, IsNone, false};
 ghost use Rattle.tect_ids.specs.Places.{HasPlaces};
 ghost use Rattle.world_runs.specs.declared.event.Event.TheVariants as events;
-ghost use Rattle.world_runs.specs.Follows.{EndsAfter};
+ghost use Rattle.world_runs.specs.Moments.{IsWorldRun};
+ghost use Rattle.world_runs.specs.Report.{transactions};
 ghost use Rattle.world_runs.specs.Served.{IsServed};
 ghost use Rattle.tect_world.specs.Life.{Life, present, grown, last_op, next_op, step_answer, step_events};
+ghost use Rattle.tect_world.specs.Steps.{RanToEnd, GoesOn};
 ghost use Rattle.tect_world.specs.Turns.{turned_by};
 
 use crate::actors::{ActorState, idle_actors};
@@ -67,6 +69,7 @@ impl World {
         requires served { IsServed command }
         ensures ok { OnOk result (self.new ≡ grown self.old (events.Began (next_op (present self.old) actor) command ∷ [])) }
         ensures err { OnErr result (self.new ≡ self.old) }
+        ensures run { IsWorldRun self.new.counts self.new.history }
     {
         self.history.reserve(1)?;
         let kept = command.copy(self.alloc)?;
@@ -78,6 +81,7 @@ impl World {
         let program = Program::start(self.alloc, op, command)?;
         state.number = op.number;
         state.running = Some(program);
+        state.transactions = 0;
         push_event(&mut self.history, Event::Began { op, command: kept });
         Ok(())
     }
@@ -90,6 +94,7 @@ impl World {
         ensures ok { OnOk result (self.new ≡ grown self.old (step_events (present self.old) (last_op (present self.old) actor))) }
         ensures turned { IfOk result (λ turned. turned ≡ turned_by (step_answer (present self.old) (last_op (present self.old) actor))) }
         ensures err { OnErr result (self.new ≡ self.old) }
+        ensures run { IsWorldRun self.new.counts self.new.history }
     {
         self.history.reserve(2)?;
         let answer = step_actor(
@@ -105,5 +110,51 @@ impl World {
             None => Turned::Going,
             Some(answer) => Turned::Done(answer),
         })
+    }
+
+    /// Steps until the command ends. For want of memory it stands where it came to.
+    pub fn run(&mut self, actor: u32) -> Result<Answer, NoMemory>
+        requires actor { (1 ≤ actor) × (actor ≤ 65) }
+        requires running { IsSome ((present self.old).actors actor).running }
+        ensures ok { IfOk result (RanToEnd self.old self.new (last_op (present self.old) actor)) }
+        ensures err { OnErr result (GoesOn self.old self.new (last_op (present self.old) actor)) }
+        ensures run { IsWorldRun self.new.counts self.new.history }
+    {
+        let _counts = &self.counts;
+        'steps: loop {
+            match self.step(actor)? {
+                Turned::Going => {}
+                Turned::Done(answer) => return Ok(answer),
+            }
+        }
+    }
+
+    /// The op of the actor's last command.
+    pub fn last_op(&self, actor: u32) -> OpId
+        requires { (1 ≤ actor) × (actor ≤ 65) }
+        ensures op { result ≡ last_op (present self.now) actor }
+        ensures run { IsWorldRun self.now.counts self.now.history }
+    {
+        OpId {
+            actor,
+            number: self.actors[actor as usize - 1].number,
+        }
+    }
+
+    /// How many transactions the actor's last command took so far.
+    pub fn transactions(&self, actor: u32) -> u64
+        requires { (1 ≤ actor) × (actor ≤ 65) }
+        ensures count { result ≡ transactions self.now.history (last_op (present self.now) actor) }
+        ensures run { IsWorldRun self.now.counts self.now.history }
+    {
+        self.actors[actor as usize - 1].transactions
+    }
+
+    /// All that was done, in order.
+    pub fn history(&self) -> &[Event]
+        ensures events { result.now ≡ self.now.history }
+        ensures run { IsWorldRun self.now.counts self.now.history }
+    {
+        self.history.as_slice()
     }
 }
