@@ -7,7 +7,7 @@ use Rattle.tect_ids.proofs.KeyTests.{num_eq_cases, op_eq_cases}
 use Rattle.store_rules.specs.declared.any.AnyReq.{AnyReq}
 use Rattle.store_rules.specs.Store.{store_reply}
 use Rattle.world_runs.specs.declared.event.Event.{Event}
-use Rattle.world_runs.specs.declared.event.Event.TheVariants.{Began, Acted, Ended}
+use Rattle.world_runs.specs.declared.event.Event.TheVariants.{Began, Acted, Ended, Stopped}
 use Rattle.world_runs.specs.Moments.{Actor, Moment, after, after_all, RunFrom, asked, answered, program_of, program_answer}
 use Rattle.world_runs.specs.Report.{transactions, is_act_of}
 use Rattle.tect_world.specs.Life.{transaction, acted_actor, acted_store, ending, ended_actor, actor_asks, actor_answer, step_events, stepped_actor, stepped_store, last_op}
@@ -39,7 +39,7 @@ step_actors m op b = actors_of m op (actor_asks (m.actors op.actor) op) (actor_a
 ends_then : (m : Moment) (op : OpId) (q : AnyReq) (a : Answer) → program_answer (program_of (acted_actor m.counts m.store (m.actors op.actor) (Some q)).running op) ≡ Some a
     → answered (after m (Acted op q (store_reply m.store q))) op ≡ Some a
 ends_then m op q a is =
-    ap (λ (st : Actor). program_answer (program_of st.running op)) (grind (arith, actors_of m op (Some q) None op.actor, same op.actor)) ∙ is
+    ap (λ (b : Bool). program_answer (program_of (if b then acted_actor m.counts m.store (m.actors op.actor) (Some q) else m.actors op.actor).running op)) (same op.actor) ∙ is
 
 runs_by : (m : Moment) (op : OpId) (o : Option AnyReq) (x : Option Answer) → actor_asks (m.actors op.actor) op ≡ o
     → program_answer (program_of (acted_actor m.counts m.store (m.actors op.actor) o).running op) ≡ x → RunFrom m (transaction m.store op o ++ ending op x)
@@ -88,3 +88,14 @@ pub step_number : (m : Moment) (op : OpId) (b : ℕ) → ((after_all m (step_eve
 step_number m op b =
     let kept = number_kept m (m.actors op.actor) (actor_asks (m.actors op.actor) op) (actor_answer m.counts m.store (m.actors op.actor) op) in
     ap (λ (st : Actor). st.number) (step_actors m op b) ∙ grind (arith, num_eq_cases b op.actor, kept)
+
+-- the counts stay
+kept_by : (m : Moment) (e : Event) → (after m e).counts ≡ m.counts
+kept_by m (Began op c) = refl
+kept_by m (Acted op q x) = refl
+kept_by m (Ended op a) = refl
+kept_by m (Stopped op) = refl
+
+pub counts_kept : (m : Moment) (es : List Event) → (after_all m es).counts ≡ m.counts
+counts_kept m [] = refl
+counts_kept m (e ∷ es) = counts_kept (after m e) es ∙ kept_by m e

@@ -1,6 +1,6 @@
 -- the fields of the world stay the moment after its history
 use Rattle.std.proofs.Common.{◌≡◌, ◌≢◌, ℕ, ◌+◌, ◌-◌, ◌<◌, ◌≤◌, ◌^◌, Bool, true, false, eqb, if◌then◌else◌, Option, Some, None, List, [], ◌∷◌, ◌++◌, length, get_or, set, replicate, refl, sym, ap, ◌∙◌, subst, inl, inr, ◌⊎◌, arith}
-use Rattle.std.proofs.lemmas.List.{get_or-set_same, get_or-set_other, get_or-replicate}
+use Rattle.std.proofs.lemmas.List.{get_or-set_same, get_or-set_other, get_or-replicate, length-set}
 use Rattle.tect_ids.specs.declared.ids.Counts.{Counts}
 use Rattle.tect_ids.specs.declared.ids.OpId.{OpId}
 use Rattle.tect_ids.specs.declared.answer.Answer.{Answer}
@@ -17,8 +17,7 @@ use Rattle.world_runs.specs.Served.{IsServed}
 use Rattle.world_runs.specs.Moments.{Actor, Moment, moment, opening, after, after_all, RunFrom, IsWorldRun, CanBegin, begun, idle_actor}
 use Rattle.world_runs.specs.Report.{transactions}
 use Rattle.tree_model.specs.Tree.{opening_tree}
-use Rattle.tree_runs.specs.View.{view}
-use Rattle.tree_runs.proofs.Runs.{world_tracked, Tracks}
+use Rattle.tree_runs.proofs.Runs.{world_tracked}
 use Rattle.tree_runs.proofs.Histories.{after_all-append, run-append, transactions-append, Quiet, quiet_run}
 use Rattle.tect_world.specs.declared.actors.ActorState.{ActorState}
 use Rattle.tect_world.specs.declared.world.World.TheInside.{Inside}
@@ -26,7 +25,7 @@ use Rattle.tect_world.specs.Idle.{idle_state, actor_of}
 use Rattle.tect_world.specs.Life.{Life, present, grown, last_op, next_op, actor_asks, actor_events, stepped_actor, stepped_store, step_events}
 use Rattle.tect_world.specs.Steps.{Steps, act_count}
 use Rattle.tect_world.specs.Inside.{life_of, actor_at, transactions_at, HasActors, IsWorld}
-use Rattle.tect_world.proofs.Events.{step_store, step_actors, step_runs, step_count, step_count_other, step_number}
+use Rattle.tect_world.proofs.Events.{step_store, step_actors, step_runs, step_count, step_count_other, step_number, counts_kept}
 
 -- ---- one actor's state is set
 
@@ -79,27 +78,37 @@ module _ (old new : Inside) (a : ℕ) (s : ActorState) (answer : Option Answer) 
   module _ (counts : new.counts ≡ old.counts) (items : new.actors.items ≡ set old.actors.items (a - 1) s)
       (steps : Steps old.counts (record { names = old.names; files = old.files }) (record { names = new.names; files = new.files }) (actor_of state) (actor_of s) op old.history.items new.history.items answer)
       (counted : s.transactions ≡ state.transactions + act_count (actor_asks (actor_of state) op)) where
+    own_counts : old.counts ≡ m.counts
+    own_counts = sym (counts_kept (opening old.counts) old.history.items)
 
     events : new.history.items ≡ old.history.items ++ step_events m op
-    events = rw (own_store, own_actor) at steps.events
+    events =
+        steps.events
+        ∙ ap (λ (x : Store). old.history.items ++ actor_events old.counts x (actor_of state) op) own_store
+        ∙ ap (λ (x : Actor). old.history.items ++ actor_events old.counts m.store x op) own_actor
+        ∙ ap (λ (x : Counts). old.history.items ++ actor_events x m.store (m.actors a) op) own_counts
 
     pub step_grows : life_of new ≡ grown (life_of old) (step_events m op)
     step_grows i = record { counts = counts i; history = events i }
 
-    then : present (life_of new) ≡ after_all m (step_events m op)
-    then = ap present step_grows ∙ present-grown (life_of old) (step_events m op)
+    now_is : present (life_of new) ≡ after_all m (step_events m op)
+    now_is = ap present step_grows ∙ present-grown (life_of old) (step_events m op)
 
     new_store : ◌≡◌ {A = Store} (record { names = new.names; files = new.files }) (present (life_of new)).store
-    new_store = rw (own_store, own_actor) at steps.store ∙ sym (step_store m op) ∙ ap (λ (x : Moment). x.store) (sym then)
+    new_store = steps.store ∙ ap (λ (x : Store). stepped_store x (actor_of state) op) own_store ∙ ap (λ (x : Actor). stepped_store m.store x op) own_actor ∙ sym (step_store m op) ∙ ap (λ (x : Moment). x.store) (sym now_is)
 
     each : (b : ℕ) → 1 ≤ b → b ≤ 65 → actor_at new.actors.items b ≡ (present (life_of new)).actors b
     each b low' high' =
-        let stepped : actor_of s ≡ stepped_actor m.counts m.store (m.actors a) op = rw (own_store, own_actor) at steps.actor in
+        let stepped : actor_of s ≡ stepped_actor m.counts m.store (m.actors a) op =
+        steps.actor
+        ∙ ap (λ (x : Store). stepped_actor old.counts x (actor_of state) op) own_store
+        ∙ ap (λ (x : Actor). stepped_actor old.counts m.store x op) own_actor
+        ∙ ap (λ (x : Counts). stepped_actor x m.store (m.actors a) op) own_counts in
         ap (λ (states : List ActorState). actor_at states b) items ∙ set_actor old.actors.items a b s is.actors.number low high low'
-        ∙ grind (arith, stepped, is.actors.each b low' high', step_actors m op b) ∙ ap (λ (x : Moment). x.actors b) (sym then)
+        ∙ grind (arith, stepped, is.actors.each b low' high', step_actors m op b) ∙ ap (λ (x : Moment). x.actors b) (sym now_is)
 
     same_last : (b : ℕ) → last_op (present (life_of new)) b ≡ last_op m b
-    same_last b i = record { actor = b; number = (ap (λ (x : Moment). (x.actors b).number) then ∙ step_number m op b) i }
+    same_last b i = record { actor = b; number = (ap (λ (x : Moment). (x.actors b).number) now_is ∙ step_number m op b) i }
 
     count : (b : ℕ) → 1 ≤ b → b ≤ 65 → transactions_at new.actors.items b ≡ transactions new.history.items (last_op (present (life_of new)) b)
     count b low' high' =
@@ -115,7 +124,7 @@ module _ (old new : Inside) (a : ℕ) (s : ActorState) (answer : Option Answer) 
     step_world = record {
       names = ap (λ (x : Store). x.names) new_store;
       files = ap (λ (x : Store). x.files) new_store;
-      actors = record { number = ap length items ∙ grind (arith, is.actors.number); each = each; counted = count };
+      actors = record { number = ap length items ∙ length-set old.actors.items (a - 1) s ∙ is.actors.number; each = each; counted = count };
       run = rw (counts, events) (run-append (opening old.counts) old.history.items (step_events m op) is.run (step_runs m op));
       places = rw counts is.places;
     }
@@ -132,7 +141,6 @@ module _ (old new : Inside) (a : ℕ) (s : ActorState) (c : Command) (is : IsWor
 
   module _ (counts : new.counts ≡ old.counts) (names : new.names ≡ old.names) (files : new.files ≡ old.files) (items : new.actors.items ≡ set old.actors.items (a - 1) s)
       (begins : actor_of s ≡ begun (now.actors a) first c) (none : s.transactions ≡ 0) (told : new.history.items ≡ old.history.items ++ Began first c ∷ []) where
-
     pub begin_grows : life_of new ≡ grown (life_of old) (Began first c ∷ [])
     begin_grows i = record { counts = counts i; history = told i }
 
@@ -166,7 +174,7 @@ module _ (old new : Inside) (a : ℕ) (s : ActorState) (c : Command) (is : IsWor
       names = names ∙ is.names ∙ ap (λ (x : Moment). x.store.names) (sym begun_then);
       files = files ∙ is.files ∙ ap (λ (x : Moment). x.store.files) (sym begun_then);
       actors = record {
-        number = ap length items ∙ grind (arith, is.actors.number);
+        number = ap length items ∙ length-set old.actors.items (a - 1) s ∙ is.actors.number;
         each = begun_each;
         counted = λ b low' high'. begun_counts b (eqb b a) refl low' high' ∙ ap (λ (h : List Event). transactions h (last_op (after now (Began first c)) b)) (sym told) ∙ ap (transactions new.history.items) (sym (begun_last b));
       };
@@ -183,14 +191,16 @@ idle_count : (b : ℕ) → 1 ≤ b → b ≤ 65 → transactions_at (replicate 6
 idle_count b low high = ap (λ (s : ActorState). s.transactions) (get_or-replicate 65 (b - 1) idle_state idle_state (omega (arith, low, high)))
 
 pub start_world : (new : Inside) → HasPlaces new.counts → new.names ≡ root_names → new.files ≡ (opening new.counts).store.files → new.actors.items ≡ replicate 65 idle_state → new.history.items ≡ [] → IsWorld new
-start_world new places names files items told = rw told (record {
-  names = names;
-  files = files;
+start_world new places names files items told = record {
+  names = names ∙ ap (λ (es : List Event). (moment new.counts es).store.names) (sym told);
+  files = files ∙ ap (λ (es : List Event). (moment new.counts es).store.files) (sym told);
   actors = record {
     number = ap length items;
-    each = λ b low high. ap (λ (states : List ActorState). actor_at states b) items ∙ idle_each b low high;
-    counted = λ b low high. ap (λ (states : List ActorState). transactions_at states b) items ∙ idle_count b low high;
+    each = λ b low high. ap (λ (states : List ActorState). actor_at states b) items ∙ idle_each b low high ∙ ap (λ (es : List Event). (moment new.counts es).actors b) (sym told);
+    counted = λ b low high.
+        ap (λ (states : List ActorState). transactions_at states b) items ∙ idle_count b low high
+        ∙ ap (λ (es : List Event). transactions es (last_op (moment new.counts es) b)) (sym told);
   };
-  run = tt;
+  run = subst (λ (es : List Event). RunFrom (opening new.counts) es) (sym told) tt;
   places = places;
-})
+}

@@ -1,6 +1,6 @@
 -- a command that runs goes on by transactions to its end
 use Rattle.std.proofs.Common.{◌≡◌, ◌≢◌, ℕ, zero, suc, ◌+◌, ◌-◌, ◌<◌, ◌≤◌, Bool, true, false, ◌||◌, eqb, if◌then◌else◌, Option, Some, None, is_some, List, [], ◌∷◌, ◌++◌, refl, sym, ap, ◌∙◌, subst, append_assoc, arith}
-use Rattle.std.specs.Prelude.{IsSome}
+use Rattle.std.specs.Prelude.{IsSome, OnErr, Result, Ok, Err}
 use Rattle.std.proofs.lemmas.List.{append-nil}
 use Rattle.tect_ids.specs.declared.ids.Counts.{Counts}
 use Rattle.tect_ids.specs.declared.ids.OpId.{OpId}
@@ -19,6 +19,9 @@ use Rattle.world_runs.specs.Follows.{Acts}
 use Rattle.world_runs.specs.Moments.{Actor, Moment, IsWorldRun, moment, after_all, running, asked, answered, program_of, program_ask, program_answer}
 use Rattle.sound_runs.proofs.RunsKeep.{running_goes_on, running_is_last_begun}
 use Rattle.tect_world.specs.Life.{Life, present, grown, last_op, actor_asks, actor_answer, acted_actor, ended_actor, stepped_actor, transaction, ending, step_answer, step_events}
+use Rattle.tect_world.specs.declared.turned.Turned.{Turned}
+use Rattle.tect_world.specs.declared.turned.Turned.TheVariants.{Going, Done}
+use Rattle.tect_world.specs.Turns.{turned_by}
 use Rattle.tect_world.specs.Steps.{RanToEnd, GoesOn}
 use Rattle.tect_world.proofs.Events.{step_actors, step_number}
 use Rattle.tect_world.proofs.Lives.{present-grown}
@@ -76,8 +79,8 @@ ends_by w v op (Some q) a u goes is = record {
   count = goes.count + 1;
   are_acts = acts_push op q (store_reply (present v).store q) goes.count goes.acts goes.are_acts;
   history = is ∙ ap (λ (x : Life). grown x (Acted op q (store_reply (present v).store q) ∷ Ended op a ∷ [])) goes.history
-    ∙ grown-grown w goes.acts (Acted op q (store_reply (present v).store q) ∷ Ended op a ∷ [])
-    ∙ ap (grown w) (sym (append_assoc goes.acts (Acted op q (store_reply (present v).store q) ∷ []) (Ended op a ∷ [])));
+      ∙ grown-grown w goes.acts (Acted op q (store_reply (present v).store q) ∷ Ended op a ∷ [])
+      ∙ ap (grown w) (sym (append_assoc goes.acts (Acted op q (store_reply (present v).store q) ∷ []) (Ended op a ∷ [])));
 }
 
 pub ran_to_end : (w v u : Life) (op : OpId) (a : Answer) → GoesOn w v op → u ≡ grown v (step_events (present v) op) → step_answer (present v) op ≡ Some a → RanToEnd w u op a
@@ -113,7 +116,9 @@ pub last_kept : (v u : Life) (a : ℕ) → u ≡ grown v (step_events (present v
 last_kept v u a grows i = record { actor = a; number = (ap (λ (x : Moment). (x.actors a).number) (after_step v u a grows) ∙ step_number (present v) (last_op (present v) a) a) i }
 
 own_after : (v u : Life) (a : ℕ) → u ≡ grown v (step_events (present v) (last_op (present v) a)) → (present u).actors a ≡ stepped_actor (present v).counts (present v).store ((present v).actors a) (last_op (present v) a)
-own_after v u a grows = ap (λ (x : Moment). x.actors a) (after_step v u a grows) ∙ grind (arith, step_actors (present v) (last_op (present v) a) a, same a)
+own_after v u a grows =
+    ap (λ (x : Moment). x.actors a) (after_step v u a grows) ∙ step_actors (present v) (last_op (present v) a) a
+    ∙ ap (λ (b : Bool). if b then stepped_actor (present v).counts (present v).store ((present v).actors a) (last_op (present v) a) else (present v).actors a) (same a)
 
 -- how near the running command is to its end
 abbrev pub rank_of : Option Program → ℕ
@@ -130,7 +135,7 @@ nearer_by : (counts : Counts) (s : Store) (st : Actor) (p : Program) (op : OpId)
 nearer_by counts s st p op None is own asks some = absurd (grind (arith, some))
 nearer_by counts s st p op (Some q) is own asks some =
     let phase : phase_ask p.op (object_number p.op.actor st.serial) p.command p.phase ≡ Some q = ap (program_ask st.serial) (sym own) ∙ asks in
-    rw is (record { runs = tt; less = rank_falls (request_place counts q) p.op (object_number p.op.actor st.serial) p.command p.phase (store_reply s q) q phase })
+    rw is (record { runs = refl; less = rank_falls (request_place counts q) p.op (object_number p.op.actor st.serial) p.command p.phase (store_reply s q) q phase })
 
 pub step_nearer : (v u : Life) (a : ℕ) (p : Program) → run_is v → ((present v).actors a).running ≡ Some p → u ≡ grown v (step_events (present v) (last_op (present v) a))
     → step_answer (present v) (last_op (present v) a) ≡ None → Nearer ((present v).actors a).running ((present u).actors a).running
@@ -140,3 +145,61 @@ step_nearer v u a p run is grows none =
     let near = nearer_by (present v).counts (present v).store st p op (actor_asks st op) is (own_program v a p run is) refl (step_asks v a p run is none) in
     let stays : stepped_actor (present v).counts (present v).store st op ≡ ended_actor (acted_actor (present v).counts (present v).store st (actor_asks st op)) None = ap (ended_actor (acted_actor (present v).counts (present v).store st (actor_asks st op))) none in
     subst (λ (x : Actor). Nearer st.running x.running) (sym (own_after v u a grows ∙ stays)) near
+
+-- ---- the loop of a run
+
+pub record Goes (w v : Life) (a : ℕ) : Type 0 where
+  pub going : GoesOn w v (last_op (present w) a)
+  pub last : last_op (present v) a ≡ last_op (present w) a
+  pub running : IsSome ((present v).actors a).running
+  pub run : run_is v
+
+some_of : {X : Type 0} (o : Option X) → IsSome o → (x : X) × (o ≡ Some x)
+some_of (Some x) is = (x, refl)
+some_of None is = absurd (grind (arith, is))
+
+not_done : (o : Option Answer) → turned_by o ≡ Going → o ≡ None
+not_done None is = refl
+not_done (Some a) is = absurd (grind (arith, is))
+
+is_done : (o : Option Answer) (a : Answer) → turned_by o ≡ Done a → o ≡ Some a
+is_done None a is = absurd (grind (arith, is))
+is_done (Some b) a is = grind (arith, is)
+
+pub goes_first : (w : Life) (a : ℕ) → run_is w → IsSome ((present w).actors a).running → Goes w w a
+goes_first w a run running = record { going = goes_none w (last_op (present w) a); last = refl; running = running; run = run }
+
+module _ (w v u : Life) (a : ℕ) (t : Turned) (goes : Goes w v a) (grows : u ≡ grown v (step_events (present v) (last_op (present v) a))) (turned : t ≡ turned_by (step_answer (present v) (last_op (present v) a))) where
+  own : (p : Program) × (((present v).actors a).running ≡ Some p)
+  own = some_of _ goes.running
+
+  to_here : GoesOn w v (last_op (present v) a)
+  to_here = subst (GoesOn w v) (sym goes.last) goes.going
+
+  module _ (still : t ≡ Going) where
+    none : step_answer (present v) (last_op (present v) a) ≡ None
+    none = not_done _ (sym turned ∙ still)
+
+    near : Nearer ((present v).actors a).running ((present u).actors a).running
+    near = step_nearer v u a own.0 goes.run own.1 grows none
+
+    pub goes_on : run_is u → Goes w u a
+    goes_on run = record {
+      going = subst (GoesOn w u) goes.last (goes_more w v u a own.0 goes.run own.1 to_here grows none);
+      last = last_kept v u a grows ∙ goes.last;
+      running = near.runs;
+      run = run;
+    }
+
+    pub goes_nearer : rank_of ((present u).actors a).running < rank_of ((present v).actors a).running
+    goes_nearer = near.less
+
+  pub goes_to_end : (x : Answer) → t ≡ Done x → RanToEnd w u (last_op (present w) a) x
+  goes_to_end x done = subst (λ (op : OpId). RanToEnd w u op x) goes.last (ran_to_end w v u (last_op (present v) a) x to_here grows (is_done _ x (sym turned ∙ done)))
+
+pub goes_nowhere : (w v u : Life) (a : ℕ) → Goes w v a → u ≡ v → GoesOn w u (last_op (present w) a)
+goes_nowhere w v u a goes is = subst (λ (x : Life). GoesOn w x (last_op (present w) a)) (sym is) goes.going
+
+pub on_err_any : {T E P : Type 0} (r : Result T E) → P → OnErr r P
+on_err_any (Ok x) p = tt
+on_err_any (Err e) p = p

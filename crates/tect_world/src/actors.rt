@@ -37,7 +37,7 @@ pub fn idle_actors(alloc: Global) -> Result<Vec<ActorState>, NoMemory>
     ensures { IfOk result (λ actors. actors.items ≡ replicate 65 idle_state) }
 {
     let mut actors = Vec::new(alloc);
-    'each: for _ in 0..ACTORS {
+    'each: for _made in 0..ACTORS {
         match actors.push(idle()) {
             Ok(()) => {}
             Err(_) => return Err(NoMemory),

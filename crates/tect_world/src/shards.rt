@@ -46,11 +46,7 @@ pub fn place_in(counts: &Counts, req: &AnyReq) -> Place
 }
 
 /// What the store would reply. It changes nothing.
-pub fn reply_of(
-    names: &NameShard,
-    files: &FileShard,
-    req: &AnyReq,
-) -> Result<AnyReply, NoMemory>
+pub fn reply_of(names: &NameShard, files: &FileShard, req: &AnyReq) -> Result<AnyReply, NoMemory>
     ensures { IfOk result (λ reply. reply ≡ store_reply (record { names = names.now; files = files.now }) req.now) }
 {
     match req {
@@ -60,11 +56,7 @@ pub fn reply_of(
 }
 
 /// Does the request at its shard. For want of memory nothing is changed.
-pub fn commit(
-    names: &mut NameShard,
-    files: &mut FileShard,
-    req: &AnyReq,
-) -> Result<(), NoMemory>
+pub fn commit(names: &mut NameShard, files: &mut FileShard, req: &AnyReq) -> Result<(), NoMemory>
     ensures names { OnOk result (names.new ≡ (store_step (record { names = names.old; files = files.old }) req.now).names) }
     ensures files { OnOk result (files.new ≡ (store_step (record { names = names.old; files = files.old }) req.now).files) }
     ensures err { OnErr result ((names.new ≡ names.old) × (files.new ≡ files.old)) }

@@ -24,11 +24,20 @@ use world_runs::Event;
 pub fn push_event(history: &mut Vec<Event>, event: Event)
     requires { vec_len history.old < vec_capacity history.old }
     ensures items { history.new.items ≡ history.old.items ++ event ∷ [] }
-    ensures room { vec_capacity history.new ≡ vec_capacity history.old }
+    ensures room { vec_capacity history.old ≤ vec_capacity history.new }
 {
     if history.push(event).is_err() {
         unreachable!()
     }
+}
+
+/// The actor's next command begins.
+pub fn begin_program(state: &mut ActorState, program: Program)
+    ensures { state.new ≡ record state.old { number = program.op.number; running = Some program; transactions = 0 } }
+{
+    state.number = program.op.number;
+    state.running = Some(program);
+    state.transactions = 0;
 }
 
 /// The number of the next object that the actor makes.
@@ -71,7 +80,8 @@ fn transact(
     requires places { HasPlaces counts.now }
     ensures reply { IfOk result (λ done. done.reply ≡ store_reply (record { names = names.old; files = files.old }) req.now) }
     ensures next { IfOk result (λ done. done.next ≡ record program.now {
-        phase = phase_hear (request_place counts.now req.now) program.now.op number program.now.command program.now.phase done.reply }) }
+      phase = phase_hear (request_place counts.now req.now) program.now.op number program.now.command program.now.phase done.reply;
+    }) }
     ensures answer { IfOk result (λ done. (done.answer ≡ phase_answer done.next.phase) × (done.told ≡ phase_answer done.next.phase)) }
     ensures store { OnOk result (record { names = names.new; files = files.new } ≡ store_step (record { names = names.old; files = files.old }) req.now) }
     ensures err { OnErr result ((names.new ≡ names.old) × (files.new ≡ files.old)) }

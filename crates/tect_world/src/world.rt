@@ -9,7 +9,7 @@ ghost use Rattle.tect_world.specs.Steps.{RanToEnd, GoesOn};
 ghost use Rattle.tect_world.specs.Turns.{turned_by};
 
 use crate::actors::{ActorState, idle_actors};
-use crate::steps::{push_event, step_actor};
+use crate::steps::{begin_program, push_event, step_actor};
 use crate::turned::Turned;
 use file_shard::FileShard;
 use name_shard::NameShard;
@@ -79,9 +79,7 @@ impl World {
             number: state.number + 1,
         };
         let program = Program::start(self.alloc, op, command)?;
-        state.number = op.number;
-        state.running = Some(program);
-        state.transactions = 0;
+        begin_program(state, program);
         push_event(&mut self.history, Event::Began { op, command: kept });
         Ok(())
     }
