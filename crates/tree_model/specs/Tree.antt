@@ -3,8 +3,6 @@ use Rattle.std.specs.Prelude.{◌≡◌, ℕ, Bool, true, false, not, List, Opti
 use Rattle.std.specs.FinMap.{FinMap, empty, get, len, entries}
 use Rattle.ordered_rows.specs.Maps.{set_at}
 use Rattle.tect_ids.specs.declared.ids.DirId.{DirId}
-use Rattle.tect_ids.specs.declared.ids.FileId.{FileId}
-use Rattle.tect_ids.specs.declared.ids.OpId.{OpId}
 use Rattle.tect_ids.specs.declared.ids.Node.{Node}
 use Rattle.tect_ids.specs.declared.ids.Node.TheVariants.{Dir, File}
 use Rattle.tect_ids.specs.declared.key.Key.{Key}
@@ -19,7 +17,6 @@ use Rattle.tree_model.specs.declared.step.TreeDir.{TreeDir}
 use Rattle.tree_model.specs.declared.step.TreeFile.{TreeFile}
 use Rattle.tree_model.specs.declared.step.TreeStep.{TreeStep}
 use Rattle.tree_model.specs.declared.step.TreeStep.TheVariants as step
-use Rattle.tree_model.specs.declared.step.Shown.{Shown}
 use Rattle.tree_model.specs.declared.step.Shown.TheVariants as shown
 use Rattle.tree_model.specs.declared.step.Refusal.{Refusal}
 use Rattle.tree_model.specs.declared.step.Refusal.TheVariants.{NoDir, NoName, NoFile, Exists, IsDir, Sealed, Full, Changed}

@@ -3,5 +3,7 @@
 #![tactic(auto)]
 
 mod step;
+mod tree;
 
 pub use step::{Refusal, Shown, TreeDir, TreeFile, TreeReply, TreeStep};
+pub use tree::Tree;
