@@ -66,10 +66,15 @@ last (commands.Delete p) = last_name p
 last (commands.Rename p to) = last_name p
 last _ = []
 
--- the name that a rename gives
-abbrev pub new_name : Command → List ℕ
-new_name (commands.Rename p to) = last_name to
-new_name _ = []
+-- the path whose last name a rename gives
+abbrev pub new_path : Command → List (List ℕ)
+new_path (commands.Rename p to) = to
+new_path _ = []
+
+-- the last name, if there is one
+abbrev pub at_last : {X : Type 0} → List (List ℕ) → (List ℕ → X) → Option X
+at_last [] f = None
+at_last (n ∷ ns) f = Some (f (last_name (n ∷ ns)))
 
 -- a command's first own request, in the directory d to which its walk led; the number is the next object's
 abbrev pub look_ask : DirId → List (List ℕ) → AnyReq
@@ -79,10 +84,10 @@ look_ask d (n ∷ ns) = any.Name (names.Look (key_in d (last_name (n ∷ ns))))
 abbrev pub first_ask : OpId → ℕ → DirId → Command → Option AnyReq
 first_ask op number d (commands.Look p) = Some (look_ask d p)
 first_ask op number d (commands.List p) = Some (any.Name (names.List d))
-first_ask op number d (commands.Create p) = Some (any.File (files.MakeFile record { 0 = number } (own_hold op) (key_in d (last_name p)) None))
-first_ask op number d (commands.Mkdir p) = Some (any.Name (names.MakeDir record { 0 = number } d (own_hold op) (key_in d (last_name p))))
-first_ask op number d (commands.Delete p) = Some (any.Name (names.Unbind (key_in d (last_name p)) AnyFile))
-first_ask op number d (commands.Rename p to) = Some (any.Name (names.Look (key_in d (last_name p))))
+first_ask op number d (commands.Create p) = at_last p (λ n. any.File (files.MakeFile record { 0 = number } (own_hold op) (key_in d n) None))
+first_ask op number d (commands.Mkdir p) = at_last p (λ n. any.Name (names.MakeDir record { 0 = number } d (own_hold op) (key_in d n)))
+first_ask op number d (commands.Delete p) = at_last p (λ n. any.Name (names.Unbind (key_in d n) AnyFile))
+first_ask op number d (commands.Rename p to) = at_last p (λ n. any.Name (names.Look (key_in d n)))
 first_ask op number d _ = None
 
 abbrev pub grant_ask : Node → Hold → Key → AnyReq
@@ -98,8 +103,8 @@ abbrev pub phase_ask : OpId → ℕ → Command → Phase → Option AnyReq
 phase_ask op number c (Walk d (n ∷ ns)) = Some (any.Name (names.Look (key_in d n)))
 phase_ask op number c (Walk d []) = first_ask op number d c
 phase_ask op number c (Bind k n o) = Some (any.Name (names.Bind k n (own_hold op) o))
-phase_ask op number c (Grant k n) = Some (grant_ask n (own_hold op) (key_in k.dir (new_name c)))
-phase_ask op number c (Swap k n) = Some (any.Name (names.Swap k.dir k.name (new_name c) n (own_hold op)))
+phase_ask op number c (Grant k n) = at_last (new_path c) (λ to. grant_ask n (own_hold op) (key_in k.dir to))
+phase_ask op number c (Swap k n) = at_last (new_path c) (λ to. any.Name (names.Swap k.dir k.name to n (own_hold op)))
 phase_ask op number c (Release n h old x) = Some (release_ask n h)
 phase_ask op number c (End x) = None
 
@@ -123,6 +128,11 @@ abbrev pub refusal : Place → Key → AnyReply → Answer
 refusal place k (any_reply.Name x) = name_refusal place k x
 refusal place k (any_reply.File x) = file_refusal place x
 
+-- the same of a request that concerns a directory and none of its entries
+abbrev pub dir_refusal : Place → AnyReply → Answer
+dir_refusal place (any_reply.Name name_replies.NoDir) = answers.NoDir
+dir_refusal place _ = answers.Odd place
+
 -- a look on the way
 abbrev pub walked : Place → Key → List (List ℕ) → AnyReply → Option Node → Phase
 walked place k ns x None = End (refusal place k x)
@@ -135,15 +145,15 @@ looked place k x (Some n) = End (answers.Found n)
 
 abbrev pub checked : Place → DirId → AnyReply → Bool → Phase
 checked place d x true = End (answers.Found (nodes.Dir d))
-checked place d x false = End (refusal place (key_in d []) x)
+checked place d x false = End (dir_refusal place x)
 
 abbrev pub look_heard : Place → DirId → List (List ℕ) → AnyReply → Phase
 look_heard place d [] x = checked place d x (is_some (as_parent x))
 look_heard place d (n ∷ ns) x = looked place (key_in d (last_name (n ∷ ns))) x (as_found x)
 
-abbrev pub entries_heard : Place → DirId → AnyReply → Option (List Listed) → Phase
-entries_heard place d x None = End (refusal place (key_in d []) x)
-entries_heard place d x (Some items) = End (answers.Entries items)
+abbrev pub entries_heard : Place → AnyReply → Option (List Listed) → Phase
+entries_heard place x None = End (dir_refusal place x)
+entries_heard place x (Some items) = End (answers.Entries items)
 
 abbrev pub made_heard : Place → Key → Node → Over → AnyReply → Phase
 made_heard place k n o x = if is_made x then Bind k n o else End (refusal place k x)
@@ -156,13 +166,18 @@ abbrev pub source_heard : Place → Key → List ℕ → AnyReply → Option Nod
 source_heard place k to x None = End (refusal place k x)
 source_heard place k to x (Some n) = if name_eq k.name to then End answers.Done else Grant k n
 
+-- how a command goes on that has a last name; one that has none asks nothing
+abbrev pub hear_at : Place → DirId → List (List ℕ) → (Key → Phase) → Phase
+hear_at place d [] f = End (answers.Odd place)
+hear_at place d (n ∷ ns) f = f (key_in d (last_name (n ∷ ns)))
+
 abbrev pub first_hear : Place → ℕ → DirId → Command → AnyReply → Phase
 first_hear place number d (commands.Look p) x = look_heard place d p x
-first_hear place number d (commands.List p) x = entries_heard place d x (as_listing x)
-first_hear place number d (commands.Create p) x = made_heard place (key_in d (last_name p)) (nodes.File record { 0 = number }) over.File x
-first_hear place number d (commands.Mkdir p) x = made_heard place (key_in d (last_name p)) (nodes.Dir record { 0 = number }) over.Absent x
-first_hear place number d (commands.Delete p) x = unbound_heard place (key_in d (last_name p)) x (as_unbound x)
-first_hear place number d (commands.Rename p to) x = source_heard place (key_in d (last_name p)) (last_name to) x (as_found x)
+first_hear place number d (commands.List p) x = entries_heard place x (as_listing x)
+first_hear place number d (commands.Create p) x = hear_at place d p (λ k. made_heard place k (nodes.File record { 0 = number }) over.File x)
+first_hear place number d (commands.Mkdir p) x = hear_at place d p (λ k. made_heard place k (nodes.Dir record { 0 = number }) over.Absent x)
+first_hear place number d (commands.Delete p) x = hear_at place d p (λ k. unbound_heard place k x (as_unbound x))
+first_hear place number d (commands.Rename p to) x = hear_at place d p (λ k. source_heard place k (last_name to) x (as_found x))
 first_hear place number d _ x = End (answers.Odd place)
 
 -- the hold of a file that was replaced is released before the answer

@@ -3,6 +3,7 @@
 #![tactic(auto)]
 
 mod ask;
+mod copies;
 mod hear;
 mod paths;
 mod program;

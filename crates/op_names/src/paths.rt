@@ -1,5 +1,6 @@
-ghost use Rattle.std.specs.Prelude.{◌≡◌, IfOk, drop};
+ghost use Rattle.std.specs.Prelude.{◌≡◌, IfOk, drop, List, ℕ, Option, Some, None};
 ghost use Rattle.op_names.specs.Paths.{but_last, last_name};
+ghost use Rattle.op_names.specs.Programs.{at_last};
 ghost use Rattle.store_rules.specs.Names.{key_in};
 
 use std::alloc::Global;
@@ -31,4 +32,24 @@ pub fn key_at(alloc: Global, dir: DirId, name: &Name) -> Result<Key, NoMemory>
 {
     let name = name.copy(alloc)?;
     Ok(Key { dir, name })
+}
+
+/// The last name of the path, where it has one.
+pub fn last_of(alloc: Global, path: &Path) -> Result<Option<Name>, NoMemory>
+    ensures { IfOk result (λ name. name ≡ at_last path.now (λ name. name)) }
+{
+    match path.as_slice() {
+        [.., name] => Ok(Some(name.copy(alloc)?)),
+        [] => Ok(None),
+    }
+}
+
+/// Where the last name of the path stands in the directory, if there is one.
+pub fn last_key(alloc: Global, dir: DirId, path: &Path) -> Result<Option<Key>, NoMemory>
+    ensures { IfOk result (λ key. key ≡ at_last path.now (λ name. key_in dir name)) }
+{
+    match path.as_slice() {
+        [.., name] => Ok(Some(key_at(alloc, dir, name)?)),
+        [] => Ok(None),
+    }
 }

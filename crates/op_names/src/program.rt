@@ -1,4 +1,5 @@
 ghost use Rattle.std.specs.Prelude.{◌≡◌, IfOk, OnOk, OnErr};
+ghost use Rattle.std.specs.Option.{option_copied};
 ghost use Rattle.op_names.specs.Paths.{but_last};
 ghost use Rattle.op_names.specs.Programs.{first_phase, from_root};
 
@@ -10,16 +11,29 @@ use store_rules::{AnyReply, AnyReq, Replaced};
 use tect_ids::{Answer, Command, DirId, Hold, Key, NoMemory, Node, OpId, Over, Path, Place, ROOT};
 
 /// Where a running command stands.
-#[derive(Debug, Drop)]
+#[derive(Drop)]
 pub enum Phase {
     /// The names in `rest` are still to be looked up, from `dir` on. Without one the command's own first request comes.
-    Walk { dir: DirId, rest: Path },
+    Walk {
+        dir: DirId,
+        rest: Path,
+    },
     /// What was made is to be bound.
-    Bind { key: Key, node: Node, over: Over },
+    Bind {
+        key: Key,
+        node: Node,
+        over: Over,
+    },
     /// A hold for the new name is to be granted at the node.
-    Grant { key: Key, node: Node },
+    Grant {
+        key: Key,
+        node: Node,
+    },
     /// The node is to get its new name.
-    Swap { key: Key, node: Node },
+    Swap {
+        key: Key,
+        node: Node,
+    },
     /// The hold is to be released at the node, and then the one of the file that was replaced.
     Release {
         node: Node,
@@ -28,11 +42,13 @@ pub enum Phase {
         answer: Answer,
     },
     /// The command has its answer.
-    End { answer: Answer },
+    End {
+        answer: Answer,
+    },
 }
 
 /// A running command.
-#[derive(Debug, Drop)]
+#[derive(Drop)]
 pub struct Program {
     pub op: OpId,
     pub command: Command,
@@ -58,6 +74,16 @@ impl Program {
         ask_of(alloc, self.op, number, &self.command, &self.phase)
     }
 
+    /// The answer that the command has come to, if it has.
+    pub fn answer(&self) -> Option<&Answer>
+        ensures { option_copied result ≡ phase_answer self.now.phase }
+    {
+        match &self.phase {
+            Phase::End { answer } => Some(answer),
+            _ => None,
+        }
+    }
+
     /// Goes on at the reply to that request, which was made at that place. For want of memory the program stays as it
     /// was.
     pub fn hear(
@@ -68,7 +94,8 @@ impl Program {
         reply: &AnyReply,
     ) -> Result<(), NoMemory>
         ensures ok { OnOk result (self.new ≡ record self.old {
-            phase = phase_hear place self.old.op number self.old.command self.old.phase reply.now }) }
+          phase = phase_hear place self.old.op number self.old.command self.old.phase reply.now;
+        }) }
         ensures err { OnErr result (self.new ≡ self.old) }
     {
         self.phase = next_phase(

@@ -1,5 +1,5 @@
 ghost use Rattle.std.specs.Prelude.{◌≡◌, IfOk};
-ghost use Rattle.op_names.specs.Programs.{refusal, name_refusal, file_refusal};
+ghost use Rattle.op_names.specs.Programs.{refusal, name_refusal, file_refusal, dir_refusal};
 
 use std::alloc::Global;
 use store_rules::{AnyReply, FileReply, NameReply};
@@ -50,5 +50,15 @@ pub fn refusal_of(
     match reply {
         AnyReply::Name(reply) => name_refusal_of(alloc, place, key, reply),
         AnyReply::File(reply) => Ok(file_refusal_of(place, reply)),
+    }
+}
+
+/// The answer that a refusal makes of a request that concerned a directory and none of its entries.
+pub fn dir_refusal_of(place: Place, reply: &AnyReply) -> Answer
+    ensures { result ≡ dir_refusal place reply.now }
+{
+    match reply {
+        AnyReply::Name(NameReply::NoDir) => Answer::NoDir,
+        _ => Answer::Odd { place },
     }
 }

@@ -1,7 +1,8 @@
 //! The outside of the store: where bytes come from and go to, each with a count of faults.
 //!
-//! A [`Source`] gives bytes and a [`Sink`] takes them. Each may tell, to contracts, which bytes: a source those
-//! that are left, a sink those that were written. A call that fails moves no byte and raises the count of faults.
+//! A [`Source`] gives bytes and a [`Sink`] takes them. Each may tell contracts which bytes: a source those that
+//! are left, a sink those that were written. A call that fails moves no byte and raises the count of faults.
+//! Where they are not told, contracts say nothing about them.
 //!
 //! | Type | What it is |
 //! |---|---|

@@ -23,7 +23,12 @@ impl Model for BytesSink {
 
     ghost Value = { ScriptedSink };
 
-    ghost view = { λ s. record { written = s.bytes.items; calls = s.calls; failing = s.failing.items; faults = s.faults } };
+    ghost view = { λ s. record {
+      written = s.bytes.items;
+      calls = s.calls;
+      failing = s.failing.items;
+      faults = s.faults;
+    } };
 }
 
 impl BytesSink {

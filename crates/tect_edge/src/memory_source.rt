@@ -59,7 +59,12 @@ impl Model for BytesSource {
 
     ghost Value = { ScriptedSource };
 
-    ghost view = { λ s. record { left = s.unread; calls = s.calls; failing = s.failing.items; faults = s.faults } };
+    ghost view = { λ s. record {
+      left = s.unread;
+      calls = s.calls;
+      failing = s.failing.items;
+      faults = s.faults;
+    } };
 }
 
 impl BytesSource {

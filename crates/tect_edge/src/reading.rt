@@ -28,11 +28,14 @@ fn read_more<S: Source>(
 ) -> Result<usize, ReadFault>
     requires within { vec_len bytes.old ≤ limit }
     requires some { 0 < length chunk.old }
-    ensures appended { IfOk result (λ n. (front : List ℕ) × (length front ≡ n) × (bytes.new.items ≡ bytes.old.items ++ front)
-        × Consumes (S.left source.old) (S.left source.new) front) }
+    ensures appended { IfOk result (λ n. (front : List ℕ)
+        × Consumes (S.left source.old) (S.left source.new) front
+        × (bytes.new.items ≡ bytes.old.items ++ front) × (length front ≡ n)) }
     ensures end { result ≡ Ok 0 → IsAtEnd (S.left source.new) }
     ensures bound { IfOk result (λ n. vec_len bytes.old + n ≤ limit + 1) }
-    ensures taken { (front : List ℕ) × Consumes (S.left source.old) (S.left source.new) front × (vec_len bytes.old + length front ≤ limit + 1) }
+    ensures taken { (front : List ℕ)
+        × Consumes (S.left source.old) (S.left source.new) front
+        × (vec_len bytes.old + length front ≤ limit + 1) }
     ensures call { S.calls source.new ≡ next_count (S.calls source.old) }
     ensures cause { HasReadCause (S.faults source.old) (S.faults source.new) result }
 {
@@ -57,14 +60,15 @@ pub fn read_input<S: Source>(
     source: &mut S,
 ) -> Result<Option<Vec<u8>>, ReadFault>
     ensures whole { IfOk result (λ found. IfSome found (λ bytes.
-        Consumes (S.left source.old) (S.left source.new) bytes.items × IsAtEnd (S.left source.new) × (length bytes.items ≤ limit)
+        Consumes (S.left source.old) (S.left source.new) bytes.items
+        × IsAtEnd (S.left source.new) × (length bytes.items ≤ limit)
         × (S.calls source.new ≤ S.calls source.old + length bytes.items + 1))) }
-    ensures long { result ≡ Ok None → (front : List ℕ) ×
-        Consumes (S.left source.old) (S.left source.new) front × (length front ≡ limit + 1)
+    ensures long { result ≡ Ok None → (front : List ℕ)
+        × Consumes (S.left source.old) (S.left source.new) front × (length front ≡ limit + 1)
         × (S.calls source.new ≤ S.calls source.old + length front) }
-    ensures taken { (front : List ℕ) × Consumes (S.left source.old) (S.left source.new) front × (length front ≤ limit + 1)
+    ensures taken { (front : List ℕ)
+        × Consumes (S.left source.old) (S.left source.new) front × (length front ≤ limit + 1)
         × (S.calls source.new ≤ S.calls source.old + length front + 1) }
-
     ensures cause { HasReadCause (S.faults source.old) (S.faults source.new) result }
 {
     let mut bytes = Vec::new(alloc);
