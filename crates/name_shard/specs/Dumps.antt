@@ -1,5 +1,5 @@
 -- What a dump of a name shard says: the directories by identifier, each followed by its entries by name.
-use Rattle.std.specs.Prelude.{List, ◌∷◌, map, Bool, true, false, None}
+use Rattle.std.specs.Prelude.{List, ◌∷◌, map, None, if◌then◌else◌}
 use Rattle.std.specs.List.{flat_map}
 use Rattle.std.specs.FinMap.{entries, len}
 use Rattle.tect_ids.specs.declared.ids.DirId.{DirId}
@@ -14,11 +14,7 @@ use Rattle.store_rules.specs.declared.names.Entry.{Entry}
 use Rattle.store_rules.specs.Names.{Names}
 
 abbrev pub dir_state : Directory → DirState
-dir_state d = sealed_state d.sealed
-  where
-    sealed_state : Bool → DirState
-    sealed_state true = state.Sealed
-    sealed_state false = state.Open
+dir_state d = if d.sealed then state.Sealed else state.Open
 
 abbrev pub dir_line : Names → DirId × Directory → DumpLine
 dir_line s x = line.Dir x.0 (x.1).parent (dir_state x.1) (len (within s.entries x.0)) (len (x.1).holds) None

@@ -3,6 +3,7 @@
 
 mod bindings;
 mod directories;
+mod dump;
 mod outcome;
 mod readings;
 mod shard;

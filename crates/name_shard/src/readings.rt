@@ -50,7 +50,7 @@ impl NameShard {
     fn listed(&self, dir: DirId) -> Result<Items<Listed>, NoMemory>
         ensures { IfOk result (λ items. items ≡ map listed (entries (within self.now.entries dir))) }
     {
-        let mut items = Vec::new(self.alloc);
+        let mut items = Vec::with_capacity(self.alloc, self.entries.count(dir) as usize)?;
         for (key, entry) in self.entries.within(dir) {
             items.push(Listed {
                 name: key.name.copy(self.alloc)?,
