@@ -1,4 +1,7 @@
 //! Pairs in the order of their keys.
+//!
+//! A call compares a number of keys that grows as the logarithm of the number of pairs. A put of a new key and a take
+//! also move the pairs behind it.
 #![tactic(auto)]
 
 mod by_id;

@@ -1,4 +1,4 @@
-ghost use Rattle.std.specs.Prelude.{◌≡◌, ◌<◌, length, option_map, slice_get, drop};
+ghost use Rattle.std.specs.Prelude.{◌≡◌, length};
 ghost use Rattle.ordered_rows.specs.Pairs.{pairs, pair_of};
 ghost use Rattle.std.specs.Iterator.{YieldsFirstBy, at_most};
 

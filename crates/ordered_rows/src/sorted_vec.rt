@@ -3,7 +3,7 @@ ghost use Rattle.std.specs.Option.{option_copied, option_copied_mut};
 ghost use Rattle.std.specs.FinMap.{find, put};
 ghost use Rattle.std.specs.Fn.{FnReturnsAt};
 ghost use Rattle.std.specs.Borrow.{LendsIf, sem};
-ghost use Rattle.ordered_rows.specs.Pairs.{pairs, pair_of, IsRising, without, pairs_after, pairs_past, Tests, IsDownwardClosed};
+ghost use Rattle.ordered_rows.specs.Pairs.{pairs, pair_of, IsRising, without, pairs_after, pairs_past, ComputesTest, IsDownwardClosed};
 ghost use Rattle.ordered_rows.specs.Places.{IsAt, IsGap};
 ghost use Rattle.ordered_rows.specs.contracts.sorted_vec.Rows.{the_row};
 
@@ -149,7 +149,7 @@ impl<K: Ord, V> Rows<K, V> {
     where
         P: Drop,
         requires { P.IsAlwaysCallable test }
-        ensures rest { (p : K → Bool) → Tests P.Fn test p → IsDownwardClosed K.cmp p → pairs result ≡ pairs_past p (pairs self.now) }
+        ensures rest { (p : K → Bool) → ComputesTest P.Fn test p → IsDownwardClosed K.cmp p → pairs result ≡ pairs_past p (pairs self.now) }
         ensures rising { IsRising K.cmp (pairs self.now) }
     {
         let start = self.items.partition_point(
