@@ -5,8 +5,8 @@ ghost use Rattle.std.specs.Iterator.{YieldsFirstBy, at_most};
 use std::iter::Iterator;
 use std::marker::Model;
 
-/// What is left of a way over pairs, in the order of their keys.
-#[derive(Drop)]
+/// The pairs that are left to go over, in the order of their keys.
+#[derive(Debug, Drop)]
 pub struct Cursor<'a, K, V> {
     rest: &'a [(K, V)],
 }

@@ -3,7 +3,7 @@ ghost use Rattle.std.specs.Option.{option_copied, option_copied_mut};
 ghost use Rattle.std.specs.FinMap.{find, put};
 ghost use Rattle.std.specs.Fn.{FnReturnsAt};
 ghost use Rattle.std.specs.Borrow.{LendsIf, sem};
-ghost use Rattle.ordered_rows.specs.Pairs.{pairs, IsRising, without, pairs_after, pairs_past, Tests, IsDownwardClosed};
+ghost use Rattle.ordered_rows.specs.Pairs.{pairs, pair_of, IsRising, without, pairs_after, pairs_past, Tests, IsDownwardClosed};
 ghost use Rattle.ordered_rows.specs.Places.{IsAt, IsGap};
 ghost use Rattle.ordered_rows.specs.contracts.sorted_vec.Rows.{the_row};
 
@@ -13,7 +13,7 @@ use std::marker::Model;
 use std::mem;
 
 /// Pairs with strictly rising keys.
-#[derive(Drop)]
+#[derive(Debug, Drop)]
 pub struct Rows<K: Ord, V> {
     items: Vec<(K, V)>,
 }
@@ -47,6 +47,7 @@ impl<K: Ord, V> Rows<K, V> {
         self.items.len()
     }
 
+    /// Whether there are no pairs. It takes no memory.
     pub fn is_empty(&self) -> bool
         ensures empty { result ≡ (length (pairs self.now) == 0) }
         ensures rising { IsRising K.cmp (pairs self.now) }
@@ -117,7 +118,7 @@ impl<K: Ord, V> Rows<K, V> {
 
     /// The first pair, or the first whose key is greater than `after`. It takes no memory.
     pub fn first_after(&self, after: Option<&K>) -> Option<(&K, &V)>
-        ensures first { option_map (λ pair. (pair.0.now, pair.1.now)) result ≡ slice_get (pairs_after K.cmp (option_copied after.entry) (pairs self.now)) 0 }
+        ensures first { option_map pair_of result ≡ slice_get (pairs_after K.cmp (option_copied after.entry) (pairs self.now)) 0 }
         ensures rising { IsRising K.cmp (pairs self.now) }
     {
         self.seek(after).next()

@@ -3,6 +3,7 @@
 
 mod actors;
 mod shards;
+mod steps;
 mod turned;
 mod world;
 

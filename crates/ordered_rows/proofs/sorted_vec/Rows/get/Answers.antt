@@ -1,5 +1,4 @@
 use Rattle.std.proofs.Common.{sym, arith}
-use Rattle.std.proofs.lemmas.List.{get_or_default}
 use Rattle.ordered_rows.proofs.Finds.{find_at, find_gap}
 use Rattle.ordered_rows.proofs.sorted_vec.Rows.get.Goals as goal
 

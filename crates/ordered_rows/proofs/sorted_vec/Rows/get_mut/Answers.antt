@@ -1,5 +1,5 @@
-use Rattle.std.proofs.Common.{◌≡◌, List, sym, ap, ◌∙◌, subst, arith, T, inl, inr, slice_set}
-use Rattle.std.specs.FinMap.{is_sorted, put, find}
+use Rattle.std.proofs.Common.{rules, ◌≡◌, List, sym, ap, ◌∙◌, arith, inr, slice_set}
+use Rattle.std.specs.FinMap.{put, find}
 use Rattle.std.specs.FinMap.Entries.{is_sorted-put}
 use Rattle.ordered_rows.proofs.Finds.{find_at, find_gap, put_at}
 use Rattle.ordered_rows.proofs.sorted_vec.Rows.get_mut.Goals as goal
@@ -11,7 +11,7 @@ returns-in-Ok g c =
     let found = find_at R c.args.key.now es c.in-Ok.i c.index_mut.result.now c.in-Ok.ensures.found in
     let written : (w : g.row.V.Denot) → ◌≡◌ {A = List (g.row.K.Denot × g.row.V.Denot)} (slice_set es c.in-Ok.i (c.index_mut.result.now.0, w)) (put R c.args.key.now w c.args.self.now) =
     λ w. let placed = put_at R c.args.key.now es c.in-Ok.i c.index_mut.result.now w c.in-Ok.ensures.found in grind (arith, c.self.view_is) in
-    ((λ i. inl (c.self-in-Ok-1.given, λ w. written w i)), record { writes_back = tt; value = grind (arith, c.self.view_is); rising = rw c.self.view_is at c.in-Ok.ensures.rising })
+    (search (rules, written), record { writes_back = tt; value = grind (arith, c.self.view_is); rising = rw c.self.view_is at c.in-Ok.ensures.rising })
 
 pub returns-in-Err : goal.returns-in-Err
 returns-in-Err g c = (

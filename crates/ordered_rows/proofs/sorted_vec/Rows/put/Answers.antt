@@ -1,5 +1,4 @@
-use Rattle.std.proofs.Common.{sym, ◌∙◌, ◌≡◌, subst, arith, T, slice_set, OnOk, IfOk, refl}
-use Rattle.std.specs.FinMap.{is_sorted, put}
+use Rattle.std.proofs.Common.{arith}
 use Rattle.std.specs.FinMap.Entries.{is_sorted-put}
 use Rattle.ordered_rows.proofs.Finds.{find_at, find_gap, put_at, put_gap}
 use Rattle.ordered_rows.proofs.sorted_vec.Rows.put.Goals as goal

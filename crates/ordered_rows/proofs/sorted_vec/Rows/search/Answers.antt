@@ -1,4 +1,4 @@
-use Rattle.std.proofs.Common.{rules, ◌≡◌, List, subst}
+use Rattle.std.proofs.Common.{rules}
 use Rattle.std.proofs.lemmas.Fn.{always_returns_same}
 use Rattle.ordered_rows.specs.Pairs.{IsRising}
 use Rattle.ordered_rows.proofs.Finds.{searched}

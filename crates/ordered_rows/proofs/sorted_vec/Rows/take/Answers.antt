@@ -1,7 +1,5 @@
-use Rattle.std.proofs.Common.{sym, ◌∙◌, ◌≡◌, subst, arith, T, not}
-use Rattle.std.specs.Ordering.{eq_by_cmp}
-use Rattle.std.specs.FinMap.{is_sorted}
-use Rattle.std.specs.FinMap.Entries.{where_key, is_sorted-where_key}
+use Rattle.std.proofs.Common.{sym, ◌∙◌, arith}
+use Rattle.std.specs.FinMap.Entries.{is_sorted-where_key}
 use Rattle.ordered_rows.proofs.Finds.{find_at, find_gap, without_at, without_gap}
 use Rattle.ordered_rows.proofs.sorted_vec.Rows.take.Goals as goal
 

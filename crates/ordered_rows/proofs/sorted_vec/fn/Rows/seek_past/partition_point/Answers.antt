@@ -1,4 +1,4 @@
-use Rattle.std.proofs.Common.{rules, refl, of_calls}
+use Rattle.std.proofs.Common.{refl}
 use Rattle.std.proofs.lemmas.Fn.{says_at}
 use Rattle.ordered_rows.proofs.sorted_vec.fn.Rows.seek_past.partition_point.Goals as goal
 

@@ -1,0 +1,4 @@
+pub mod Events
+pub mod Lives
+pub mod Ranks
+pub mod Running

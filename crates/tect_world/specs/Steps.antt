@@ -1,0 +1,37 @@
+-- A step of one actor over the store: from the store s and the actor a to t and b, with its events and its answer.
+use Rattle.std.specs.Prelude.{◌≡◌, ℕ, List, [], ◌∷◌, ◌++◌, Option, Some, None}
+use Rattle.tect_ids.specs.declared.ids.Counts.{Counts}
+use Rattle.tect_ids.specs.declared.ids.OpId.{OpId}
+use Rattle.tect_ids.specs.declared.answer.Answer.{Answer}
+use Rattle.store_rules.specs.declared.any.AnyReq.{AnyReq}
+use Rattle.store_rules.specs.Store.{Store}
+use Rattle.world_runs.specs.declared.event.Event.{Event}
+use Rattle.world_runs.specs.declared.event.Event.TheVariants.{Ended}
+use Rattle.world_runs.specs.Follows.{Acts}
+use Rattle.world_runs.specs.Moments.{Actor}
+use Rattle.tect_world.specs.Life.{Life, grown, actor_asks, actor_answer, actor_events, stepped_actor, stepped_store}
+
+pub record Steps (counts : Counts) (s t : Store) (a b : Actor) (op : OpId) (before later : List Event) (answer : Option Answer) : Type 0 where
+  pub store : t ≡ stepped_store s a op
+  pub actor : b ≡ stepped_actor counts s a op
+  pub events : later ≡ before ++ actor_events counts s a op
+  pub answers : answer ≡ actor_answer counts s a op
+
+-- how many transactions that is
+abbrev pub act_count : Option AnyReq → ℕ
+act_count None = 0
+act_count (Some q) = 1
+
+-- The op goes on by transactions to its end with that answer.
+pub record RanToEnd (old new : Life) (op : OpId) (answer : Answer) : Type 0 where
+  pub acts : List Event
+  pub count : ℕ
+  pub are_acts : Acts op count acts
+  pub history : new ≡ grown old (acts ++ Ended op answer ∷ [])
+
+-- The op goes on by transactions.
+pub record GoesOn (old new : Life) (op : OpId) : Type 0 where
+  pub acts : List Event
+  pub count : ℕ
+  pub are_acts : Acts op count acts
+  pub history : new ≡ grown old acts

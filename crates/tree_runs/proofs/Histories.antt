@@ -1,0 +1,102 @@
+-- histories that grow: their runs, steps, moments, transactions and lines
+use Rattle.std.proofs.Common.{◌≡◌, ◌≢◌, ◌<◌, ◌≤◌, ◌+◌, ℕ, zero, suc, Bool, true, false, cond, if◌then◌else◌, Option, Some, None, List, [], ◌∷◌, ◌++◌, refl, sym, ap, ◌∙◌, arith, append_assoc}
+use Rattle.std.specs.List.{count_by}
+use Rattle.std.proofs.lemmas.List.{append-nil}
+use Rattle.std.proofs.lemmas.List.Sums.{sum_by-append}
+use Rattle.tect_ids.specs.declared.ids.OpId.{OpId}
+use Rattle.tect_ids.specs.declared.answer.Answer.{Answer}
+use Rattle.tect_ids.specs.declared.command.Command.{Command}
+use Rattle.tect_ids.specs.declared.script.ReportLine.{ReportLine}
+use Rattle.tect_ids.specs.Keys.{op_eq}
+use Rattle.tect_ids.proofs.KeyTests.{op_eq_cases}
+use Rattle.store_rules.specs.declared.any.AnyReq.{AnyReq}
+use Rattle.store_rules.specs.declared.any.AnyReply.{AnyReply}
+use Rattle.tree_model.specs.Tree.{Tree}
+use Rattle.world_runs.specs.declared.event.Event.{Event}
+use Rattle.world_runs.specs.declared.event.Event.TheVariants.{Began, Acted, Ended, Stopped}
+use Rattle.world_runs.specs.Moments.{Actor, Moment, May, after, after_all, RunFrom, asked}
+use Rattle.world_runs.specs.TreeSteps.{Told, told_of, tree_steps, tree_after}
+use Rattle.world_runs.specs.Report.{is_act_of, transactions, report_after, lines_at}
+use Rattle.tree_runs.proofs.Tracks.{Tracks, Knows, actor_cases}
+use Rattle.tree_runs.proofs.Runs.{Asks, asks_of, event_tracked}
+
+-- ---- one history after another
+
+pub after_all-append : (m : Moment) (es fs : List Event) → after_all m (es ++ fs) ≡ after_all (after_all m es) fs
+after_all-append m [] fs = refl
+after_all-append m (e ∷ es) fs = after_all-append (after m e) es fs
+
+pub run-front : (m : Moment) (es fs : List Event) → RunFrom m (es ++ fs) → RunFrom m es
+run-front m [] fs r = tt
+run-front m (e ∷ es) fs r = (r.0, run-front (after m e) es fs r.1)
+
+pub run-rest : (m : Moment) (es fs : List Event) → RunFrom m (es ++ fs) → RunFrom (after_all m es) fs
+run-rest m [] fs r = r
+run-rest m (e ∷ es) fs r = run-rest (after m e) es fs r.1
+
+pub run-append : (m : Moment) (es fs : List Event) → RunFrom m es → RunFrom (after_all m es) fs → RunFrom m (es ++ fs)
+run-append m [] fs r q = q
+run-append m (e ∷ es) fs r q = (r.0, run-append (after m e) es fs r.1 q)
+
+pub tree_steps-append : (es fs : List Event) → tree_steps (es ++ fs) ≡ tree_steps es ++ tree_steps fs
+tree_steps-append [] fs = refl
+tree_steps-append (e ∷ es) fs = ap (λ l. told_of e ++ l) (tree_steps-append es fs) ∙ sym (append_assoc (told_of e) (tree_steps es) (tree_steps fs))
+
+pub report-append : (clients : List (List ℕ)) (before es fs : List Event) → report_after clients before (es ++ fs) ≡ report_after clients before es ++ report_after clients (before ++ es) fs
+report-append clients before [] fs = ap (λ l. report_after clients l fs) (sym (append-nil before))
+report-append clients before (e ∷ es) fs =
+    ap (λ l. lines_at clients before e ++ l) (report-append clients (before ++ e ∷ []) es fs)
+    ∙ sym (append_assoc (lines_at clients before e) (report_after clients (before ++ e ∷ []) es) (report_after clients ((before ++ e ∷ []) ++ es) fs))
+    ∙ ap (λ l. report_after clients before (e ∷ es) ++ report_after clients l fs) (append_assoc before (e ∷ []) es)
+
+pub transactions-append : (es fs : List Event) (op : OpId) → transactions (es ++ fs) op ≡ transactions es op + transactions fs op
+transactions-append es fs op = sum_by-append (λ e. cond (is_act_of op e) 1 0) es fs
+
+-- ---- an op that did not begin has no transaction
+
+abbrev pub Quiet : Moment → List Event → Type 0
+Quiet m before = (op : OpId) → (m.actors op.actor).number < op.number → transactions before op ≡ 0
+
+-- the op of an event is its actor's last
+pub record IsLast (m : Moment) (op : OpId) : Type 0 where
+  pub number : op.number ≡ (m.actors op.actor).number
+
+pub acts_last : (m : Moment) (t : Tree) → Tracks m t → (op : OpId) (q : AnyReq) → asked m op ≡ Some q → IsLast m op
+acts_last m t tracks op q e =
+    let a : Asks (m.actors op.actor).running op (m.actors op.actor).serial q = asks_of _ op _ q e in
+    let k : Knows op.actor (m.actors op.actor).number (m.actors op.actor).serial (Some a.program) = rw a.runs at (tracks.knows op.actor) in
+    record { number = rw a.its at k.2 }
+
+-- numbers never fall
+pub numbers_grow : (m : Moment) (e : Event) → May m e → (a : ℕ) → (m.actors a).number ≤ ((after m e).actors a).number
+numbers_grow m (Began op c) may a = actor_cases (λ st. (m.actors a).number ≤ st.number) m.actors op.actor _ a (λ e. rw e (omega (arith, (may.0).next))) (λ d. omega arith)
+numbers_grow m (Acted op q x) may a = actor_cases (λ st. (m.actors a).number ≤ st.number) m.actors op.actor _ a (λ e. rw e (omega arith)) (λ d. omega arith)
+numbers_grow m (Ended op x) may a = actor_cases (λ st. (m.actors a).number ≤ st.number) m.actors op.actor _ a (λ e. rw e (omega arith)) (λ d. omega arith)
+numbers_grow m (Stopped op) may a = actor_cases (λ st. (m.actors a).number ≤ st.number) m.actors op.actor _ a (λ e. rw e (omega arith)) (λ d. omega arith)
+
+not_act : (m : Moment) (t : Tree) (e : Event) → Tracks m t → May m e → (op : OpId) → (m.actors op.actor).number < op.number → is_act_of op e ≡ false
+not_act m t (Acted other q x) tracks may op late = differs (op_eq other op) refl
+  where
+    differs : (b : Bool) → op_eq other op ≡ b → op_eq other op ≡ false
+    differs false e = e
+    differs true e =
+        let same : other ≡ op = grind (arith, op_eq_cases other op) in
+        let last : other.number ≡ (m.actors other.actor).number = (acts_last m t tracks other q may.0).number in
+        let now : op.number ≡ (m.actors op.actor).number = rw same at last in
+        absurd (omega arith)
+not_act m t (Began other c) tracks may op late = refl
+not_act m t (Ended other x) tracks may op late = refl
+not_act m t (Stopped other) tracks may op late = refl
+
+pub quiet_more : (m : Moment) (t : Tree) (before : List Event) (e : Event) → Tracks m t → Quiet m before → May m e → Quiet (after m e) (before ++ e ∷ [])
+quiet_more m t before e tracks quiet may op late =
+    let old : (m.actors op.actor).number < op.number = omega (arith, numbers_grow m e may op.actor) in
+    let none : transactions (e ∷ []) op ≡ 0 = rw (not_act m t e tracks may op old) refl in
+    transactions-append before (e ∷ []) op ∙ omega (arith, quiet op old, none)
+
+pub quiet_run : (m : Moment) (t : Tree) (before es : List Event) → Tracks m t → Quiet m before → RunFrom m es → Quiet (after_all m es) (before ++ es)
+quiet_run m t before [] tracks quiet run = rw append-nil quiet
+quiet_run m t before (e ∷ es) tracks quiet run =
+    let more : Quiet (after_all (after m e) es) ((before ++ e ∷ []) ++ es) =
+    quiet_run (after m e) (tree_after t (told_of e)) (before ++ e ∷ []) es (event_tracked m t e tracks run.0).0 (quiet_more m t before e tracks quiet run.0) run.1 in
+    rw (append_assoc before (e ∷ []) es) at more

@@ -1,0 +1,13 @@
+pub mod ValuesSeen
+pub mod RequestsShow
+pub mod Tracks
+pub mod Phases
+pub mod Runs
+pub mod Replies
+pub mod Histories
+pub mod Comes
+pub mod Scripts
+pub mod Walks
+pub mod Tells
+pub mod PhasesTell
+pub mod Headlines

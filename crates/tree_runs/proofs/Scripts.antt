@@ -1,0 +1,203 @@
+-- the report of a run that follows a script of one client is the one that the tree alone gives
+use Rattle.std.proofs.Common.{◌≡◌, ◌≢◌, ◌<◌, ◌≤◌, ◌+◌, ℕ, zero, suc, eqb, Bool, true, false, cond, if◌then◌else◌, Option, Some, None, List, [], ◌∷◌, ◌++◌, refl, sym, ap, subst, ◌∙◌, arith, append_assoc}
+use Rattle.std.specs.List.{AllByRecursion}
+use Rattle.std.proofs.lemmas.List.{append-nil}
+use Rattle.tect_ids.specs.declared.ids.Counts.{Counts}
+use Rattle.tect_ids.specs.declared.ids.OpId.{OpId}
+use Rattle.tect_ids.specs.declared.command.Command.{Command}
+use Rattle.tect_ids.specs.declared.command.Command.TheVariants as commands
+use Rattle.tect_ids.specs.declared.answer.Answer.{Answer}
+use Rattle.tect_ids.specs.declared.script.Act.TheVariants as acts
+use Rattle.tect_ids.specs.declared.script.ReportLine.{ReportLine}
+use Rattle.tect_ids.specs.declared.script.ReportLine.TheVariants as lines
+use Rattle.tect_ids.specs.Keys.{op_eq}
+use Rattle.tect_ids.proofs.KeyTests.{op_eq_cases, num_eq_cases}
+use Rattle.store_rules.specs.Names.{key_in}
+use Rattle.tree_model.specs.Tree.{Tree, opening_tree}
+use Rattle.op_names.specs.Programs.{root, object_number, first_phase}
+use Rattle.world_runs.specs.declared.event.Event.{Event}
+use Rattle.world_runs.specs.declared.event.Event.TheVariants.{Began, Acted, Ended, Stopped}
+use Rattle.world_runs.specs.Moments.{Actor, Moment, opening, May, CanBegin, after, after_all, RunFrom, IsWorldRun}
+use Rattle.world_runs.specs.TreeSteps.{Told, tree_steps, tree_after}
+use Rattle.world_runs.specs.Report.{transactions, report, report_after, answer_line, client_name}
+use Rattle.world_runs.specs.Follows.{Acts, EndsAfter, RunsToEnd, BeginsAndEnds, DoesLine, Busy, none_busy, with_busy, FollowsFrom, Follows}
+use Rattle.tree_runs.specs.Session.{Played, played, played_line, IsPlayed, session_lines, session_script}
+use Rattle.tree_runs.specs.Session as session
+use Rattle.tree_runs.proofs.Tracks.{Tracks, opening_tracks, actor_cases}
+use Rattle.tree_runs.proofs.Runs.{event_tracked, run_tracked, tree_after-append}
+use Rattle.tree_runs.proofs.Histories.{after_all-append, run-front, run-rest, tree_steps-append, report-append, transactions-append, Quiet, quiet_run}
+use Rattle.tree_runs.proofs.Comes.{Stands, Comes, Goes, look_goes, create_goes}
+
+-- ---- transactions alone
+
+-- they change no number
+acts_numbers : (m : Moment) (op : OpId) (n : ℕ) (es : List Event) (a : ℕ) → Acts op n es → ((after_all m es).actors a).number ≡ (m.actors a).number
+acts_numbers m op n [] a acts = refl
+acts_numbers m op n (Acted o q x ∷ es) a acts =
+    acts_numbers (after m (Acted o q x)) op (acts.1).0 es a (acts.1).2 ∙ actor_cases (λ st. st.number ≡ (m.actors a).number) m.actors o.actor _ a (λ e. rw e refl) (λ d. refl)
+acts_numbers m op n (Began o c ∷ es) a acts = absurd acts
+acts_numbers m op n (Ended o c ∷ es) a acts = absurd acts
+acts_numbers m op n (Stopped o ∷ es) a acts = absurd acts
+
+-- they make no line
+acts_no_lines : (clients : List (List ℕ)) (before : List Event) (op : OpId) (n : ℕ) (es : List Event) → Acts op n es → report_after clients before es ≡ []
+acts_no_lines clients before op n [] acts = refl
+acts_no_lines clients before op n (Acted o q x ∷ es) acts = acts_no_lines clients (before ++ Acted o q x ∷ []) op (acts.1).0 es (acts.1).2
+acts_no_lines clients before op n (Began o c ∷ es) acts = absurd acts
+acts_no_lines clients before op n (Ended o c ∷ es) acts = absurd acts
+acts_no_lines clients before op n (Stopped o ∷ es) acts = absurd acts
+
+-- and they are so many
+acts_count : (op : OpId) (n : ℕ) (es : List Event) → Acts op n es → transactions es op ≡ n
+acts_count op n [] acts = sym acts
+acts_count op n (Acted o q x ∷ es) acts =
+    let same : op_eq o op ≡ true = grind (arith, op_eq_cases o op, acts.0) in
+    let first : transactions (Acted o q x ∷ []) op ≡ 1 = rw same refl in
+    let rest : transactions es op ≡ (acts.1).0 = acts_count op (acts.1).0 es (acts.1).2 in
+    transactions-append (Acted o q x ∷ []) es op ∙ omega (arith, first, rest, (acts.1).1)
+acts_count op n (Began o c ∷ es) acts = absurd acts
+acts_count op n (Ended o c ∷ es) acts = absurd acts
+acts_count op n (Stopped o ∷ es) acts = absurd acts
+
+-- ---- a command
+
+-- as the tree plays it
+command_goes : (m : Moment) (t : Tree) (op : OpId) (c : Command) (own number : ℕ) → op.actor ≡ 1 → IsPlayed c → Stands m t op c own (first_phase c)
+    → Goes m t op (played t own number c) (played t own number c).transactions
+command_goes m t op (commands.Look (n ∷ [])) own number one is st = look_goes m t op (commands.Look (n ∷ [])) own root n refl st
+command_goes m t op (commands.Create (n ∷ [])) own number one is st =
+    subst (λ (i : ℕ). Goes m t op (session.created t own (key_in root n) record { 0 = object_number i own }) (session.created t own (key_in root n) record { 0 = object_number i own }).transactions) one
+    (create_goes m t op own root n st)
+command_goes m t op c own number one is st = absurd is
+
+-- between two commands: what stood in the history so far has no transaction of a later op
+record Rests (m : Moment) (t : Tree) (before : List Event) (own number : ℕ) : Type 0 where
+  tracks : Tracks m t
+  quiet : Quiet m before
+  serial : (m.actors 1).serial ≡ own
+  count : (m.actors 1).number ≡ number
+
+-- the events of a line
+module _ (clients : List (List ℕ)) (m : Moment) (t : Tree) (before : List Event) (own number : ℕ) (rests : Rests m t before own number)
+    (op : OpId) (c : Command) (one : op.actor ≡ 1) (is : IsPlayed c) (front : List Event) (n : ℕ) (a : Answer) (acts : Acts op n front)
+    (run : RunFrom m (Began op c ∷ front ++ Ended op a ∷ [])) where
+  abbrev p : Played
+  p = played t own number c
+
+  abbrev part : List Event
+  part = Began op c ∷ front ++ Ended op a ∷ []
+
+  abbrev mid : Moment
+  mid = after m (Began op c)
+
+  abbrev begun_before : List Event
+  begun_before = before ++ Began op c ∷ []
+
+  can : CanBegin (m.actors op.actor) op
+  can = (run.0).0
+
+  own_now : (m.actors op.actor).serial ≡ own
+  own_now = rw one rests.serial
+
+  number_now : op.number ≡ number + 1
+  number_now = can.next ∙ rw one (ap (λ i. i + 1) rests.count)
+
+  same_actor : eqb op.actor op.actor ≡ true
+  same_actor = grind (arith, num_eq_cases op.actor op.actor)
+
+  stands : Stands mid t op c own (first_phase c)
+  stands = record {
+    tracks = (event_tracked m t (Began op c) rests.tracks run.0).0;
+    runs = rw same_actor refl;
+    serial = rw same_actor own_now;
+  }
+
+  comes : Comes mid t op front n a p p.transactions
+  comes = command_goes mid t op c own number one is stands front n a acts run.1
+
+  -- its line
+  count_now : transactions (begun_before ++ front) op ≡ n
+  count_now =
+      let none : transactions before op ≡ 0 = rests.quiet op (omega (arith, can.next)) in
+      let here : transactions front op ≡ n = acts_count op n front acts in
+      let began : transactions (Began op c ∷ []) op ≡ 0 = refl in
+      transactions-append begun_before front op ∙ omega (arith, transactions-append before (Began op c ∷ []) op, none, here, began)
+
+  line_now : answer_line clients (begun_before ++ front) op a ≡ played_line clients (number + 1) p
+  line_now i = lines.Client (client_name clients (one i)) (number_now i) ((count_now ∙ comes.count) i) (comes.answer i)
+
+  line : report_after clients before part ≡ played_line clients (number + 1) p ∷ []
+  line = report-append clients begun_before front (Ended op a ∷ []) ∙ rw (acts_no_lines clients begun_before op n front acts, line_now) refl
+
+  -- the moment after it
+  tree_now : tree_after t (tree_steps part) ≡ p.tree
+  tree_now = ap (tree_after t) (tree_steps-append front (Ended op a ∷ []) ∙ append-nil (tree_steps front)) ∙ comes.tree
+
+  last : Moment
+  last = after_all mid front
+
+  ended : after_all m part ≡ after last (Ended op a)
+  unfolding last
+  ended = after_all-append mid front (Ended op a ∷ [])
+
+  serial_now : ((after_all m part).actors 1).serial ≡ p.serial
+  unfolding last
+  serial_now = ap (λ (z : Moment). (z.actors 1).serial) ended ∙ subst (λ (i : ℕ). ((after last (Ended op a)).actors i).serial ≡ p.serial) one (rw same_actor comes.serial)
+
+  count_after : ((after_all m part).actors 1).number ≡ number + 1
+  unfolding last
+  count_after = ap (λ (z : Moment). (z.actors 1).number) ended ∙ subst (λ (i : ℕ). ((after last (Ended op a)).actors i).number ≡ number + 1) one (rw same_actor (acts_numbers mid op n front op.actor acts ∙ rw same_actor number_now))
+
+  rests_after : Rests (after_all m part) p.tree (before ++ part) p.serial (number + 1)
+  rests_after = record {
+    tracks = subst (λ (u : Tree). Tracks (after_all m part) u) tree_now (run_tracked m t part rests.tracks run).0;
+    quiet = quiet_run m t before part rests.tracks rests.quiet run;
+    serial = serial_now;
+    count = count_after;
+  }
+
+-- ---- a session
+
+-- the lines of the commands are those of the tree, from each moment between two commands
+abbrev LinesAgree : List (List ℕ) → List ℕ → List Command → Type 0
+LinesAgree clients client cs =
+    (m : Moment) (t : Tree) (before es : List Event) (own number : ℕ) (busy : Busy) → Rests m t before own number → busy 1 ≡ None → AllByRecursion IsPlayed cs
+    → RunFrom m es → FollowsFrom busy (session_script client cs) es → report_after clients before es ≡ session_lines clients t own number cs
+
+module _ (clients : List (List ℕ)) (client : List ℕ) (c : Command) (cs : List Command) (others : LinesAgree clients client cs) (m : Moment) (t : Tree) (before es : List Event) (own number : ℕ)
+    (busy : Busy) (rests : Rests m t before own number) (all : AllByRecursion IsPlayed (c ∷ cs)) (run : RunFrom m es) where
+  abbrev Agrees : Type 0
+  Agrees = report_after clients before es ≡ session_lines clients t own number (c ∷ cs)
+
+  first_agrees : (op : OpId) (front rest : List Event) (n : ℕ) (a : Answer) (next : Option OpId) → op.actor ≡ 1 → Acts op n front → es ≡ (Began op c ∷ front ++ Ended op a ∷ []) ++ rest → next ≡ None
+      → FollowsFrom (with_busy busy 1 next) (session_script client cs) rest → Agrees
+  first_agrees op front rest n a next one acts parts free more =
+      let part : List Event = Began op c ∷ front ++ Ended op a ∷ [] in
+      let p : Played = played t own number c in
+      let whole : RunFrom m (part ++ rest) = rw parts at run in
+      let mine : RunFrom m part = run-front m part rest whole in
+      let next_rests : Rests (after_all m part) p.tree (before ++ part) p.serial (number + 1) =
+      rests_after clients m t before own number rests op c one all.0 front n a acts mine in
+      let tail : report_after clients (before ++ part) rest ≡ session_lines clients p.tree p.serial (number + 1) cs =
+      others (after_all m part) p.tree (before ++ part) rest p.serial (number + 1) (with_busy busy 1 next) next_rests free all.1 (run-rest m part rest whole) more in
+      ap (report_after clients before) parts ∙ report-append clients before part rest ∙ rw (line clients m t before own number rests op c one all.0 front n a acts mine, tail) refl
+
+  line_agrees : (part rest : List Event) (next : Option OpId) → es ≡ part ++ rest → DoesLine 1 None (acts.Do c) part next → FollowsFrom (with_busy busy 1 next) (session_script client cs) rest → Agrees
+  line_agrees part rest next parts d more =
+      let b : BeginsAndEnds 1 c part = d.0 in
+      let e : EndsAfter b.0 (b.4).0 b.1 = (b.4).1 in
+      let is : part ≡ Began b.0 c ∷ e.0 ++ Ended b.0 e.1 ∷ [] = b.3 ∙ ap (λ l. Began b.0 c ∷ l) e.2 in
+      first_agrees b.0 e.0 rest (b.4).0 e.1 next b.2 e.3 (parts ∙ ap (λ l. l ++ rest) is) d.1 more
+
+lines_agree : (clients : List (List ℕ)) (client : List ℕ) (cs : List Command) → LinesAgree clients client cs
+lines_agree clients client [] m t before es own number busy rests idle all run follows = rw follows refl
+lines_agree clients client (c ∷ cs) m t before es own number busy rests idle all run follows =
+    line_agrees clients client c cs (lines_agree clients client cs) m t before es own number busy rests all run follows.0 follows.1 follows.2 follows.3 (rw idle at follows.4) follows.5
+
+opening_rests : (counts : Counts) → Rests (opening counts) opening_tree [] 1 0
+opening_rests counts = record { tracks = opening_tracks counts; quiet = λ op late. refl; serial = refl; count = refl }
+
+pub session_reported : (counts : Counts) (clients : List (List ℕ)) (client : List ℕ) (cs : List Command) (history : List Event) → AllByRecursion IsPlayed cs
+    → IsWorldRun counts history → Follows (session_script client cs) history → report clients history ≡ session_lines clients opening_tree 1 0 cs
+session_reported counts clients client cs history all run follows =
+    lines_agree clients client cs (opening counts) opening_tree [] history 1 0 none_busy (opening_rests counts) refl all run follows

@@ -1,0 +1,3 @@
+pub mod MapValues
+pub mod View
+pub mod Session

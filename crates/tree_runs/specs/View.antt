@@ -1,0 +1,96 @@
+-- The store seen as a tree.
+use Rattle.std.specs.Prelude.{◌≡◌, Bool, true, false, Option, Some, None, is_some}
+use Rattle.std.specs.FinMap.{FinMap, get}
+use Rattle.tect_ids.specs.declared.ids.DirId.{DirId}
+use Rattle.tect_ids.specs.declared.ids.FileId.{FileId}
+use Rattle.tect_ids.specs.declared.ids.Node.{Node}
+use Rattle.tect_ids.specs.declared.ids.Node.TheVariants as nodes
+use Rattle.tect_ids.specs.Keys.{node_cmp, name_eq}
+use Rattle.store_rules.specs.declared.names.Directory.{Directory}
+use Rattle.store_rules.specs.declared.names.Entry.{Entry}
+use Rattle.store_rules.specs.declared.names.NameReq.{NameReq}
+use Rattle.store_rules.specs.declared.names.NameReq.TheVariants as names
+use Rattle.store_rules.specs.declared.files.File.{File}
+use Rattle.store_rules.specs.declared.files.FileReq.{FileReq}
+use Rattle.store_rules.specs.declared.files.FileReq.TheVariants as files
+use Rattle.store_rules.specs.declared.any.AnyReq.{AnyReq}
+use Rattle.store_rules.specs.declared.any.AnyReq.TheVariants as any
+use Rattle.store_rules.specs.Store.{Store, store_reply, store_step}
+use Rattle.tree_model.specs.declared.step.TreeDir.{TreeDir}
+use Rattle.tree_model.specs.declared.step.TreeFile.{TreeFile}
+use Rattle.tree_model.specs.declared.step.TreeStep.{TreeStep}
+use Rattle.tree_model.specs.declared.step.TreeReply.{TreeReply}
+use Rattle.tree_model.specs.Tree.{Tree, Allowed, tree_next}
+use Rattle.world_runs.specs.TreeSteps.{tree_step, says}
+use Rattle.tree_runs.specs.MapValues.{map_values}
+
+-- the directories and files that were ever made
+abbrev pub Made : Type 0
+Made = FinMap node_cmp (Unit {0})
+
+-- a directory without its holds
+abbrev pub shown_dir : Directory → TreeDir
+shown_dir d = record { parent = d.parent; sealed = d.sealed }
+
+-- a file without its holds
+abbrev pub shown_file : File → TreeFile
+shown_file f = record { token = f.token }
+
+-- what an entry names, without its hold
+abbrev pub shown_entry : Entry → Node
+shown_entry e = e.node
+
+-- The store seen as a tree. The store forgets what was made, so this is told beside.
+abbrev pub view : Store → Made → Tree
+view s made = record {
+  dirs = map_values shown_dir s.names.dirs;
+  entries = map_values shown_entry s.names.entries;
+  files = map_values shown_file s.files;
+  made = made;
+}
+
+-- the store shows this tree
+abbrev pub Shows : Store → Tree → Type 0
+Shows s t = view s t.made ≡ t
+
+-- whether a directory or file stands
+abbrev pub stands : Store → Node → Bool
+stands s (nodes.Dir d) = is_some (get s.names.dirs d)
+stands s (nodes.File f) = is_some (get s.files f)
+
+-- what stands was made
+abbrev pub AllMade : Store → Made → Type 0
+AllMade s made = (n : Node) → stands s n ≡ true → is_some (get made n) ≡ true
+
+-- a directory or file that is to be made was not made before, and a swap is of two names
+abbrev pub NameMakesNew : Made → NameReq → Type 0
+NameMakesNew made (names.CheckDir d) = Unit {0}
+NameMakesNew made (names.Look k) = Unit {0}
+NameMakesNew made (names.List d) = Unit {0}
+NameMakesNew made (names.MakeDir d p h k) = get made (nodes.Dir d) ≡ None
+NameMakesNew made (names.Bind k n h o) = Unit {0}
+NameMakesNew made (names.Swap d from to n h) = name_eq from to ≡ false
+NameMakesNew made (names.Unbind k w) = Unit {0}
+NameMakesNew made (names.Grant d h k) = Unit {0}
+NameMakesNew made (names.Release d h) = Unit {0}
+
+-- the same of a request to a file shard
+abbrev pub FileMakesNew : Made → FileReq → Type 0
+FileMakesNew made (files.MakeFile f h k t) = get made (nodes.File f) ≡ None
+FileMakesNew made (files.Grant f h k) = Unit {0}
+FileMakesNew made (files.Release f h) = Unit {0}
+
+-- the same of any request
+abbrev pub MakesNew : Made → AnyReq → Type 0
+MakesNew made (any.Name q) = NameMakesNew made q
+MakesNew made (any.File q) = FileMakesNew made q
+
+-- From the tree t on: no step, and the store shows t still; or a step to which t allows what was said, and the store shows
+-- the tree after it.
+abbrev pub TreeFollows : Tree → Store → Option TreeStep → TreeReply → Type 0
+TreeFollows t s None x = Shows s t
+TreeFollows t s (Some step) x = Allowed t step x × Shows s (tree_next t step x)
+
+-- the request, seen by the tree that the store shows
+abbrev pub StepShows : Store → Made → AnyReq → Type 0
+StepShows s made q = TreeFollows (view s made) (store_step s q) (tree_step q (store_reply s q)) (says (store_reply s q))
