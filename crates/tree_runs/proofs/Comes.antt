@@ -92,7 +92,7 @@ module _ (m : Moment) (t : Tree) (op : OpId) (c : Command) (own : ℕ) (at : Pha
   asked_now : asked m op ≡ phase_ask op number_now c at
   asked_now = rw (runs_now, st.serial) refl
 
-  answered_now : answered m op ≡ phase_answer at
+  pub answered_now : answered m op ≡ phase_answer at
   answered_now = rw runs_now refl
 
   pub knows_now : Knows op.actor (m.actors op.actor).number own (Some (program_at op c at))

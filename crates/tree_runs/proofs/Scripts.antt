@@ -31,7 +31,7 @@ use Rattle.tree_runs.proofs.Comes.{Stands, Comes, Goes, look_goes, create_goes}
 -- ---- transactions alone
 
 -- they change no number
-acts_numbers : (m : Moment) (op : OpId) (n : ℕ) (es : List Event) (a : ℕ) → Acts op n es → ((after_all m es).actors a).number ≡ (m.actors a).number
+pub acts_numbers : (m : Moment) (op : OpId) (n : ℕ) (es : List Event) (a : ℕ) → Acts op n es → ((after_all m es).actors a).number ≡ (m.actors a).number
 acts_numbers m op n [] a acts = refl
 acts_numbers m op n (Acted o q x ∷ es) a acts =
     acts_numbers (after m (Acted o q x)) op (acts.1).0 es a (acts.1).2 ∙ actor_cases (λ st. st.number ≡ (m.actors a).number) m.actors o.actor _ a (λ e. rw e refl) (λ d. refl)
