@@ -1,5 +1,5 @@
 -- each script of one client, whose commands are done one after another, can be followed
-use Rattle.std.proofs.Common.{◌≡◌, ◌<◌, ◌≤◌, ◌+◌, ◌^◌, ℕ, eqb, Bool, true, false, if◌then◌else◌, Option, Some, None, List, [], ◌∷◌, ◌++◌, length, refl, sym, ap, subst, ◌∙◌, arith}
+use Rattle.std.proofs.Common.{◌≡◌, ◌<◌, ◌+◌, ◌^◌, ℕ, false, None, List, [], ◌∷◌, ◌++◌, length, refl, sym, ap, ◌∙◌, arith}
 use Rattle.std.specs.List.{AllByRecursion}
 use Rattle.tect_ids.specs.declared.ids.Counts.{Counts}
 use Rattle.tect_ids.specs.declared.ids.OpId.{OpId}
@@ -9,7 +9,7 @@ use Rattle.op_names.specs.Programs.{first_phase}
 use Rattle.world_runs.specs.Served.{IsServed}
 use Rattle.world_runs.specs.declared.event.Event.{Event}
 use Rattle.world_runs.specs.declared.event.Event.TheVariants.{Began, Acted, Ended, Stopped}
-use Rattle.world_runs.specs.Moments.{Actor, Moment, opening, May, after, after_all, RunFrom, IsWorldRun}
+use Rattle.world_runs.specs.Moments.{Moment, opening, May, after, after_all, RunFrom, IsWorldRun}
 use Rattle.world_runs.specs.TreeSteps.{tree_steps, tree_after}
 use Rattle.world_runs.specs.Follows.{Acts, Busy, none_busy, with_busy, FollowsFrom, Follows}
 use Rattle.tree_runs.specs.Session.{session_script}

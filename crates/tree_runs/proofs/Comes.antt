@@ -1,5 +1,5 @@
 -- a running command of one actor that goes on to its end, as the tree plays it
-use Rattle.std.proofs.Common.{◌≡◌, ◌≢◌, ◌<◌, ◌≤◌, ◌+◌, ℕ, zero, suc, eqb, Bool, true, false, is_some, if◌then◌else◌, Option, Some, None, List, [], ◌∷◌, ◌++◌, refl, sym, ap, subst, ◌∙◌, arith}
+use Rattle.std.proofs.Common.{◌≡◌, ◌+◌, ℕ, eqb, Bool, true, is_some, if◌then◌else◌, Option, Some, None, List, [], ◌∷◌, ◌++◌, refl, sym, ap, subst, ◌∙◌, arith}
 use Rattle.std.specs.Option.{option_map}
 use Rattle.std.specs.FinMap.{get}
 use Rattle.tect_ids.specs.declared.ids.DirId.{DirId}
@@ -10,7 +10,6 @@ use Rattle.tect_ids.specs.declared.ids.Place.{Place}
 use Rattle.tect_ids.specs.declared.ids.Node.{Node}
 use Rattle.tect_ids.specs.declared.ids.Node.TheVariants as nodes
 use Rattle.tect_ids.specs.declared.key.Key.{Key}
-use Rattle.tect_ids.specs.declared.values.Over.{Over}
 use Rattle.tect_ids.specs.declared.values.Over.TheVariants as over
 use Rattle.tect_ids.specs.declared.command.Command.{Command}
 use Rattle.tect_ids.specs.declared.command.Command.TheVariants as commands
@@ -28,7 +27,7 @@ use Rattle.store_rules.specs.declared.any.AnyReply.{AnyReply}
 use Rattle.store_rules.specs.Names.{key_in}
 use Rattle.store_rules.specs.Places.{request_place}
 use Rattle.store_rules.specs.Views.{is_made, as_found, as_bound}
-use Rattle.store_rules.specs.Store.{Store, store_reply}
+use Rattle.store_rules.specs.Store.{store_reply}
 use Rattle.tree_model.specs.declared.step.TreeStep.{TreeStep}
 use Rattle.tree_model.specs.declared.step.TreeStep.TheVariants as step
 use Rattle.tree_model.specs.declared.step.Shown.TheVariants as shown
@@ -37,20 +36,20 @@ use Rattle.tree_model.specs.declared.step.TreeReply.{TreeReply}
 use Rattle.tree_model.specs.declared.step.TreeReply.TheVariants.{Ok, Refused}
 use Rattle.tree_model.specs.Tree.{Tree, tree_reply, tree_next}
 use Rattle.op_names.specs.declared.program.Phase.{Phase}
-use Rattle.op_names.specs.declared.program.Phase.TheVariants.{Walk, Bind, Grant, Swap, Release, End}
+use Rattle.op_names.specs.declared.program.Phase.TheVariants.{Walk, Bind, Release, End}
 use Rattle.op_names.specs.declared.program.Program.{Program}
-use Rattle.op_names.specs.Programs.{root, object_number, own_hold, phase_ask, phase_hear, phase_answer, first_phase, release_ask, then_release, bound_heard, looked, refusal}
+use Rattle.op_names.specs.Programs.{object_number, own_hold, phase_ask, phase_hear, phase_answer, release_ask, then_release, bound_heard, looked, refusal}
 use Rattle.world_runs.specs.declared.event.Event.{Event}
 use Rattle.world_runs.specs.declared.event.Event.TheVariants.{Began, Acted, Ended, Stopped}
-use Rattle.world_runs.specs.Moments.{Actor, Moment, May, after, after_all, RunFrom, running, asked, answered, next_serial}
-use Rattle.world_runs.specs.TreeSteps.{Told, told_of, told_as, tree_steps, tree_step, says, tree_after, IsTreeRun}
+use Rattle.world_runs.specs.Moments.{Moment, May, after, after_all, RunFrom, running, asked, answered, next_serial}
+use Rattle.world_runs.specs.TreeSteps.{told_of, told_as, tree_steps, tree_step, says, tree_after, IsTreeRun}
 use Rattle.world_runs.specs.Points.{refused_answer, done_answer}
 use Rattle.world_runs.specs.Follows.{Acts}
-use Rattle.tree_runs.specs.View.{view, Shows, AllMade, shown_entry}
+use Rattle.tree_runs.specs.View.{AllMade, shown_entry}
 use Rattle.tree_runs.specs.Session.{Played, stepped, found_answer, releases}
 use Rattle.tree_runs.specs.Session as session
 use Rattle.tree_runs.proofs.ValuesSeen.{get-map_values}
-use Rattle.tree_runs.proofs.Tracks.{Tracks, TreeMade, Knows, all_made, dir_at, file_at}
+use Rattle.tree_runs.proofs.Tracks.{Tracks, TreeMade, Knows, all_made, file_at}
 use Rattle.tree_runs.proofs.Phases.{make_file_made, look_same, bind_same, release_same}
 use Rattle.tree_runs.proofs.Replies.{RefusesSo, why_of, look_some, look_none, bind_some, bind_none, bind_replaces}
 use Rattle.tree_runs.proofs.Runs.{event_tracked, tree_after-append}

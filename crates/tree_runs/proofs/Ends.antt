@@ -1,5 +1,5 @@
 -- each command that runs can go on to its end: its requests are bounded, and each is answered
-use Rattle.std.proofs.Common.{◌≡◌, ◌<◌, ◌≤◌, ◌+◌, ℕ, zero, suc, ◌⊎◌, inl, inr, Bool, true, false, is_some, if◌then◌else◌, Option, Some, None, List, [], ◌∷◌, ◌++◌, length, refl, sym, ap, ◌∙◌, arith}
+use Rattle.std.proofs.Common.{◌≡◌, ◌≤◌, ◌+◌, ℕ, zero, suc, ◌⊎◌, inl, inr, Bool, true, false, is_some, if◌then◌else◌, Option, Some, None, List, [], ◌∷◌, ◌++◌, length, refl, ap, ◌∙◌, arith}
 use Rattle.tect_ids.specs.declared.ids.DirId.{DirId}
 use Rattle.tect_ids.specs.declared.ids.Hold.{Hold}
 use Rattle.tect_ids.specs.declared.ids.OpId.{OpId}
@@ -28,12 +28,11 @@ use Rattle.tree_model.specs.Tree.{Tree}
 use Rattle.op_names.specs.declared.program.Phase.{Phase}
 use Rattle.op_names.specs.declared.program.Phase.TheVariants.{Walk, Bind, Grant, Swap, Release, End}
 use Rattle.op_names.specs.Paths.{last_name, but_last}
-use Rattle.op_names.specs.Programs.{object_number, own_hold, new_path, at_last, first_ask, phase_ask, phase_hear, phase_answer, first_hear, first_phase, from_root, grant_ask, refusal, walked, looked, look_heard, checked, entries_heard, unbound_heard, source_heard, then_release, bound_heard, swapped_heard}
+use Rattle.op_names.specs.Programs.{object_number, own_hold, new_path, phase_ask, phase_hear, phase_answer, first_phase, from_root, grant_ask, refusal, walked, looked, look_heard, checked, entries_heard, unbound_heard, source_heard, then_release, bound_heard, swapped_heard}
 use Rattle.world_runs.specs.Served.{IsServed}
 use Rattle.world_runs.specs.declared.event.Event.{Event}
 use Rattle.world_runs.specs.declared.event.Event.TheVariants.{Acted, Ended}
 use Rattle.world_runs.specs.Moments.{Moment, after, RunFrom, next_serial}
-use Rattle.world_runs.specs.TreeSteps.{told_of, tree_after}
 use Rattle.world_runs.specs.Follows.{Acts}
 use Rattle.tree_runs.proofs.Comes.{Stands, may_now, next_stands, answered_now}
 

@@ -1,6 +1,5 @@
 -- what the steps so far tell of a running command at each phase
-use Rattle.std.proofs.Common.{◌≡◌, ◌≢◌, ◌⊎◌, ℕ, Bool, true, false, is_some, if◌then◌else◌, Option, Some, None, List, [], ◌∷◌, ◌++◌, refl, sym, ap, subst, ◌∙◌, arith, inl, inr}
-use Rattle.std.specs.FinMap.{get}
+use Rattle.std.proofs.Common.{◌≡◌, ◌⊎◌, ℕ, Bool, true, false, if◌then◌else◌, Option, Some, None, List, [], ◌∷◌, ◌++◌, refl, subst, arith, inl, inr}
 use Rattle.std.proofs.lemmas.List.{append-nil}
 use Rattle.tect_ids.specs.declared.ids.DirId.{DirId}
 use Rattle.tect_ids.specs.declared.ids.FileId.{FileId}
@@ -10,41 +9,30 @@ use Rattle.tect_ids.specs.declared.ids.Place.{Place}
 use Rattle.tect_ids.specs.declared.ids.Node.{Node}
 use Rattle.tect_ids.specs.declared.ids.Node.TheVariants.{Dir, File}
 use Rattle.tect_ids.specs.declared.key.Key.{Key}
-use Rattle.tect_ids.specs.declared.values.Listed.{Listed}
 use Rattle.tect_ids.specs.declared.values.Over.{Over}
 use Rattle.tect_ids.specs.declared.values.Over.TheVariants as over
-use Rattle.tect_ids.specs.declared.values.Want.TheVariants.{AnyFile}
 use Rattle.tect_ids.specs.declared.command.Command.{Command}
 use Rattle.tect_ids.specs.declared.command.Command.TheVariants as commands
 use Rattle.tect_ids.specs.declared.answer.Answer.{Answer}
 use Rattle.tect_ids.specs.declared.answer.Answer.TheVariants as answers
 use Rattle.tect_ids.specs.Keys.{name_eq}
 use Rattle.tect_ids.proofs.KeyTests.{name_eq_cases}
-use Rattle.store_rules.specs.declared.names.NameReq.TheVariants as names
 use Rattle.store_rules.specs.declared.names.Replaced.{Replaced}
-use Rattle.store_rules.specs.declared.files.FileReq.TheVariants as files
-use Rattle.store_rules.specs.declared.any.AnyReq.{AnyReq}
-use Rattle.store_rules.specs.declared.any.AnyReq.TheVariants as any
 use Rattle.store_rules.specs.declared.any.AnyReply.{AnyReply}
 use Rattle.store_rules.specs.Names.{key_in}
-use Rattle.store_rules.specs.Views.{is_made, as_parent, as_found, as_listing, as_bound, as_unbound, as_swapped, is_granted}
-use Rattle.store_rules.specs.Store.{Store, store_reply}
 use Rattle.tree_model.specs.declared.step.TreeStep.{TreeStep}
 use Rattle.tree_model.specs.declared.step.TreeStep.TheVariants as step
 use Rattle.tree_model.specs.declared.step.Shown.TheVariants as shown
-use Rattle.tree_model.specs.declared.step.Refusal.{Refusal}
 use Rattle.tree_model.specs.declared.step.TreeReply.{TreeReply}
 use Rattle.tree_model.specs.declared.step.TreeReply.TheVariants.{Ok, Refused}
 use Rattle.tree_model.specs.Tree.{Tree, tree_reply, opening_tree, is_ok}
 use Rattle.op_names.specs.declared.program.Phase.{Phase}
 use Rattle.op_names.specs.declared.program.Phase.TheVariants.{Walk, Bind, Grant, Swap, Release, End}
 use Rattle.op_names.specs.Paths.{last_name}
-use Rattle.op_names.specs.Programs.{root, way, last, new_path, at_last, own_hold, first_ask, look_ask, grant_ask, release_ask, phase_ask, phase_hear, refusal, dir_refusal, walked, looked, look_heard, checked, entries_heard, unbound_heard, source_heard, then_release, bound_heard, swapped_heard}
-use Rattle.world_runs.specs.TreeSteps.{Told, told_as, tree_step, says, tree_after, where_refused, IsTreeRun}
+use Rattle.op_names.specs.Programs.{root, way, last, refusal, walked, source_heard, then_release, bound_heard, swapped_heard}
+use Rattle.world_runs.specs.TreeSteps.{Told, told_as, says, tree_after, where_refused, IsTreeRun}
 use Rattle.world_runs.specs.Points.{of_op, Walked, Seen, refused_answer, done_answer, StopsWalk, Finds, Lists, FindsSource, IsRefusal, Decides, Point, LacksName}
-use Rattle.tree_runs.specs.View.{Made, AllMade, MakesNew}
-use Rattle.tree_runs.proofs.Phases.{make_dir_made, make_file_made}
-use Rattle.tree_runs.proofs.Replies.{why_of, RefusesSo, RefusesDir, look_some, look_none, check_some, check_none, list_some, list_none, bind_some, bind_none, unbind_some, unbind_none, swap_some, swap_none, grant_none}
+use Rattle.tree_runs.proofs.Replies.{why_of, RefusesSo}
 use Rattle.tree_runs.proofs.Walks.{of_op-append, point_stays, here, over_still, seen_still, seen_now, walks_on}
 
 abbrev pub IsRename : Command → Type 0

@@ -42,11 +42,9 @@ pub fn report_is_session()
 /// command's point.
 pub fn each_answer_is_the_trees()
     ensures { (counts : Counts) (events : List Event) → IsWorldRun counts events → Headline events }
-{
-}
+{}
 
 /// Each script of one client, whose commands are served and done one after another, is followed by some run of the world.
 pub fn each_session_can_be_run()
     ensures { (counts : Counts) (client : List ℕ) (commands : List Command) → AllByRecursion IsServed commands → length commands < 2 ^ 31 → (history : List Event) × IsWorldRun counts history × Follows (session_script client commands) history }
-{
-}
+{}
