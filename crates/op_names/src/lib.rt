@@ -2,6 +2,11 @@
 //! reply.
 #![tactic(auto)]
 
+mod ask;
+mod copies;
+mod hear;
+mod paths;
 mod program;
+mod refusals;
 
 pub use program::{Phase, Program};

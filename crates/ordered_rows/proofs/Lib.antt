@@ -1,3 +1,6 @@
+pub mod ById
+pub mod Entries
 pub mod Finds
-pub mod Lookups
 pub mod Made
+pub mod Maps
+pub mod Ranges

@@ -1,20 +1,17 @@
--- The shard of a request: the name shards are numbered first, then the file shards. The index in a layer is a hash of the
--- identifier of the object that the request concerns.
-use Rattle.std.specs.Prelude.{ℕ, ◌+◌, ◌*◌, ◌/◌, ◌%◌, ◌^◌}
+-- The shard of a request: that of the directory or file which it concerns.
+use Rattle.std.specs.Prelude.{ℕ}
 use Rattle.tect_ids.specs.declared.ids.Counts.{Counts}
 use Rattle.tect_ids.specs.declared.ids.DirId.{DirId}
 use Rattle.tect_ids.specs.declared.ids.FileId.{FileId}
+use Rattle.tect_ids.specs.declared.ids.Layer.TheVariants as layers
 use Rattle.tect_ids.specs.declared.ids.Place.{Place}
+use Rattle.tect_ids.specs.Places.{place_number}
 use Rattle.store_rules.specs.declared.names.NameReq.{NameReq}
 use Rattle.store_rules.specs.declared.names.NameReq.TheVariants as names
 use Rattle.store_rules.specs.declared.files.FileReq.{FileReq}
 use Rattle.store_rules.specs.declared.files.FileReq.TheVariants as files
 use Rattle.store_rules.specs.declared.any.AnyReq.{AnyReq}
 use Rattle.store_rules.specs.declared.any.AnyReq.TheVariants as any
-
--- the hash of an identifier among n shards
-abbrev pub shard_index : ℕ → ℕ → ℕ
-shard_index id n = ((id * 0x9E3779B97F4A7C15 % 2 ^ 64) / 2 ^ 32) % n
 
 -- the directory that a request concerns
 abbrev pub dir_of : NameReq → DirId
@@ -33,10 +30,7 @@ file_of (files.MakeFile f h k t) = f
 file_of (files.Grant f h k) = f
 file_of (files.Release f h) = f
 
--- the number of the shard that a request goes to
-abbrev pub place_number : Counts → AnyReq → ℕ
-place_number c (any.Name q) = shard_index (dir_of q).0 c.names
-place_number c (any.File q) = c.names + shard_index (file_of q).0 c.files
-
+-- the shard that a request goes to
 abbrev pub request_place : Counts → AnyReq → Place
-request_place c q = record { 0 = place_number c q }
+request_place c (any.Name q) = record { 0 = place_number c layers.Names (dir_of q).0 }
+request_place c (any.File q) = record { 0 = place_number c layers.Files (file_of q).0 }

@@ -4,6 +4,7 @@
 mod any;
 mod files;
 mod names;
+mod replies;
 
 pub use any::{AnyReply, AnyReq};
 pub use files::{File, FileReply, FileReq};

@@ -1,10 +1,13 @@
-use crate::ids::{BlkId, DirId, DiskId, FileId, Node, OpId, Place, Token};
+ghost use Rattle.std.specs.Prelude.{◌≡◌, IfOk};
+
+use crate::ids::{BlkId, DirId, DiskId, FileId, NoMemory, Node, OpId, Place, Token};
 use crate::items::{Bytes, Items};
 use crate::key::Key;
 use crate::values::{Listed, RowPart};
+use std::alloc::Global;
 
 /// What a command comes to.
-#[derive(Debug, Drop)]
+#[derive(Drop)]
 pub enum Answer {
     /// Done: delete, rename, rmdir, drop, seal, and a move of a directory or inside one.
     Done,
@@ -141,4 +144,85 @@ pub enum Answer {
     Odd {
         place: Place,
     },
+}
+
+impl Answer {
+    /// The same answer once more.
+    pub fn copy(&self, alloc: Global) -> Result<Answer, NoMemory>
+        ensures { IfOk result (λ answer. answer ≡ self.now) }
+    {
+        match *self {
+            Answer::Done => Ok(Answer::Done),
+            Answer::Found { node } => Ok(Answer::Found { node }),
+            Answer::Entries { ref items } => Ok(Answer::Entries {
+                items: items.copy(alloc)?,
+            }),
+            Answer::Opened { file, token } => Ok(Answer::Opened { file, token }),
+            Answer::Appended { blk, index } => Ok(Answer::Appended { blk, index }),
+            Answer::Blocks { ref rows } => Ok(Answer::Blocks {
+                rows: rows.copy(alloc)?,
+            }),
+            Answer::Read { ref bytes } => Ok(Answer::Read {
+                bytes: bytes.copy(alloc)?,
+            }),
+            Answer::Swept {
+                dirs,
+                files,
+                blocks,
+                chunks,
+            } => Ok(Answer::Swept {
+                dirs,
+                files,
+                blocks,
+                chunks,
+            }),
+            Answer::SweptAll {
+                rounds,
+                dirs,
+                files,
+                blocks,
+                chunks,
+            } => Ok(Answer::SweptAll {
+                rounds,
+                dirs,
+                files,
+                blocks,
+                chunks,
+            }),
+            Answer::Repaired { moved, left } => Ok(Answer::Repaired { moved, left }),
+            Answer::LostDisk { disk } => Ok(Answer::LostDisk { disk }),
+            Answer::NoDir => Ok(Answer::NoDir),
+            Answer::NoName => Ok(Answer::NoName),
+            Answer::NoFile => Ok(Answer::NoFile),
+            Answer::Exists => Ok(Answer::Exists),
+            Answer::IsDir => Ok(Answer::IsDir),
+            Answer::NotDir => Ok(Answer::NotDir),
+            Answer::NotEmpty => Ok(Answer::NotEmpty),
+            Answer::Sealed => Ok(Answer::Sealed),
+            Answer::NotSealed => Ok(Answer::NotSealed),
+            Answer::NotOpen => Ok(Answer::NotOpen),
+            Answer::Pending { op } => Ok(Answer::Pending { op }),
+            Answer::Closing { op } => Ok(Answer::Closing { op }),
+            Answer::Frozen { op } => Ok(Answer::Frozen { op }),
+            Answer::Turn { op } => Ok(Answer::Turn { op }),
+            Answer::Changed { ref key, now } => Ok(Answer::Changed {
+                key: key.copy(alloc)?,
+                now,
+            }),
+            Answer::TokenChanged { now } => Ok(Answer::TokenChanged { now }),
+            Answer::Cancelled { op } => Ok(Answer::Cancelled { op }),
+            Answer::Below { dir } => Ok(Answer::Below { dir }),
+            Answer::Deep { dir } => Ok(Answer::Deep { dir }),
+            Answer::Full { id } => Ok(Answer::Full { id }),
+            Answer::FewDisks { have, need } => Ok(Answer::FewDisks { have, need }),
+            Answer::DiskLost { disk } => Ok(Answer::DiskLost { disk }),
+            Answer::Lost { blk } => Ok(Answer::Lost { blk }),
+            Answer::Moving { blk, first, last } => Ok(Answer::Moving { blk, first, last }),
+            Answer::Gone { blk } => Ok(Answer::Gone { blk }),
+            Answer::HistoryFull { place } => Ok(Answer::HistoryFull { place }),
+            Answer::NoMemory => Ok(Answer::NoMemory),
+            Answer::Stopped => Ok(Answer::Stopped),
+            Answer::Odd { place } => Ok(Answer::Odd { place }),
+        }
+    }
 }

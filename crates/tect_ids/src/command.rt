@@ -1,9 +1,12 @@
-use crate::ids::{DiskId, Layer};
+ghost use Rattle.std.specs.Prelude.{◌≡◌, IfOk};
+
+use crate::ids::{DiskId, Layer, NoMemory};
 use crate::items::Bytes;
 use crate::name::Path;
+use std::alloc::Global;
 
 /// What an actor asks for. A path without a name is the root.
-#[derive(Debug, Drop)]
+#[derive(Drop)]
 pub enum Command {
     /// Answers the directory or file that the path names.
     Look { path: Path },
@@ -41,4 +44,69 @@ pub enum Command {
     SweepAll,
     /// Loses a disk with all its chunks.
     Lose { disk: DiskId },
+}
+
+impl Command {
+    /// The same command once more.
+    pub fn copy(&self, alloc: Global) -> Result<Command, NoMemory>
+        ensures { IfOk result (λ command. command ≡ self.now) }
+    {
+        match self {
+            Command::Look { path } => Ok(Command::Look {
+                path: path.copy(alloc)?,
+            }),
+            Command::List { path } => Ok(Command::List {
+                path: path.copy(alloc)?,
+            }),
+            Command::Create { path } => Ok(Command::Create {
+                path: path.copy(alloc)?,
+            }),
+            Command::Mkdir { path } => Ok(Command::Mkdir {
+                path: path.copy(alloc)?,
+            }),
+            Command::Delete { path } => Ok(Command::Delete {
+                path: path.copy(alloc)?,
+            }),
+            Command::Rename { from, to } => Ok(Command::Rename {
+                from: from.copy(alloc)?,
+                to: to.copy(alloc)?,
+            }),
+            Command::Move { from, to } => Ok(Command::Move {
+                from: from.copy(alloc)?,
+                to: to.copy(alloc)?,
+            }),
+            Command::Rmdir { path } => Ok(Command::Rmdir {
+                path: path.copy(alloc)?,
+            }),
+            Command::Drop { path } => Ok(Command::Drop {
+                path: path.copy(alloc)?,
+            }),
+            Command::Seal { path } => Ok(Command::Seal {
+                path: path.copy(alloc)?,
+            }),
+            Command::Open { path } => Ok(Command::Open {
+                path: path.copy(alloc)?,
+            }),
+            Command::Append { path, bytes } => Ok(Command::Append {
+                path: path.copy(alloc)?,
+                bytes: bytes.copy(alloc)?,
+            }),
+            Command::Blocks { path } => Ok(Command::Blocks {
+                path: path.copy(alloc)?,
+            }),
+            Command::Read { path } => Ok(Command::Read {
+                path: path.copy(alloc)?,
+            }),
+            Command::Sweep { layer, index } => Ok(Command::Sweep {
+                layer: *layer,
+                index: *index,
+            }),
+            Command::Repair { disk, index } => Ok(Command::Repair {
+                disk: *disk,
+                index: *index,
+            }),
+            Command::SweepAll => Ok(Command::SweepAll),
+            Command::Lose { disk } => Ok(Command::Lose { disk: *disk }),
+        }
+    }
 }

@@ -79,10 +79,10 @@ impl<T> Items<T> {
     }
 }
 
-impl Items<u8> {
-    /// The same bytes once more.
-    pub fn copy(&self, alloc: Global) -> Result<Bytes, NoMemory>
-        ensures { IfOk result (λ bytes. bytes ≡ self.now) }
+impl<T: Copy> Items<T> {
+    /// The same items once more.
+    pub fn copy(&self, alloc: Global) -> Result<Items<T>, NoMemory>
+        ensures { IfOk result (λ items. items ≡ self.now) }
     {
         let items = Vec::from_slice(alloc, self.items.as_slice())?;
         Ok(Items { items })

@@ -1,5 +1,8 @@
-use crate::ids::{DirId, FileId};
+ghost use Rattle.std.specs.Prelude.{◌≡◌, IfOk};
+
+use crate::ids::{DirId, FileId, NoMemory};
 use crate::name::Name;
+use std::alloc::Global;
 
 /// Where an entry stands: a directory and a name in it.
 #[derive(Debug, PartialEq, Eq, PartialOrd, Ord, Drop)]
@@ -13,4 +16,28 @@ pub struct Key {
 pub enum Upper {
     Entry(Key),
     Row(FileId),
+}
+
+impl Key {
+    /// The same key once more.
+    pub fn copy(&self, alloc: Global) -> Result<Key, NoMemory>
+        ensures { IfOk result (λ key. key ≡ self.now) }
+    {
+        Ok(Key {
+            dir: self.dir,
+            name: self.name.copy(alloc)?,
+        })
+    }
+}
+
+impl Upper {
+    /// The same upper object once more.
+    pub fn copy(&self, alloc: Global) -> Result<Upper, NoMemory>
+        ensures { IfOk result (λ upper. upper ≡ self.now) }
+    {
+        match self {
+            Upper::Entry(key) => Ok(Upper::Entry(key.copy(alloc)?)),
+            Upper::Row(file) => Ok(Upper::Row(*file)),
+        }
+    }
 }

@@ -1,6 +1,9 @@
-use crate::ids::{BlkId, DiskId, Node, Tag};
+ghost use Rattle.std.specs.Prelude.{◌≡◌, IfOk};
+
+use crate::ids::{BlkId, DiskId, NoMemory, Node, Tag};
 use crate::items::Items;
 use crate::name::Name;
+use std::alloc::Global;
 
 /// What a bind may replace.
 #[derive(Clone, Copy, Debug, PartialEq, Eq)]
@@ -25,8 +28,33 @@ pub struct Listed {
     pub node: Node,
 }
 
+impl Listed {
+    /// The same entry once more.
+    pub fn copy(&self, alloc: Global) -> Result<Listed, NoMemory>
+        ensures { IfOk result (λ entry. entry ≡ self.now) }
+    {
+        Ok(Listed {
+            name: self.name.copy(alloc)?,
+            node: self.node,
+        })
+    }
+}
+
+impl Items<Listed> {
+    /// The same entries once more.
+    pub fn copy(&self, alloc: Global) -> Result<Items<Listed>, NoMemory>
+        ensures { IfOk result (λ entries. entries ≡ self.now) }
+    {
+        let mut entries = Vec::new(alloc);
+        for entry in self.as_slice() {
+            entries.push(entry.copy(alloc)?)?;
+        }
+        Ok(Items::from_vec(entries))
+    }
+}
+
 /// The entries of a directory, in the order of their names.
-#[derive(Debug, Drop)]
+#[derive(Drop)]
 pub struct Listing {
     pub sealed: bool,
     pub items: Items<Listed>,
@@ -40,7 +68,7 @@ pub struct RowPart {
 }
 
 /// The blocks of a file, in order.
-#[derive(Debug, Drop)]
+#[derive(Drop)]
 pub struct BlockList {
     pub sealed: bool,
     pub rows: Items<RowPart>,
@@ -62,7 +90,7 @@ pub struct Row {
 }
 
 /// Where a block lies.
-#[derive(Debug, Drop)]
+#[derive(Drop)]
 pub struct Location {
     pub class: Class,
     pub len: u32,

@@ -2,7 +2,7 @@ use store_rules::{AnyReply, AnyReq};
 use tect_ids::{Answer, Command, OpId};
 
 /// Something that happened in a run.
-#[derive(Debug, Drop)]
+#[derive(Drop)]
 pub enum Event {
     /// The op's actor began the command.
     Began {

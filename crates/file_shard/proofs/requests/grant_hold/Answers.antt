@@ -1,0 +1,9 @@
+use Rattle.std.proofs.Common.{None, Some, arith}
+use Rattle.file_shard.proofs.Released.{same_files}
+use Rattle.file_shard.proofs.requests.grant_hold.Goals as goal
+
+pub returns-in-None-clause-listed : goal.returns-in-None-clause-listed
+returns-in-None-clause-listed c = grind (arith, c.get_mut.follows, c.in-None.is, same_files c.args.files.now c.args.file None)
+
+pub returns-in-Some-clause-unchanged : goal.returns-in-Some-clause-unchanged
+returns-in-Some-clause-unchanged c = grind (arith, c.get_mut.follows, c.in-Some.is, c.grant.ensures.err, same_files c.args.files.now c.args.file (Some c.in-Some.row.now))

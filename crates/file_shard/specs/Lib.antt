@@ -1,0 +1,4 @@
+pub mod Codes
+pub mod Dumps
+pub mod Memory
+pub mod Outcomes

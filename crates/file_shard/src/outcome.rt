@@ -1,0 +1,24 @@
+ghost use Rattle.std.specs.Prelude.{◌≡◌};
+ghost use Rattle.store_rules.specs.Outcomes.{reply};
+ghost use Rattle.file_shard.specs.Outcomes.{outcome_of};
+
+use store_rules::FileReply;
+
+// What a request comes to, before anything is changed.
+#[derive(Drop)]
+pub(crate) enum Outcome {
+    // A refusal, or a reading: the shard stays as it is.
+    Leaves(FileReply),
+    // The shard is to be changed.
+    Changes(FileReply),
+}
+
+impl Outcome {
+    pub(crate) fn into_reply(self) -> FileReply
+        ensures { result ≡ reply (outcome_of self) }
+    {
+        match self {
+            Outcome::Leaves(reply) | Outcome::Changes(reply) => reply,
+        }
+    }
+}

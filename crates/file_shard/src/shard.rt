@@ -1,0 +1,76 @@
+ghost use Rattle.std.specs.Prelude.{◌≡◌, IsTrue, IsOk, IfOk, OnOk, OnErr};
+ghost use Rattle.std.specs.FinMap.{empty};
+ghost use Rattle.store_rules.specs.Outcomes.{reply};
+ghost use Rattle.store_rules.specs.Files.{file_answer, file_step};
+ghost use Rattle.file_shard.specs.Memory.{takes_no_memory};
+
+use key_maps::FileMap;
+use std::alloc::Global;
+use std::marker::Model;
+use store_rules::{File, FileReply, FileReq};
+use tect_ids::NoMemory;
+
+/// A shard of the File layer: some of the files.
+#[derive(Drop)]
+pub struct FileShard {
+    pub(crate) alloc: Global,
+    pub(crate) files: FileMap<File>,
+}
+
+impl Model for FileShard {
+    ghost use Rattle.store_rules.specs.Files.{Files};
+    ghost use Rattle.file_shard.specs.Codes.{files_code};
+
+    ghost Value = { Files };
+
+    ghost coded = { files_code };
+
+    ghost view = { λ s. s.files };
+}
+
+impl FileShard {
+    /// A shard with no file. It takes no memory.
+    pub fn new(alloc: Global) -> FileShard
+        ensures { result ≡ empty }
+    {
+        FileShard {
+            alloc,
+            files: FileMap::new(alloc),
+        }
+    }
+
+    /// Answers the request, and makes the change where the request is not refused.
+    pub fn step(&mut self, req: &FileReq) -> Result<FileReply, NoMemory>
+        ensures answers { IfOk result (λ x. x ≡ reply (file_answer self.old req.now)) }
+        ensures steps { OnOk result (self.new ≡ file_step self.old req.now) }
+        ensures err { OnErr result (self.new ≡ self.old) }
+
+        // What wants no memory is always answered.
+        ensures sure { IsTrue (takes_no_memory req.now) → IsOk result }
+    {
+        match req {
+            FileReq::MakeFile {
+                file,
+                hold,
+                key,
+                token,
+            } => self.make_file(*file, *hold, key, *token),
+            FileReq::Grant { file, hold, key } => self.grant(*file, *hold, key),
+            FileReq::Release { file, hold } => Ok(self.release(*file, *hold)),
+        }
+    }
+
+    /// What `step` would answer. It changes nothing.
+    pub fn reply(&self, req: &FileReq) -> Result<FileReply, NoMemory>
+        ensures answers { IfOk result (λ x. x ≡ reply (file_answer self.now req.now)) }
+        ensures sure { IsTrue (takes_no_memory req.now) → IsOk result }
+    {
+        match req {
+            FileReq::MakeFile { file, .. } => Ok(self.make_file_outcome(*file).into_reply()),
+            FileReq::Grant { file, .. } => Ok(self.grant_outcome(*file).into_reply()),
+            FileReq::Release { file, hold } => Ok(FileReply::Released {
+                was: self.lists(*file, *hold),
+            }),
+        }
+    }
+}

@@ -1,0 +1,4 @@
+pub mod Counted
+pub mod Limited
+pub mod Released
+pub mod Renamed

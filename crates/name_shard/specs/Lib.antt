@@ -1,0 +1,6 @@
+pub mod Codes
+pub mod Dumps
+pub mod Limits
+pub mod Memory
+pub mod Outcomes
+pub mod Tables

@@ -1,0 +1,12 @@
+-- How many entries a directory may have.
+use Rattle.std.specs.Prelude.{◌≤◌}
+use Rattle.std.specs.FinMap.{FinMap, len}
+use Rattle.tect_ids.specs.declared.ids.DirId.{DirId}
+use Rattle.tect_ids.specs.Keys.{key_cmp}
+use Rattle.key_maps.specs.Maps.{within}
+use Rattle.store_rules.specs.declared.names.Entry.{Entry}
+use Rattle.store_rules.specs.Names.{entry_limit}
+
+-- no directory has more entries than that
+pub record IsWithinLimit (entries : FinMap key_cmp Entry) : Type 0 where
+  pub count : (d : DirId) → len (within entries d) ≤ entry_limit

@@ -1,0 +1,251 @@
+ghost use Rattle.std.specs.Prelude.{◌≡◌, ◌+◌, ◌<◌, ◌^◌, Some, None, IfOk, OnOk, OnErr};
+ghost use Rattle.std.specs.Option.{option_copied};
+ghost use Rattle.std.specs.FinMap.{get, len};
+ghost use Rattle.ordered_rows.specs.Maps.{set_at};
+ghost use Rattle.key_maps.specs.Maps.{within};
+ghost use Rattle.store_rules.specs.declared.names.NameReq.TheVariants as req;
+ghost use Rattle.tect_ids.specs.Keys.{node_eq};
+ghost use Rattle.store_rules.specs.declared.names.NameReply.TheVariants.{Unbound};
+ghost use Rattle.store_rules.specs.Outcomes.{Changes, reply};
+ghost use Rattle.store_rules.specs.Names.{bind_answer, bind_over, swap_answer, swap_over, unbind_answer, unbind_any, unbind_node, key_in, name_step};
+ghost use Rattle.name_shard.specs.Outcomes.{outcome_of};
+
+use crate::outcome::Outcome;
+use crate::shard::NameShard;
+use crate::table::EntryTable;
+use store_rules::{Entry, NameReply, Replaced};
+use tect_ids::{DirId, Hold, Key, Name, NoMemory, Node, Over, Want};
+
+// How many entries a directory may have.
+const ENTRY_LIMIT: u32 = 65_536;
+
+// The requests that change an entry.
+impl NameShard {
+    pub(crate) fn bind_outcome(&self, key: &Key, over: Over) -> Outcome
+        ensures { outcome_of result ≡ bind_answer self.now key.now over }
+    {
+        match self.dirs.get(key.dir) {
+            None => return Outcome::Leaves(NameReply::NoDir),
+            Some(directory) => {
+                if directory.sealed {
+                    return Outcome::Leaves(NameReply::Sealed);
+                }
+            }
+        }
+        self.bind_over(key, over)
+    }
+
+    // What stands at the key decides.
+    fn bind_over(&self, key: &Key, over: Over) -> Outcome
+        ensures { outcome_of result ≡ bind_over self.now key.now (get self.now.entries key.now) over }
+    {
+        let Some(old) = self.entries.get(key) else {
+            if self.entries.count(key.dir) >= ENTRY_LIMIT {
+                return Outcome::Leaves(NameReply::Full);
+            }
+            return Outcome::Changes(NameReply::Bound { old: None });
+        };
+        match (over, old.node) {
+            (Over::Absent, _) => Outcome::Leaves(NameReply::Exists),
+            (Over::File, Node::Dir(_)) => Outcome::Leaves(NameReply::IsDir),
+            (Over::File, Node::File(file)) => Outcome::Changes(NameReply::Bound {
+                old: Some(Replaced {
+                    file,
+                    hold: old.hold,
+                }),
+            }),
+        }
+    }
+
+    pub(crate) fn bind(
+        &mut self,
+        key: &Key,
+        node: Node,
+        hold: Hold,
+        over: Over,
+    ) -> Result<NameReply, NoMemory>
+        ensures answers { IfOk result (λ x. x ≡ reply (bind_answer self.old key.now over)) }
+        ensures steps { OnOk result (self.new ≡ name_step self.old (req.Bind key.now node hold over)) }
+        ensures err { OnErr result (self.new ≡ self.old) }
+    {
+        match self.bind_outcome(key, over) {
+            Outcome::Leaves(reply) => Ok(reply),
+            Outcome::Changes(reply) => {
+                self.entries.put(key, Entry { node, hold })?;
+                Ok(reply)
+            }
+        }
+    }
+
+    pub(crate) fn unbind_outcome(&self, key: &Key, want: Want) -> Outcome
+        ensures { outcome_of result ≡ unbind_answer self.now key.now want }
+    {
+        match self.dirs.get(key.dir) {
+            None => return Outcome::Leaves(NameReply::NoDir),
+            Some(directory) => {
+                if directory.sealed {
+                    return Outcome::Leaves(NameReply::Sealed);
+                }
+            }
+        }
+        let entry = self.entries.get(key);
+        match want {
+            Want::AnyFile => unbind_any(entry),
+            Want::Exactly(node) => unbind_node(entry, node),
+        }
+    }
+
+    pub(crate) fn unbind(&mut self, key: &Key, want: Want) -> NameReply
+        ensures answers { result ≡ reply (unbind_answer self.old key.now want) }
+        ensures steps { self.new ≡ name_step self.old (req.Unbind key.now want) }
+    {
+        match self.unbind_outcome(key, want) {
+            Outcome::Leaves(reply) => reply,
+            Outcome::Changes(reply) => {
+                self.entries.take(key);
+                reply
+            }
+        }
+    }
+
+    // The keys of two names in one directory.
+    pub(crate) fn keys_in(&self, dir: DirId, from: &Name, to: &Name) -> Result<(Key, Key), NoMemory>
+        ensures { IfOk result (λ keys. (keys.0 ≡ key_in dir from.now) × (keys.1 ≡ key_in dir to.now)) }
+    {
+        let from = Key {
+            dir,
+            name: from.copy(self.alloc)?,
+        };
+        let to = Key {
+            dir,
+            name: to.copy(self.alloc)?,
+        };
+        Ok((from, to))
+    }
+
+    pub(crate) fn swap_outcome(&self, from: &Key, to: &Key, node: Node) -> Outcome
+        requires { to.now.dir ≡ from.now.dir }
+        ensures { outcome_of result ≡ swap_answer self.now from.now.dir from.now.name to.now.name node }
+    {
+        match self.dirs.get(from.dir) {
+            None => return Outcome::Leaves(NameReply::NoDir),
+            Some(directory) => {
+                if directory.sealed {
+                    return Outcome::Leaves(NameReply::Sealed);
+                }
+            }
+        }
+        let Some(entry) = self.entries.get(from) else {
+            return Outcome::Leaves(NameReply::Changed { now: None });
+        };
+        if !is_node(entry.node, node) {
+            return Outcome::Leaves(NameReply::Changed {
+                now: Some(entry.node),
+            });
+        }
+        swap_over(self.entries.get(to), node, entry.hold)
+    }
+
+    pub(crate) fn swap(
+        &mut self,
+        dir: DirId,
+        from: &Name,
+        to: &Name,
+        node: Node,
+        hold: Hold,
+    ) -> Result<NameReply, NoMemory>
+        ensures answers { IfOk result (λ x. x ≡ reply (swap_answer self.old dir from.now to.now node)) }
+        ensures steps { OnOk result (self.new ≡ name_step self.old (req.Swap dir from.now to.now node hold)) }
+        ensures err { OnErr result (self.new ≡ self.old) }
+    {
+        let (from, to) = self.keys_in(dir, from, to)?;
+        match self.swap_outcome(&from, &to, node) {
+            Outcome::Leaves(reply) => Ok(reply),
+            Outcome::Changes(reply) => {
+                rename_entry(&mut self.entries, &from, &to, Entry { node, hold })?;
+                Ok(reply)
+            }
+        }
+    }
+}
+
+// What an unbind of any file comes to at what stands at the key.
+fn unbind_any(entry: Option<&Entry>) -> Outcome
+    ensures { outcome_of result ≡ unbind_any (option_copied entry.entry) }
+{
+    let Some(entry) = entry else {
+        return Outcome::Leaves(NameReply::NoName);
+    };
+    match entry.node {
+        Node::Dir(_) => Outcome::Leaves(NameReply::IsDir),
+        Node::File(_) => unbound(entry),
+    }
+}
+
+// What an unbind of that node alone comes to at what stands at the key.
+fn unbind_node(entry: Option<&Entry>, node: Node) -> Outcome
+    ensures { outcome_of result ≡ unbind_node (option_copied entry.entry) node }
+{
+    let Some(entry) = entry else {
+        return Outcome::Leaves(NameReply::Changed { now: None });
+    };
+    if !is_node(entry.node, node) {
+        return Outcome::Leaves(NameReply::Changed {
+            now: Some(entry.node),
+        });
+    }
+    unbound(entry)
+}
+
+fn unbound(entry: &Entry) -> Outcome
+    ensures { outcome_of result ≡ Changes (Unbound entry.now.node entry.now.hold) }
+{
+    Outcome::Changes(NameReply::Unbound {
+        node: entry.node,
+        hold: entry.hold,
+    })
+}
+
+fn is_node(a: Node, b: Node) -> bool
+    ensures { result ≡ node_eq a b }
+{
+    a == b
+}
+
+// What a swap comes to at what stands at the new name; the hold is that of the old name.
+fn swap_over(over: Option<&Entry>, node: Node, hold: Hold) -> Outcome
+    ensures { outcome_of result ≡ swap_over (option_copied over.entry) node hold }
+{
+    let Some(old) = over else {
+        return Outcome::Changes(NameReply::Swapped { hold, old: None });
+    };
+    match (old.node, node) {
+        (Node::Dir(_), _) => Outcome::Leaves(NameReply::IsDir),
+        (Node::File(_), Node::Dir(_)) => Outcome::Leaves(NameReply::Exists),
+        (Node::File(file), Node::File(_)) => Outcome::Changes(NameReply::Swapped {
+            hold,
+            old: Some(Replaced {
+                file,
+                hold: old.hold,
+            }),
+        }),
+    }
+}
+
+// Takes the entry at the old key away and puts one at the new key, or nothing of it for want of memory.
+fn rename_entry(
+    entries: &mut EntryTable,
+    from: &Key,
+    to: &Key,
+    entry: Entry,
+) -> Result<(), NoMemory>
+    requires { len (within entries.old to.now.dir) + 1 < 2 ^ 32 }
+    ensures moved { OnOk result (entries.new ≡ set_at (set_at entries.old from.now None) to.now (Some entry)) }
+    ensures unchanged { OnErr result (entries.new ≡ entries.old) }
+{
+    entries.put(to, entry)?;
+    if from != to {
+        entries.take(from);
+    }
+    Ok(())
+}

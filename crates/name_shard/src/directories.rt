@@ -1,0 +1,124 @@
+ghost use Rattle.std.specs.Prelude.{◌≡◌, Some, None, IfOk, OnOk, OnErr, is_some};
+ghost use Rattle.std.specs.FinMap.{get};
+ghost use Rattle.ordered_rows.specs.Maps.{set_at};
+ghost use Rattle.store_rules.specs.declared.names.NameReq.TheVariants as req;
+ghost use Rattle.store_rules.specs.Outcomes.{reply};
+ghost use Rattle.store_rules.specs.Names.{make_dir_answer, grant_dir_answer, release_dir_answer, dir_with_hold, dir_lists, name_step};
+ghost use Rattle.name_shard.specs.Outcomes.{outcome_of};
+
+use crate::outcome::Outcome;
+use crate::shard::NameShard;
+use key_maps::DirMap;
+use store_rules::{Directory, NameReply};
+use tect_ids::{DirId, Hold, HoldList, Key, NoMemory, Upper};
+
+// The requests that change a directory.
+impl NameShard {
+    pub(crate) fn make_dir_outcome(&self, dir: DirId) -> Outcome
+        ensures { outcome_of result ≡ make_dir_answer self.now dir }
+    {
+        if self.dirs.get(dir).is_some() {
+            return Outcome::Leaves(NameReply::HasId);
+        }
+        Outcome::Changes(NameReply::Made)
+    }
+
+    pub(crate) fn make_dir(
+        &mut self,
+        dir: DirId,
+        parent: DirId,
+        hold: Hold,
+        key: &Key,
+    ) -> Result<NameReply, NoMemory>
+        ensures answers { IfOk result (λ x. x ≡ reply (make_dir_answer self.old dir)) }
+        ensures steps { OnOk result (self.new ≡ name_step self.old (req.MakeDir dir parent hold key.now)) }
+        ensures err { OnErr result (self.new ≡ self.old) }
+    {
+        match self.make_dir_outcome(dir) {
+            Outcome::Leaves(reply) => Ok(reply),
+            Outcome::Changes(reply) => {
+                let mut holds = HoldList::new(self.alloc);
+                holds.grant(hold, Upper::Entry(key.copy(self.alloc)?))?;
+                let directory = Directory {
+                    parent,
+                    sealed: false,
+                    holds,
+                };
+                match self.dirs.put(dir, directory) {
+                    Ok(_) => Ok(reply),
+                    Err(_) => Err(NoMemory),
+                }
+            }
+        }
+    }
+
+    pub(crate) fn grant_outcome(&self, dir: DirId) -> Outcome
+        ensures { outcome_of result ≡ grant_dir_answer self.now dir }
+    {
+        if self.dirs.get(dir).is_none() {
+            return Outcome::Leaves(NameReply::NoDir);
+        }
+        Outcome::Changes(NameReply::Granted)
+    }
+
+    pub(crate) fn grant(&mut self, dir: DirId, hold: Hold, key: &Key) -> Result<NameReply, NoMemory>
+        ensures answers { IfOk result (λ x. x ≡ reply (grant_dir_answer self.old dir)) }
+        ensures steps { OnOk result (self.new ≡ name_step self.old (req.Grant dir hold key.now)) }
+        ensures err { OnErr result (self.new ≡ self.old) }
+    {
+        match self.grant_outcome(dir) {
+            Outcome::Leaves(reply) => Ok(reply),
+            Outcome::Changes(reply) => {
+                let key = Upper::Entry(key.copy(self.alloc)?);
+                grant_hold(&mut self.dirs, dir, hold, key)?;
+                Ok(reply)
+            }
+        }
+    }
+
+    // Whether the directory lists the hold.
+    pub(crate) fn lists(&self, dir: DirId, hold: Hold) -> bool
+        ensures { result ≡ is_some (dir_lists (get self.now.dirs dir) hold) }
+    {
+        match self.dirs.get(dir) {
+            None => false,
+            Some(directory) => directory.holds.has(hold),
+        }
+    }
+
+    pub(crate) fn release(&mut self, dir: DirId, hold: Hold) -> NameReply
+        ensures answers { result ≡ reply (release_dir_answer self.old dir hold) }
+        ensures steps { self.new ≡ name_step self.old (req.Release dir hold) }
+    {
+        NameReply::Released {
+            was: release_hold(&mut self.dirs, dir, hold),
+        }
+    }
+}
+
+// Lists the hold with that key where the directory stands.
+fn grant_hold(
+    dirs: &mut DirMap<Directory>,
+    dir: DirId,
+    hold: Hold,
+    key: Upper,
+) -> Result<(), NoMemory>
+    ensures listed { OnOk result (dirs.new ≡ set_at dirs.old dir (dir_with_hold (get dirs.old dir) hold (Some key))) }
+    ensures unchanged { OnErr result (dirs.new ≡ dirs.old) }
+{
+    match dirs.get_mut(dir) {
+        None => Ok(()),
+        Some(directory) => directory.holds.grant(hold, key),
+    }
+}
+
+// Takes the hold off the directory's list, and says whether it was there.
+fn release_hold(dirs: &mut DirMap<Directory>, dir: DirId, hold: Hold) -> bool
+    ensures was { result ≡ is_some (dir_lists (get dirs.old dir) hold) }
+    ensures gone { dirs.new ≡ set_at dirs.old dir (dir_with_hold (get dirs.old dir) hold None) }
+{
+    match dirs.get_mut(dir) {
+        None => false,
+        Some(directory) => directory.holds.release(hold),
+    }
+}

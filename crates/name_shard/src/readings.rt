@@ -1,0 +1,62 @@
+ghost use Rattle.std.specs.Prelude.{◌≡◌, map, IfOk};
+ghost use Rattle.std.specs.FinMap.{entries};
+ghost use Rattle.key_maps.specs.Maps.{within};
+ghost use Rattle.store_rules.specs.Outcomes.{reply};
+ghost use Rattle.store_rules.specs.Names.{check_dir_answer, look_answer, list_answer, listed};
+
+use crate::shard::NameShard;
+use store_rules::NameReply;
+use tect_ids::{DirId, Items, Key, Listed, NoMemory};
+
+// The requests that change nothing.
+impl NameShard {
+    pub(crate) fn check_dir(&self, dir: DirId) -> NameReply
+        ensures { result ≡ reply (check_dir_answer self.now dir) }
+    {
+        match self.dirs.get(dir) {
+            None => NameReply::NoDir,
+            Some(directory) => NameReply::DirIs {
+                parent: directory.parent,
+                sealed: directory.sealed,
+            },
+        }
+    }
+
+    pub(crate) fn look(&self, key: &Key) -> NameReply
+        ensures { result ≡ reply (look_answer self.now key.now) }
+    {
+        if self.dirs.get(key.dir).is_none() {
+            return NameReply::NoDir;
+        }
+        match self.entries.get(key) {
+            None => NameReply::NoName,
+            Some(entry) => NameReply::Found { node: entry.node },
+        }
+    }
+
+    pub(crate) fn list(&self, dir: DirId) -> Result<NameReply, NoMemory>
+        ensures { IfOk result (λ x. x ≡ reply (list_answer self.now dir)) }
+    {
+        match self.dirs.get(dir) {
+            None => Ok(NameReply::NoDir),
+            Some(directory) => Ok(NameReply::Listing {
+                sealed: directory.sealed,
+                items: self.listed(dir)?,
+            }),
+        }
+    }
+
+    // The entries of the directory, in the order of their names.
+    fn listed(&self, dir: DirId) -> Result<Items<Listed>, NoMemory>
+        ensures { IfOk result (λ items. items ≡ map listed (entries (within self.now.entries dir))) }
+    {
+        let mut items = Vec::new(self.alloc);
+        for (key, entry) in self.entries.within(dir) {
+            items.push(Listed {
+                name: key.name.copy(self.alloc)?,
+                node: entry.node,
+            })?;
+        }
+        Ok(Items::from_vec(items))
+    }
+}

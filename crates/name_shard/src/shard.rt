@@ -1,0 +1,124 @@
+ghost use Rattle.std.specs.Prelude.{◌≡◌, IsTrue, IsOk, IfOk, OnOk, OnErr, if◌then◌else◌};
+ghost use Rattle.store_rules.specs.Names.{root_names, no_names, name_answer, name_step};
+ghost use Rattle.store_rules.specs.Outcomes.{reply};
+ghost use Rattle.name_shard.specs.Memory.{takes_no_memory};
+
+use crate::table::EntryTable;
+use key_maps::DirMap;
+use std::alloc::Global;
+use std::marker::Model;
+use store_rules::{Directory, NameReply, NameReq};
+use tect_ids::{DirId, HoldList, NoMemory, ROOT};
+
+/// A shard of the Name layer: some of the directories, with all entries of each.
+#[derive(Drop)]
+pub struct NameShard {
+    pub(crate) alloc: Global,
+    pub(crate) dirs: DirMap<Directory>,
+    pub(crate) entries: EntryTable,
+}
+
+impl Model for NameShard {
+    ghost use Rattle.store_rules.specs.Names.{Names};
+    ghost use Rattle.name_shard.specs.Codes.{names_code};
+    ghost use Rattle.name_shard.specs.Limits.{IsWithinLimit};
+
+    ghost Value = { Names };
+
+    ghost coded = { names_code };
+
+    ghost view = { λ s. record { dirs = s.dirs; entries = s.entries } };
+
+    ghost invariant = { λ s. IsWithinLimit s.entries };
+}
+
+impl NameShard {
+    /// A shard with the root directory, or with none.
+    pub fn new(alloc: Global, has_root: bool) -> Result<NameShard, NoMemory>
+        ensures { IfOk result (λ s. s ≡ (if has_root then root_names else no_names)) }
+    {
+        let mut dirs = DirMap::new(alloc);
+        if has_root {
+            let root = Directory {
+                parent: DirId(0),
+                sealed: false,
+                holds: HoldList::new(alloc),
+            };
+            if dirs.put(ROOT, root).is_err() {
+                return Err(NoMemory);
+            }
+        }
+        Ok(NameShard {
+            alloc,
+            dirs,
+            entries: EntryTable::new(alloc),
+        })
+    }
+
+    /// Answers the request, and makes the change where the request is not refused.
+    pub fn step(&mut self, req: &NameReq) -> Result<NameReply, NoMemory>
+        ensures answers { IfOk result (λ x. x ≡ reply (name_answer self.old req.now)) }
+        ensures steps { OnOk result (self.new ≡ name_step self.old req.now) }
+        ensures err { OnErr result (self.new ≡ self.old) }
+
+        // What wants no memory is always answered.
+        ensures sure { IsTrue (takes_no_memory req.now) → IsOk result }
+    {
+        match req {
+            NameReq::CheckDir { dir } => Ok(self.check_dir(*dir)),
+            NameReq::Look { key } => Ok(self.look(key)),
+            NameReq::List { dir } => self.list(*dir),
+            NameReq::MakeDir {
+                dir,
+                parent,
+                hold,
+                key,
+            } => self.make_dir(*dir, *parent, *hold, key),
+            NameReq::Bind {
+                key,
+                node,
+                hold,
+                over,
+            } => self.bind(key, *node, *hold, *over),
+            NameReq::Swap {
+                dir,
+                from,
+                to,
+                node,
+                hold,
+            } => self.swap(*dir, from, to, *node, *hold),
+            NameReq::Unbind { key, want } => Ok(self.unbind(key, *want)),
+            NameReq::Grant { dir, hold, key } => self.grant(*dir, *hold, key),
+            NameReq::Release { dir, hold } => Ok(self.release(*dir, *hold)),
+        }
+    }
+
+    /// What `step` would answer. It changes nothing.
+    pub fn reply(&self, req: &NameReq) -> Result<NameReply, NoMemory>
+        ensures answers { IfOk result (λ x. x ≡ reply (name_answer self.now req.now)) }
+        ensures sure { IsTrue (takes_no_memory req.now) → IsOk result }
+    {
+        match req {
+            NameReq::CheckDir { dir } => Ok(self.check_dir(*dir)),
+            NameReq::Look { key } => Ok(self.look(key)),
+            NameReq::List { dir } => self.list(*dir),
+            NameReq::MakeDir { dir, .. } => Ok(self.make_dir_outcome(*dir).into_reply()),
+            NameReq::Bind { key, over, .. } => Ok(self.bind_outcome(key, *over).into_reply()),
+            NameReq::Swap {
+                dir,
+                from,
+                to,
+                node,
+                ..
+            } => {
+                let (from, to) = self.keys_in(*dir, from, to)?;
+                Ok(self.swap_outcome(&from, &to, *node).into_reply())
+            }
+            NameReq::Unbind { key, want } => Ok(self.unbind_outcome(key, *want).into_reply()),
+            NameReq::Grant { dir, .. } => Ok(self.grant_outcome(*dir).into_reply()),
+            NameReq::Release { dir, hold } => Ok(NameReply::Released {
+                was: self.lists(*dir, *hold),
+            }),
+        }
+    }
+}

@@ -1,0 +1,343 @@
+ghost use Rattle.std.specs.Prelude.{◌≡◌, IfOk, OnErr, Some, None, is_some};
+ghost use Rattle.op_names.specs.Paths.{last_name};
+ghost use Rattle.op_names.specs.Programs.{refusal, dir_refusal, looked, look_heard, entries_heard, made_heard, unbound_heard, source_heard, first_hear, then_release, bound_heard, swapped_heard, phase_hear, hear_at, own_hold};
+ghost use Rattle.op_names.specs.Walking.{walk_end, walk_heard};
+ghost use Rattle.tect_ids.specs.Keys.{name_eq};
+ghost use Rattle.store_rules.specs.Names.{key_in};
+ghost use Rattle.store_rules.specs.Views.{as_found, as_bound, as_unbound, as_swapped, as_listing, as_parent};
+
+use crate::ask::hold_of;
+use crate::paths::{key_at, last_key, without_first};
+use crate::program::Phase;
+use crate::refusals::{dir_refusal_of, refusal_of};
+use std::alloc::Global;
+use std::mem;
+use store_rules::{AnyReply, NameReply, Replaced};
+use tect_ids::{
+    Answer, Command, DirId, FileId, Key, Name, NoMemory, Node, OpId, Over, Path, Place,
+};
+
+/// The end of a command that was refused, by a request that concerned the entry.
+fn refused(alloc: Global, place: Place, key: &Key, reply: &AnyReply) -> Result<Phase, NoMemory>
+    ensures { IfOk result (λ phase. phase ≡ Phase.End (refusal place key.now reply.now)) }
+{
+    let answer = refusal_of(alloc, place, key, reply)?;
+    Ok(Phase::End { answer })
+}
+
+/// The last look of a command that looks a path up.
+fn look_heard_of(
+    alloc: Global,
+    place: Place,
+    dir: DirId,
+    path: &Path,
+    reply: &AnyReply,
+) -> Result<Phase, NoMemory>
+    ensures { IfOk result (λ phase. phase ≡ look_heard place dir path.now reply.now) }
+{
+    let Some(key) = last_key(alloc, dir, path)? else {
+        let answer = match reply {
+            AnyReply::Name(NameReply::DirIs { .. }) => Answer::Found {
+                node: Node::Dir(dir),
+            },
+            _ => dir_refusal_of(place, reply),
+        };
+        return Ok(Phase::End { answer });
+    };
+    match reply.as_found() {
+        Some(node) => Ok(Phase::End {
+            answer: Answer::Found { node },
+        }),
+        None => refused(alloc, place, &key, reply),
+    }
+}
+
+/// The reply to a listing.
+fn entries_heard_of(alloc: Global, place: Place, reply: &AnyReply) -> Result<Phase, NoMemory>
+    ensures { IfOk result (λ phase. phase ≡ entries_heard place reply.now (as_listing reply.now)) }
+{
+    let answer = match reply {
+        AnyReply::Name(NameReply::Listing { items, .. }) => Answer::Entries {
+            items: items.copy(alloc)?,
+        },
+        _ => dir_refusal_of(place, reply),
+    };
+    Ok(Phase::End { answer })
+}
+
+/// What was made is bound next.
+fn made_heard_of(
+    alloc: Global,
+    place: Place,
+    key: Key,
+    node: Node,
+    over: Over,
+    reply: &AnyReply,
+) -> Result<Phase, NoMemory>
+    ensures { IfOk result (λ phase. phase ≡ made_heard place key node over reply.now) }
+{
+    if reply.is_made() {
+        return Ok(Phase::Bind { key, node, over });
+    }
+    refused(alloc, place, &key, reply)
+}
+
+/// The hold of what an unbind took the name from is released next.
+fn unbound_heard_of(
+    alloc: Global,
+    place: Place,
+    key: &Key,
+    reply: &AnyReply,
+) -> Result<Phase, NoMemory>
+    ensures { IfOk result (λ phase. phase ≡ unbound_heard place key.now reply.now (as_unbound reply.now)) }
+{
+    match reply.as_unbound() {
+        Some((node, hold)) => Ok(Phase::Release {
+            node,
+            hold,
+            old: None,
+            answer: Answer::Done,
+        }),
+        None => refused(alloc, place, key, reply),
+    }
+}
+
+/// Whether the path's last name is this one.
+fn ends_with(path: &Path, name: &Name) -> bool
+    ensures { result ≡ name_eq name.now (last_name path.now) }
+{
+    match path.as_slice() {
+        [.., last] => name == last,
+        [] => name.bytes().is_empty(),
+    }
+}
+
+/// The node under the old name of a rename was found, or not.
+fn source_heard_of(
+    alloc: Global,
+    place: Place,
+    key: Key,
+    to: &Path,
+    reply: &AnyReply,
+) -> Result<Phase, NoMemory>
+    ensures { IfOk result (λ phase. phase ≡ source_heard place key (last_name to.now) reply.now (as_found reply.now)) }
+{
+    match reply.as_found() {
+        None => refused(alloc, place, &key, reply),
+        Some(node) => {
+            if ends_with(to, &key.name) {
+                return Ok(Phase::End {
+                    answer: Answer::Done,
+                });
+            }
+            Ok(Phase::Grant { key, node })
+        }
+    }
+}
+
+/// The phase after the reply to a command's first own request.
+fn first_hear_of(
+    alloc: Global,
+    place: Place,
+    number: u64,
+    dir: DirId,
+    command: &Command,
+    reply: &AnyReply,
+) -> Result<Phase, NoMemory>
+    ensures { IfOk result (λ phase. phase ≡ first_hear place number dir command.now reply.now) }
+{
+    match command {
+        Command::Look { path } => look_heard_of(alloc, place, dir, path, reply),
+        Command::List { .. } => entries_heard_of(alloc, place, reply),
+        Command::Create { path } => match last_key(alloc, dir, path)? {
+            Some(key) => {
+                let node = Node::File(FileId(number));
+                made_heard_of(alloc, place, key, node, Over::File, reply)
+            }
+            None => Ok(odd(place)),
+        },
+        Command::Mkdir { path } => match last_key(alloc, dir, path)? {
+            Some(key) => {
+                let node = Node::Dir(DirId(number));
+                made_heard_of(alloc, place, key, node, Over::Absent, reply)
+            }
+            None => Ok(odd(place)),
+        },
+        Command::Delete { path } => match last_key(alloc, dir, path)? {
+            Some(key) => unbound_heard_of(alloc, place, &key, reply),
+            None => Ok(odd(place)),
+        },
+        Command::Rename { from, to } => match last_key(alloc, dir, from)? {
+            Some(key) => source_heard_of(alloc, place, key, to, reply),
+            None => Ok(odd(place)),
+        },
+        _ => Ok(odd(place)),
+    }
+}
+
+/// The end at a reply that the command has no use for.
+fn odd(place: Place) -> Phase
+    ensures { result ≡ Phase.End (Answer.Odd place) }
+{
+    Phase::End {
+        answer: Answer::Odd { place },
+    }
+}
+
+/// The hold of a file that was replaced is released before the answer.
+fn then_release_of(old: Option<Replaced>, answer: Answer) -> Phase
+    ensures { result ≡ then_release old answer }
+{
+    match old {
+        None => Phase::End { answer },
+        Some(Replaced { file, hold }) => Phase::Release {
+            node: Node::File(file),
+            hold,
+            old: None,
+            answer,
+        },
+    }
+}
+
+/// A command whose bind or swap was refused gives its own hold back.
+fn give_back(
+    alloc: Global,
+    place: Place,
+    op: OpId,
+    key: &Key,
+    node: Node,
+    reply: &AnyReply,
+) -> Result<Phase, NoMemory>
+    ensures { IfOk result (λ phase. phase ≡ Phase.Release node (own_hold op) None (refusal place key.now reply.now)) }
+{
+    let answer = refusal_of(alloc, place, key, reply)?;
+    Ok(Phase::Release {
+        node,
+        hold: hold_of(op),
+        old: None,
+        answer,
+    })
+}
+
+fn bound_heard_of(
+    alloc: Global,
+    place: Place,
+    op: OpId,
+    key: &Key,
+    node: Node,
+    reply: &AnyReply,
+) -> Result<Phase, NoMemory>
+    ensures { IfOk result (λ phase. phase ≡ bound_heard place op key.now node reply.now (as_bound reply.now)) }
+{
+    match reply.as_bound() {
+        Some(old) => Ok(then_release_of(old, Answer::Found { node })),
+        None => give_back(alloc, place, op, key, node, reply),
+    }
+}
+
+fn swapped_heard_of(
+    alloc: Global,
+    place: Place,
+    op: OpId,
+    key: &Key,
+    node: Node,
+    reply: &AnyReply,
+) -> Result<Phase, NoMemory>
+    ensures { IfOk result (λ phase. phase ≡ swapped_heard place op key.now node reply.now (as_swapped reply.now)) }
+{
+    match reply.as_swapped() {
+        Some((hold, old)) => Ok(Phase::Release {
+            node,
+            hold,
+            old,
+            answer: Answer::Done,
+        }),
+        None => give_back(alloc, place, op, key, node, reply),
+    }
+}
+
+/// A look on the way that found no directory ends the command.
+fn walk_ends(
+    alloc: Global,
+    place: Place,
+    dir: DirId,
+    name: &Name,
+    reply: &AnyReply,
+) -> Result<Phase, NoMemory>
+    ensures { IfOk result (λ phase. phase ≡ walk_end place (key_in dir name.now) reply.now (as_found reply.now)) }
+{
+    match reply.as_found() {
+        Some(_) => Ok(Phase::End {
+            answer: Answer::NotDir,
+        }),
+        None => {
+            let key = key_at(alloc, dir, name)?;
+            refused(alloc, place, &key, reply)
+        }
+    }
+}
+
+/// The phase after the reply to the request of a phase. For want of memory the phase stays as it was; else it is used
+/// up.
+pub fn next_phase(
+    alloc: Global,
+    place: Place,
+    op: OpId,
+    number: u64,
+    command: &Command,
+    phase: &mut Phase,
+    reply: &AnyReply,
+) -> Result<Phase, NoMemory>
+    ensures ok { IfOk result (λ next. next ≡ phase_hear place op number command.now phase.old reply.now) }
+    ensures err { OnErr result (phase.new ≡ phase.old) }
+{
+    match phase {
+        Phase::Walk { dir, rest } => walk_heard_of(
+            alloc, place, number, *dir, rest, command, reply,
+        ),
+        Phase::Bind { key, node, .. } => bound_heard_of(alloc, place, op, key, *node, reply),
+        Phase::Grant { key, node } => {
+            if !reply.is_granted() {
+                return refused(alloc, place, key, reply);
+            }
+            let key = key.copy(alloc)?;
+            Ok(Phase::Swap { key, node: *node })
+        }
+        Phase::Swap { key, node } => swapped_heard_of(alloc, place, op, key, *node, reply),
+        Phase::Release { old, answer, .. } => {
+            let answer = mem::replace(answer, Answer::Done);
+            Ok(then_release_of(*old, answer))
+        }
+        Phase::End { answer } => Ok(Phase::End {
+            answer: mem::replace(answer, Answer::Done),
+        }),
+    }
+}
+
+/// The phase after the reply to a look on the way, or to the command's first own request where nothing is left to walk.
+fn walk_heard_of(
+    alloc: Global,
+    place: Place,
+    number: u64,
+    dir: DirId,
+    rest: &mut Path,
+    command: &Command,
+    reply: &AnyReply,
+) -> Result<Phase, NoMemory>
+    ensures ok { IfOk result (λ next. next ≡ walk_heard place number dir rest.old command.now reply.now) }
+    ensures err { OnErr result (rest.new ≡ rest.old) }
+{
+    match rest.as_slice() {
+        [] => first_hear_of(alloc, place, number, dir, command, reply),
+        [name, ..] => match reply.as_found() {
+            Some(Node::Dir(found)) => {
+                let names = mem::replace(rest, Path::new(alloc));
+                Ok(Phase::Walk {
+                    dir: found,
+                    rest: without_first(names),
+                })
+            }
+            _ => walk_ends(alloc, place, dir, name, reply),
+        },
+    }
+}

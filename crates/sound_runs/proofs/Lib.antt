@@ -1,0 +1,5 @@
+pub mod Refusals
+pub mod PhasesAsk
+pub mod PhasesKeep
+pub mod MomentsKeep
+pub mod RunsKeep

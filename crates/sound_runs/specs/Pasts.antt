@@ -1,0 +1,31 @@
+-- The past of a run, event by event.
+use Rattle.std.specs.Prelude.{List, [], ◌∷◌}
+use Rattle.tect_ids.specs.declared.ids.Counts.{Counts}
+use Rattle.world_runs.specs.declared.event.Event.{Event}
+use Rattle.world_runs.specs.declared.event.Event.TheVariants.{Began, Acted, Ended, Stopped}
+use Rattle.world_runs.specs.Moments.{Moment, opening, after, moment}
+use Rattle.store_world.specs.Worlds.{Ghost, World, opening_ghost, ghost_next}
+
+-- the past after an event: transactions alone change it
+abbrev pub ghost_after : Moment → Ghost → Event → Ghost
+ghost_after m g (Began op c) = g
+ghost_after m g (Acted op q x) = ghost_next m.store g q
+ghost_after m g (Ended op a) = g
+ghost_after m g (Stopped op) = g
+
+-- the past after these events
+abbrev pub ghosts_after : Moment → Ghost → List Event → Ghost
+ghosts_after m g [] = g
+ghosts_after m g (e ∷ es) = ghosts_after (after m e) (ghost_after m g e) es
+
+-- the past of a history
+abbrev pub ghosts : Counts → List Event → Ghost
+ghosts counts events = ghosts_after (opening counts) opening_ghost events
+
+-- the store of a moment beside its past
+abbrev pub world_of : Moment → Ghost → World
+world_of m g = record { store = m.store; ghost = g }
+
+-- the store after a history, beside its past
+abbrev pub world : Counts → List Event → World
+world counts events = world_of (moment counts events) (ghosts counts events)

@@ -1,0 +1,30 @@
+//! Laws of every run of the world: each moment is sound, no command answers that a reply was odd, each running command
+//! goes on, and the numbers of actors stay small. Nothing here is called: each function's contract is a law.
+#![tactic(auto)]
+
+ghost use Rattle.sound_runs.specs.Laws.{EveryMomentIsSound, NoRunAnswersOdd, RunningGoesOn, NumbersStaySmall, RunningIsLastBegun};
+
+/// At every moment of every run the store is sound.
+pub fn every_moment_is_sound()
+    ensures { EveryMomentIsSound }
+{}
+
+/// No command of a run comes to the answer that a reply was odd.
+pub fn no_run_answers_odd()
+    ensures { NoRunAnswersOdd }
+{}
+
+/// A command that runs has a next request or its answer.
+pub fn running_goes_on()
+    ensures { RunningGoesOn }
+{}
+
+/// An actor makes at most one object for each command that it begins, and begins fewer than 2^31 commands.
+pub fn numbers_stay_small()
+    ensures { NumbersStaySmall }
+{}
+
+/// The command that an actor runs is the last that it began, and actors are numbered from 1 to 65.
+pub fn running_is_last_begun()
+    ensures { RunningIsLastBegun }
+{}

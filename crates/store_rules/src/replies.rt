@@ -1,0 +1,71 @@
+ghost use Rattle.std.specs.Prelude.{◌≡◌};
+ghost use Rattle.std.specs.Option.{option_copied};
+ghost use Rattle.store_rules.specs.Views.{as_found, as_bound, as_unbound, as_swapped, is_made, is_granted};
+
+use crate::any::AnyReply;
+use crate::files::FileReply;
+use crate::names::{NameReply, Replaced};
+use tect_ids::{Hold, Node};
+
+impl AnyReply {
+    /// The node that a look found.
+    pub fn as_found(&self) -> Option<Node>
+        ensures { result ≡ as_found self.now }
+    {
+        match self {
+            AnyReply::Name(NameReply::Found { node }) => Some(*node),
+            _ => None,
+        }
+    }
+
+    /// What a bind replaced, if it was done.
+    pub fn as_bound(&self) -> Option<Option<Replaced>>
+        ensures { result ≡ as_bound self.now }
+    {
+        match self {
+            AnyReply::Name(NameReply::Bound { old }) => Some(*old),
+            _ => None,
+        }
+    }
+
+    /// What an unbind took the name from, if it was done.
+    pub fn as_unbound(&self) -> Option<(Node, Hold)>
+        ensures { result ≡ as_unbound self.now }
+    {
+        match self {
+            AnyReply::Name(NameReply::Unbound { node, hold }) => Some((*node, *hold)),
+            _ => None,
+        }
+    }
+
+    /// The hold of the old name, and what the new one replaced, if a swap was done.
+    pub fn as_swapped(&self) -> Option<(Hold, Option<Replaced>)>
+        ensures { result ≡ as_swapped self.now }
+    {
+        match self {
+            AnyReply::Name(NameReply::Swapped { hold, old }) => Some((*hold, *old)),
+            _ => None,
+        }
+    }
+
+    /// Whether a directory or a file was made.
+    pub fn is_made(&self) -> bool
+        ensures { result ≡ is_made self.now }
+    {
+        matches!(
+            self,
+            AnyReply::Name(NameReply::Made) | AnyReply::File(FileReply::Made)
+        )
+    }
+
+    /// Whether a hold was granted.
+    pub fn is_granted(&self) -> bool
+        ensures { result ≡ is_granted self.now }
+    {
+        matches!(
+            self,
+            AnyReply::Name(NameReply::Made | NameReply::Granted)
+                | AnyReply::File(FileReply::Made | FileReply::Granted)
+        )
+    }
+}

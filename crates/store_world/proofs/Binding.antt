@@ -1,0 +1,217 @@
+-- requests that name a node, or take its name away
+use Rattle.std.proofs.Common.{◌≡◌, ℕ, List, true, false, Option, Some, None, arith}
+use Rattle.std.specs.FinMap.{get}
+use Rattle.tect_ids.specs.declared.ids.DirId.{DirId}
+use Rattle.tect_ids.specs.declared.ids.Hold.{Hold}
+use Rattle.tect_ids.specs.declared.ids.Node.{Node}
+use Rattle.tect_ids.specs.declared.ids.Node.TheVariants.{Dir}
+use Rattle.tect_ids.specs.declared.key.Key.{Key}
+use Rattle.tect_ids.specs.declared.values.Over.{Over}
+use Rattle.tect_ids.specs.declared.values.Want.{Want}
+use Rattle.key_maps.proofs.Lookups.{maps}
+use Rattle.store_rules.specs.declared.names.Entry.{Entry}
+use Rattle.store_rules.specs.declared.names.Replaced.{Replaced}
+use Rattle.store_rules.specs.declared.names.NameReq.TheVariants as names
+use Rattle.store_rules.specs.declared.any.AnyReq.TheVariants as any
+use Rattle.store_rules.specs.Names.{key_in, replaced}
+use Rattle.store_rules.specs.Store.{store_changes, store_reply}
+use Rattle.store_rules.specs.Views.{as_unbound, as_swapped}
+use Rattle.store_world.specs.Worlds.{World, Live, done, ghost_given_up}
+use Rattle.store_world.specs.Sound.{Sound, was_made, dead_in, IsGranted, is_spent}
+use Rattle.store_world.specs.Later.{Later, Touched}
+use Rattle.store_world.specs.Requests.{Needs, Kept}
+
+-- a hold's node was made, and so was the directory that it is for
+module _ (w : World) (s : Sound w) (h : Hold) (n : Node) (k : Key) (granted : IsGranted w h n k) where
+  lower : was_made w.ghost n ≡ true
+  lower = s.holds.lower_made h record { lower = n; upper = k; phase = Live } granted
+
+  upper : was_made w.ghost (Dir k.dir) ≡ true
+  upper = s.holds.upper_made h record { lower = n; upper = k; phase = Live } granted
+
+-- the world where the hold is given up
+abbrev pub giving_up : World → Hold → World
+giving_up w h = record { store = w.store; ghost = ghost_given_up w.ghost h }
+
+-- a hold that was granted and not bound is given up
+module _ (w : World) (s : Sound w) (h : Hold) (n : Node) (k : Key) (granted : IsGranted w h n k) where
+  pub given_up_sound : Sound (giving_up w h)
+  given_up_sound = record {
+    entries = record {
+      bound = λ x e is. grind (arith, maps, s.entries.bound x e);
+      at_home = s.entries.at_home;
+      in_dir = s.entries.in_dir;
+      set = λ x g is p. grind (arith, maps, s.entries.set x g);
+    };
+    holds = record {
+      set = λ x g is p. grind (arith, maps, s.holds.set x g);
+      live = λ x g is l nd. grind (arith, maps, s.holds.live x g);
+      listed = λ m x u is. grind (arith, maps, s.holds.listed m x u);
+      lower_made = λ x g is. grind (arith, maps, s.holds.lower_made x, lower w s h n k granted);
+      upper_made = λ x g is. grind (arith, maps, s.holds.upper_made x, upper w s h n k granted);
+    };
+    nodes = s.nodes;
+  }
+
+  pub given_up_later : (by : Touched) → by.hold h ≡ true → Later by w (giving_up w h)
+  given_up_later by mine = record {
+    made = λ m e. e;
+    unmade = λ m o e. e;
+    named = λ m e. e;
+    unnamed = λ m o e. e;
+    fresh = λ x o e. grind (arith, maps);
+    live = λ x g o e l. grind (arith, maps);
+    kept = λ x p e. grind (arith, maps);
+    spent = λ x e. grind (arith, maps);
+  }
+
+  pub given_up_spent : is_spent (giving_up w h) h ≡ true
+  given_up_spent = grind (arith, maps)
+
+-- Bind
+module _ (w : World) (s : Sound w) (k : Key) (n : Node) (h : Hold) (o : Over) (needs : Needs w (any.Name (names.Bind k n h o))) where
+  pub bind_done : store_changes w.store (any.Name (names.Bind k n h o)) ≡ true → Kept w (done w (any.Name (names.Bind k n h o))) (any.Name (names.Bind k n h o))
+  bind_done ok =
+      let able : dead_in w.store k.dir h.op ≡ false = grind arith in
+      record {
+        sound = record {
+          entries = record {
+            bound = λ x e is. grind (arith, maps, s.entries.bound x e, s.entries.bound k);
+            at_home = λ x e is. grind (arith, maps, s.entries.at_home x e);
+            in_dir = λ x is. grind (arith, maps, s.entries.in_dir x);
+            set = λ x g is p. grind (arith, maps, s.entries.set x g, s.entries.bound k);
+          };
+          holds = record {
+            set = λ x g is p. grind (arith, maps, able, s.holds.set x g, s.entries.bound k, s.holds.live h record { lower = n; upper = k; phase = Live });
+            live = λ x g is l nd. grind (arith, maps, s.holds.live x g);
+            listed = λ m x u is. grind (arith, maps, s.holds.listed m x u, s.entries.bound k);
+            lower_made = λ x g is. grind (arith, maps, s.holds.lower_made x, lower w s h n k needs.0, s.entries.bound k);
+            upper_made = λ x g is. grind (arith, maps, s.holds.upper_made x, upper w s h n k needs.0, s.entries.bound k);
+          };
+          nodes = record {
+            standing_made = s.nodes.standing_made;
+            named_made = λ m e. grind (arith, maps, s.nodes.named_made m, lower w s h n k needs.0);
+          };
+        };
+        later = record {
+          made = λ m e. e;
+          unmade = λ m o e. e;
+          named = λ m e. grind (arith, maps);
+          unnamed = λ m o e. grind (arith, maps);
+          fresh = λ x o e. grind (arith, maps, s.entries.bound k);
+          live = λ x g o e l. grind (arith, maps, s.entries.bound k);
+          kept = λ x p e. grind (arith, maps, s.entries.bound k);
+          spent = λ x e. grind (arith, maps, able, s.entries.bound k);
+        };
+        taught = grind (arith, maps, s.entries.bound k);
+      }
+
+-- Unbind
+module _ (w : World) (s : Sound w) (k : Key) (want : Want) where
+  -- what an unbind says of the entry that it took
+  abbrev taken : Option Entry → Option (Node × Hold)
+  taken None = None
+  taken (Some e) = Some (e.node, e.hold)
+
+  unbind_says : store_changes w.store (any.Name (names.Unbind k want)) ≡ true → as_unbound (store_reply w.store (any.Name (names.Unbind k want))) ≡ taken (get w.store.names.entries k)
+  unbind_says ok = grind arith
+
+  pub unbind_done : store_changes w.store (any.Name (names.Unbind k want)) ≡ true → Kept w (done w (any.Name (names.Unbind k want))) (any.Name (names.Unbind k want))
+  unbind_done ok = record {
+    sound = record {
+      entries = record {
+        bound = λ x e is. grind (arith, maps, s.entries.bound x e, s.entries.bound k);
+        at_home = λ x e is. grind (arith, maps, s.entries.at_home x e);
+        in_dir = λ x is. grind (arith, maps, s.entries.in_dir x);
+        set = λ x g is p. grind (arith, maps, s.entries.set x g, s.entries.bound k);
+      };
+      holds = record {
+        set = λ x g is p. grind (arith, maps, s.holds.set x g, s.entries.bound k);
+        live = λ x g is l nd. grind (arith, maps, s.holds.live x g);
+        listed = λ m x u is. grind (arith, maps, s.holds.listed m x u, s.entries.bound k);
+        lower_made = λ x g is. grind (arith, maps, s.holds.lower_made x, s.entries.bound k);
+        upper_made = λ x g is. grind (arith, maps, s.holds.upper_made x, s.entries.bound k);
+      };
+      nodes = s.nodes;
+    };
+    later = record {
+      made = λ m e. e;
+      unmade = λ m o e. e;
+      named = λ m e. e;
+      unnamed = λ m o e. e;
+      fresh = λ x o e. grind (arith, maps, s.entries.bound k);
+      live = λ x g o e l. grind (arith, maps, s.entries.bound k);
+      kept = λ x p e. grind (arith, maps, s.entries.bound k);
+      spent = λ x e. grind (arith, maps, s.entries.bound k);
+    };
+    taught = rw (unbind_says ok) (grind (arith, maps, s.entries.bound k));
+  }
+
+-- Swap
+module _ (w : World) (s : Sound w) (d : DirId) (from to : List ℕ) (n : Node) (h : Hold) (needs : Needs w (any.Name (names.Swap d from to n h))) where
+  -- the old key
+  abbrev from_key : Key
+  from_key = key_in d from
+
+  -- the new key
+  abbrev to_key : Key
+  to_key = key_in d to
+
+  -- what stood at the new name
+  abbrev gone : Option Entry → Option Replaced
+  gone None = None
+  gone (Some e) = Some (replaced e)
+
+  -- what a swap says of the entries that stood at both
+  abbrev both_gone : Option Entry → Option Entry → Option (Hold × Option Replaced)
+  both_gone None old = None
+  both_gone (Some e) old = Some (e.hold, gone old)
+
+  swap_says : store_changes w.store (any.Name (names.Swap d from to n h)) ≡ true → as_swapped (store_reply w.store (any.Name (names.Swap d from to n h))) ≡ both_gone (get w.store.names.entries from_key) (get w.store.names.entries to_key)
+  swap_says ok = grind arith
+
+  -- the node of an entry
+  abbrev node_at : Option Entry → Option Node
+  node_at None = None
+  node_at (Some e) = Some e.node
+
+  -- the old name is the node's
+  swap_from : store_changes w.store (any.Name (names.Swap d from to n h)) ≡ true → node_at (get w.store.names.entries from_key) ≡ Some n
+  swap_from ok = grind (arith, maps)
+
+  pub swap_done : store_changes w.store (any.Name (names.Swap d from to n h)) ≡ true → Kept w (done w (any.Name (names.Swap d from to n h))) (any.Name (names.Swap d from to n h))
+  swap_done ok =
+      let able : dead_in w.store d h.op ≡ false = grind arith in
+      let was : node_at (get w.store.names.entries from_key) ≡ Some n = swap_from ok in
+      record {
+        sound = record {
+          entries = record {
+            bound = λ x e is. grind (arith, maps, s.entries.bound x e, s.entries.bound from_key, s.entries.bound to_key);
+            at_home = λ x e is. grind (arith, maps, was, s.entries.at_home x e, s.entries.at_home from_key);
+            in_dir = λ x is. grind (arith, maps, s.entries.in_dir x);
+            set = λ x g is p. grind (arith, maps, s.entries.set x g, s.entries.bound from_key, s.entries.bound to_key);
+          };
+          holds = record {
+            set = λ x g is p. grind (arith, maps, able, s.holds.set x g, s.entries.bound from_key, s.entries.bound to_key, s.holds.live h record { lower = n; upper = to_key; phase = Live });
+            live = λ x g is l nd. grind (arith, maps, s.holds.live x g);
+            listed = λ m x u is. grind (arith, maps, s.holds.listed m x u, s.entries.bound from_key, s.entries.bound to_key);
+            lower_made = λ x g is. grind (arith, maps, s.holds.lower_made x, lower w s h n to_key needs.0, s.entries.bound from_key, s.entries.bound to_key);
+            upper_made = λ x g is. grind (arith, maps, s.holds.upper_made x, upper w s h n to_key needs.0, s.entries.bound from_key, s.entries.bound to_key);
+          };
+          nodes = record {
+            standing_made = s.nodes.standing_made;
+            named_made = λ m e. grind (arith, maps, s.nodes.named_made m, lower w s h n to_key needs.0);
+          };
+        };
+        later = record {
+          made = λ m e. e;
+          unmade = λ m o e. e;
+          named = λ m e. grind (arith, maps);
+          unnamed = λ m o e. grind (arith, maps, was, s.entries.at_home from_key);
+          fresh = λ x o e. grind (arith, maps, s.entries.bound from_key, s.entries.bound to_key);
+          live = λ x g o e l. grind (arith, maps, s.entries.bound from_key, s.entries.bound to_key);
+          kept = λ x p e. grind (arith, maps, s.entries.bound from_key, s.entries.bound to_key);
+          spent = λ x e. grind (arith, maps, able, s.entries.bound from_key, s.entries.bound to_key);
+        };
+        taught = rw (swap_says ok) (grind (arith, maps, s.entries.bound from_key, s.entries.bound to_key));
+      }

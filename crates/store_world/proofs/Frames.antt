@@ -1,0 +1,56 @@
+-- what a request that changes nothing keeps, and a request that is refused or done
+use Rattle.std.proofs.Common.{◌≡◌, Bool, true, false, refl}
+use Rattle.store_rules.specs.declared.any.AnyReq.{AnyReq}
+use Rattle.store_rules.specs.Store.{store_changes, store_reply}
+use Rattle.store_world.specs.Worlds.{World, done, refused, next}
+use Rattle.store_world.specs.Sound.{Sound}
+use Rattle.store_world.specs.Later.{Touched, Later, Within}
+use Rattle.store_world.specs.Requests.{Taught, Kept}
+
+-- nothing happens
+pub later_same : (by : Touched) (w : World) → Later by w w
+later_same by w = record {
+  made = λ n e. e;
+  unmade = λ n o e. e;
+  named = λ n e. e;
+  unnamed = λ n o e. e;
+  fresh = λ h o e. e;
+  live = λ h g o e l. e;
+  kept = λ h p e. e;
+  spent = λ h e. e;
+}
+
+-- one thing and then another
+pub later_then : (by : Touched) (w v u : World) → Later by w v → Later by v u → Later by w u
+later_then by w v u l m = record {
+  made = λ n e. m.made n (l.made n e);
+  unmade = λ n o e. m.unmade n o (l.unmade n o e);
+  named = λ n e. m.named n (l.named n e);
+  unnamed = λ n o e. m.unnamed n o (l.unnamed n o e);
+  fresh = λ h o e. m.fresh h o (l.fresh h o e);
+  live = λ h g o e p. m.live h g o (l.live h g o e p) p;
+  kept = λ h p e. m.kept h p (l.kept h p e);
+  spent = λ h e. m.spent h (l.spent h e);
+}
+
+-- where more may be touched, less is said
+pub weaken : (t u : Touched) (w v : World) → Within t u → Later t w v → Later u w v
+weaken t u w v i l = record {
+  made = l.made;
+  unmade = λ n o. l.unmade n (i.made n o);
+  named = l.named;
+  unnamed = λ n o. l.unnamed n (i.named n o);
+  fresh = λ h o. l.fresh h (i.hold h o);
+  live = λ h g o. l.live h g (i.hold h o);
+  kept = l.kept;
+  spent = l.spent;
+}
+
+-- a request, refused or done
+pub by_answer : (w : World) (q : AnyReq) (b : Bool) → store_changes w.store q ≡ b → (b ≡ false → Kept w (refused w q) q) → (b ≡ true → Kept w (done w q) q) → Kept w (next w q) q
+by_answer w q true e stayed did = let k : Kept w (done w q) q = did refl in record { sound = rw e k.sound; later = rw e k.later; taught = rw e k.taught }
+by_answer w q false e stayed did = let k : Kept w (refused w q) q = stayed refl in record { sound = rw e k.sound; later = rw e k.later; taught = rw e k.taught }
+
+-- a request that only reads
+pub by_reading : (w : World) (q : AnyReq) → Sound w → Taught w q (store_reply w.store q) → Kept w w q
+by_reading w q s t = record { sound = s; later = later_same _ w; taught = t }

@@ -1,0 +1,5 @@
+pub mod Frames
+pub mod Making
+pub mod Binding
+pub mod Holding
+pub mod Rows

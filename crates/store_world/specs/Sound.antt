@@ -1,0 +1,98 @@
+-- When a world is sound. Its clauses stand in groups, each a record over the parts that it reads.
+use Rattle.std.specs.Prelude.{◌≡◌, Bool, true, false, Option, Some, None, is_some}
+use Rattle.std.specs.FinMap.{FinMap, get}
+use Rattle.tect_ids.specs.declared.ids.DirId.{DirId}
+use Rattle.tect_ids.specs.declared.ids.Hold.{Hold}
+use Rattle.tect_ids.specs.declared.ids.Node.{Node}
+use Rattle.tect_ids.specs.declared.ids.Node.TheVariants.{Dir, File}
+use Rattle.tect_ids.specs.declared.ids.OpId.{OpId}
+use Rattle.tect_ids.specs.declared.key.Key.{Key}
+use Rattle.tect_ids.specs.declared.key.Upper.{Upper}
+use Rattle.tect_ids.specs.declared.key.Upper.TheVariants as uppers
+use Rattle.tect_ids.specs.Keys.{key_cmp}
+use Rattle.store_rules.specs.declared.names.Directory.{Directory}
+use Rattle.store_rules.specs.declared.names.Entry.{Entry}
+use Rattle.store_rules.specs.Names.{dir_lists}
+use Rattle.store_rules.specs.Files.{file_lists}
+use Rattle.store_rules.specs.Store.{Store}
+use Rattle.store_world.specs.Worlds.{HoldPhase, Live, Set, Past, Given, Ghost, World}
+
+-- what the node lists the hold for; nothing where the node does not stand
+abbrev pub lists : Store → Node → Hold → Option Upper
+lists s (Dir d) h = dir_lists (get s.names.dirs d) h
+lists s (File f) h = file_lists (get s.files f) h
+
+-- whether the node stands
+abbrev pub stands : Store → Node → Bool
+stands s (Dir d) = is_some (get s.names.dirs d)
+stands s (File f) = is_some (get s.files f)
+
+-- whether the node was ever made
+abbrev pub was_made : Ghost → Node → Bool
+was_made g n = is_some (get g.made n)
+
+-- whether the op can bind nothing in that directory any more: it stands no more
+abbrev pub dead : Option Directory → OpId → Bool
+dead None op = true
+dead (Some d) op = false
+
+-- the same of a directory by its identifier
+abbrev pub dead_in : Store → DirId → OpId → Bool
+dead_in s d op = dead (get s.names.dirs d) op
+
+-- the hold of an entry
+abbrev pub hold_of : Option Entry → Option Hold
+hold_of None = None
+hold_of (Some e) = Some e.hold
+
+-- the node that a hold holds, and what it was granted for
+abbrev pub leads : Option Given → Option (Node × Upper)
+leads None = None
+leads (Some g) = Some (g.lower, uppers.Entry g.upper)
+
+-- of the entries: each one's hold is bound at just its key, and its node is at home there
+pub record SoundEntries (entries : FinMap key_cmp Entry) (standing : DirId → Bool) (given : Hold → Option Given) (home : Node → Option Key) : Type 0 where
+  pub bound : (k : Key) (e : Entry) → get entries k ≡ Some e → given e.hold ≡ Some record { lower = e.node; upper = k; phase = Set }
+  pub at_home : (k : Key) (e : Entry) → get entries k ≡ Some e → home e.node ≡ Some k
+  pub in_dir : (k : Key) → is_some (get entries k) ≡ true → standing k.dir ≡ true
+  -- a hold that is bound is bound at its key
+  pub set : (h : Hold) (g : Given) → given h ≡ Some g → g.phase ≡ Set → hold_of (get entries g.upper) ≡ Some h
+
+-- of the holds: what is bound is listed, and so is what may still be bound
+pub record SoundHolds (lists : Node → Hold → Option Upper) (dead : DirId → OpId → Bool) (given : Hold → Option Given) (made : Node → Bool) : Type 0 where
+  pub set : (h : Hold) (g : Given) → given h ≡ Some g → g.phase ≡ Set → lists g.lower h ≡ Some (uppers.Entry g.upper)
+  pub live : (h : Hold) (g : Given) → given h ≡ Some g → g.phase ≡ Live → dead g.upper.dir h.op ≡ false → lists g.lower h ≡ Some (uppers.Entry g.upper)
+  -- what a node lists, was granted so
+  pub listed : (n : Node) (h : Hold) (u : Upper) → lists n h ≡ Some u → leads (given h) ≡ Some (n, u)
+  pub lower_made : (h : Hold) (g : Given) → given h ≡ Some g → made g.lower ≡ true
+  pub upper_made : (h : Hold) (g : Given) → given h ≡ Some g → made (Dir g.upper.dir) ≡ true
+
+-- of the nodes: what stands was made, and so was what has been named
+pub record SoundNodes (standing : Node → Bool) (made : Node → Bool) (home : Node → Option Key) : Type 0 where
+  pub standing_made : (n : Node) → standing n ≡ true → made n ≡ true
+  pub named_made : (n : Node) → is_some (home n) ≡ true → made n ≡ true
+
+-- of a world: all three
+pub record Sound (w : World) : Type 0 where
+  pub entries : SoundEntries w.store.names.entries (λ d. is_some (get w.store.names.dirs d)) w.ghost.given w.ghost.home
+  pub holds : SoundHolds (lists w.store) (dead_in w.store) w.ghost.given (was_made w.ghost)
+  pub nodes : SoundNodes (stands w.store) (was_made w.ghost) w.ghost.home
+
+-- whether a hold in that phase is not bound and never will be
+abbrev pub phase_spent : HoldPhase → Bool → Bool
+phase_spent Live no_more = no_more
+phase_spent Set no_more = false
+phase_spent Past no_more = true
+
+-- the same of a hold that was granted, or not
+abbrev pub given_spent : Store → OpId → Option Given → Bool
+given_spent s op None = false
+given_spent s op (Some g) = phase_spent g.phase (dead_in s g.upper.dir op)
+
+-- whether the hold is not bound and never will be
+abbrev pub is_spent : World → Hold → Bool
+is_spent w h = given_spent w.store h.op (w.ghost.given h)
+
+-- the hold was granted for that key, and is not bound yet
+abbrev pub IsGranted : World → Hold → Node → Key → Type 0
+IsGranted w h n k = w.ghost.given h ≡ Some record { lower = n; upper = k; phase = Live }

@@ -1,0 +1,92 @@
+use crate::{
+    BytesSink, BytesSource, Failed, ReadFault, Sink, Source, StdSink, StdSource, SureSink,
+    SureSource, put_all, read_input,
+};
+use std::alloc::{AllocError, Global};
+use std::test::Fail;
+
+/// A source of `length` bytes 7, some of whose calls fail.
+fn sevens(alloc: Global, length: usize, failing: &[u64]) -> Result<BytesSource, AllocError> {
+    let mut bytes = Vec::new(alloc);
+    bytes.resize(length, 7)?;
+    Ok(BytesSource::new(bytes, Vec::from_slice(alloc, failing)?))
+}
+
+#[test]
+fn input_at_the_limit_is_read_whole(rt: HostRuntime) -> Result<(), Fail> {
+    let mut source = sevens(rt.alloc(), 9000, &[])?;
+    let found = read_input(rt.alloc(), 9000, &mut source);
+    assert!(rt; matches!(&found, Ok(Some(bytes)) if bytes.len() == 9000));
+    // 8192 bytes, 808 bytes, the end
+    assert_eq!(rt; source.calls(), 3);
+    Ok(())
+}
+
+#[test]
+fn input_over_the_limit_is_refused(rt: HostRuntime) -> Result<(), Fail> {
+    let mut source = sevens(rt.alloc(), 9002, &[])?;
+    assert!(rt; matches!(read_input(rt.alloc(), 9000, &mut source), Ok(None)));
+    // 9001 bytes were taken, and the last is left
+    let mut rest = [0; 2];
+    assert_eq!(rt; source.take(&mut rest), Ok(1));
+    assert_eq!(rt; rest, [7, 0]);
+    Ok(())
+}
+
+#[test]
+fn failing_second_take_ends_the_reading(rt: HostRuntime) -> Result<(), Fail> {
+    let mut source = sevens(rt.alloc(), 9000, &[2])?;
+    assert!(rt;
+        matches!(
+            read_input(rt.alloc(), 9000, &mut source),
+            Err(ReadFault::Failed)
+        )
+    );
+    assert_eq!(rt; source.calls(), 2);
+    assert_eq!(rt; source.faults(), 1);
+    Ok(())
+}
+
+#[test]
+fn sure_source_and_reader_are_read_whole(rt: HostRuntime) -> Result<(), Fail> {
+    let mut source = SureSource::new(Vec::from_slice(rt.alloc(), b"abc")?);
+    let found = read_input(rt.alloc(), 10, &mut source);
+    assert!(rt; matches!(&found, Ok(Some(bytes)) if bytes.as_slice() == b"abc".as_slice()));
+    let text: &[u8] = b"abc";
+    let mut source = StdSource::new(text);
+    let found = read_input(rt.alloc(), 3, &mut source);
+    assert!(rt; matches!(&found, Ok(Some(bytes)) if bytes.as_slice() == b"abc".as_slice()));
+    assert_eq!(rt; source.faults(), 0);
+    Ok(())
+}
+
+#[test]
+fn failing_second_put_keeps_the_first_piece(rt: HostRuntime) -> Result<(), Fail> {
+    let failing = Vec::from_slice(rt.alloc(), &[2])?;
+    let mut sink = BytesSink::new(rt.alloc(), failing);
+    assert_eq!(rt; put_all(&mut sink, b"one"), Ok(()));
+    assert_eq!(rt; put_all(&mut sink, b"two"), Err(Failed));
+    assert_eq!(rt; put_all(&mut sink, b"three"), Ok(()));
+    assert_eq!(rt; sink.bytes(), b"onethree".as_slice());
+    assert_eq!(rt; sink.faults(), 1);
+    Ok(())
+}
+
+#[test]
+fn sure_sink_keeps_what_it_has_room_for(rt: HostRuntime) -> Result<(), Fail> {
+    let mut sink = SureSink::new(rt.alloc(), 5)?;
+    assert_eq!(rt; sink.put(b"one"), Ok(3));
+    assert_eq!(rt; put_all(&mut sink, b"two"), Ok(()));
+    assert_eq!(rt; sink.bytes(), b"onetw".as_slice());
+    Ok(())
+}
+
+#[test]
+fn full_writer_is_a_fault(rt: HostRuntime) -> Result<(), Fail> {
+    let mut room = [0; 3];
+    let mut sink = StdSink::new(room.as_mut_slice());
+    // 3 bytes are taken, and then none
+    assert_eq!(rt; put_all(&mut sink, b"abcde"), Err(Failed));
+    assert_eq!(rt; sink.faults(), 1);
+    Ok(())
+}
