@@ -38,9 +38,11 @@ record IsFree (m : Moment) (t : Tree) (number : ℕ) : Type 0 where
 
 -- the events of a command
 module _ (m : Moment) (t : Tree) (number : ℕ) (free : IsFree m t number) (c : Command) (served : IsServed c) (few : number + 1 < 2 ^ 31) where
+  -- the client's next op
   abbrev op : OpId
   op = record { actor = 1; number = number + 1 }
 
+  -- it begins the command
   abbrev began : Event
   began = Began op c
 
@@ -53,6 +55,7 @@ module _ (m : Moment) (t : Tree) (number : ℕ) (free : IsFree m t number) (c : 
   can : CanEnd (after m began) op
   can = served_ends (after m began) t op c (m.actors 1).serial served stands
 
+  -- the command's events, from its beginning to its end
   abbrev part : List Event
   part = began ∷ can.front ++ Ended op can.answer ∷ []
 

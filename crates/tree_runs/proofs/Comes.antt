@@ -76,6 +76,7 @@ abbrev program_at : OpId → Command → Phase → Program
 program_at op c at = record { op = op; command = c; phase = at }
 
 module _ (m : Moment) (t : Tree) (op : OpId) (c : Command) (own : ℕ) (at : Phase) (st : Stands m t op c own at) where
+  -- the number of the next object that its actor makes
   abbrev number_now : ℕ
   number_now = object_number op.actor own
 
@@ -98,9 +99,11 @@ module _ (m : Moment) (t : Tree) (op : OpId) (c : Command) (own : ℕ) (at : Pha
   knows_now = rw (st.runs, st.serial) at (st.tracks.knows op.actor)
 
   module _ (q : AnyReq) (asks : phase_ask op number_now c at ≡ Some q) where
+    -- what the store replies
     abbrev x : AnyReply
     x = store_reply m.store q
 
+    -- the transaction
     abbrev did : Event
     did = Acted op q x
 
@@ -237,24 +240,31 @@ not_said k a r why e = rw e refl
 
 -- after the bind of a file
 module _ (m : Moment) (t : Tree) (op : OpId) (c : Command) (own : ℕ) (k : Key) (f : FileId) (st : Stands m t op c own (Bind k (nodes.File f) over.File)) where
+  -- the file as a node
   abbrev n : Node
   n = nodes.File f
 
+  -- the tree's step
   abbrev bind : TreeStep
   bind = step.Bind k n over.File
 
+  -- the request
   abbrev q : AnyReq
   q = any.Name (names.Bind k n (own_hold op) over.File)
 
+  -- what the store replies
   abbrev y : AnyReply
   y = store_reply m.store q
 
+  -- the moment after the bind
   abbrev mid : Moment
   mid = after m (Acted op q y)
 
+  -- the tree after the bind
   abbrev u : Tree
   u = stepped t bind
 
+  -- what the tree plays
   abbrev p : Played
   p = session.bound t own k f
 
@@ -293,18 +303,23 @@ module _ (m : Moment) (t : Tree) (op : OpId) (c : Command) (own : ℕ) (k : Key)
       (bound_goes (request_place m.counts q) (as_bound y) refl next)
 
 module _ (m : Moment) (t : Tree) (op : OpId) (own : ℕ) (d : DirId) (n : List ℕ) (st : Stands m t op (commands.Create (n ∷ [])) own (Walk d [])) where
+  -- the file that is made
   abbrev file : FileId
   file = record { 0 = object_number op.actor own }
 
+  -- the request that makes it
   abbrev making : AnyReq
   making = any.File (files.MakeFile file (own_hold op) (key_in d n) None)
 
+  -- what the store replies
   abbrev made_reply : AnyReply
   made_reply = store_reply m.store making
 
+  -- the tree's step
   abbrev make : TreeStep
   make = step.MakeFile file None
 
+  -- the command
   abbrev c : Command
   c = commands.Create (n ∷ [])
 

@@ -46,6 +46,7 @@ rank (Release n h (Some old) a) = 2
 rank (Release n h None a) = 1
 rank (End a) = 0
 
+-- the path is not the root
 abbrev HasNames : List (List ℕ) → Type 0
 HasNames [] = ⊥
 HasNames (n ∷ ns) = Unit {0}

@@ -96,9 +96,11 @@ module _ (h : List Event) (m : Moment) (t : AllTold h m) (e : Event) (no_step : 
 -- ---- a command begins
 
 module _ (h : List Event) (m : Moment) (t : AllTold h m) (op : OpId) (c : Command) (can : CanBegin (m.actors op.actor) op) (served : IsServed c) where
+  -- the event
   abbrev began : Event
   began = Began op c
 
+  -- the steps told then
   abbrev told_then : List Told
   told_then = tree_steps (h ++ began ∷ [])
 
@@ -151,18 +153,22 @@ module _ (h : List Event) (m : Moment) (t : AllTold h m) (op : OpId) (c : Comman
 -- ---- a request
 
 module _ (h : List Event) (m : Moment) (t : AllTold h m) (op : OpId) (q : AnyReq) (asks : asked m op ≡ Some q) where
+  -- what the store replies
   abbrev x : AnyReply
   x = store_reply m.store q
 
+  -- the event
   abbrev did : Event
   did = Acted op q x
 
+  -- the tree that the history made
   abbrev tree : Tree
   tree = tree_after opening_tree (tree_steps h)
 
   asking : Asks (m.actors op.actor).running op (m.actors op.actor).serial q
   asking = asks_of _ op _ q asks
 
+  -- the program that asks
   abbrev p : Program
   p = asking.program
 

@@ -49,6 +49,7 @@ transactions-append es fs op = sum_by-append (λ e. cond (is_act_of op e) 1 0) e
 
 -- ---- an op that did not begin has no transaction
 
+-- an op of a number that its actor did not come to has no transaction
 abbrev pub Quiet : Moment → List Event → Type 0
 Quiet m before = (op : OpId) → (m.actors op.actor).number < op.number → transactions before op ≡ 0
 

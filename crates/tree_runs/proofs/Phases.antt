@@ -145,6 +145,7 @@ ActsIf s made number own place op c at (Some q) = Acts s made number own place o
 
 -- ---- what a command knows after a reply, m being its actor's serial then
 module _ (number m : ℕ) (place : Place) (c : Command) where
+  -- what the command knows at the phase
   abbrev Known : Phase → Type 0
   Known at = PhaseKnows number m c at
 
@@ -203,18 +204,23 @@ module _ (number m : ℕ) (place : Place) (c : Command) where
 
 module _ (s : Store) (made : Made) (all : AllMade s made) (number own : ℕ) (few : own ≤ number + 1) (place : Place) (op : OpId)
     (new_dir : get made (dir_at (object_number op.actor own)) ≡ None) (new_file : get made (file_at (object_number op.actor own)) ≡ None) where
+  -- the number of the next object that the actor makes
   abbrev i : ℕ
   i = object_number op.actor own
 
+  -- the actor's serial after the request
   abbrev after_it : AnyReq → ℕ
   after_it q = next_serial own (store_reply s q)
 
+  -- what the store replies
   abbrev heard_by : AnyReq → AnyReply
   heard_by q = store_reply s q
 
+  -- what holds of a request of the command at the phase
   abbrev Act : Command → Phase → AnyReq → Type 0
   Act c at q = Acts s made number own place op c at q
 
+  -- the same of what may be a request
   abbrev ActIf : Command → Phase → Option AnyReq → Type 0
   ActIf c at q = ActsIf s made number own place op c at q
 

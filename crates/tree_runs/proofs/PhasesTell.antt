@@ -45,15 +45,19 @@ HeardTells s made place i t op c at (Some q) =
     → PhaseTells (t ++ told_as op (tree_step q (store_reply s q)) (says (store_reply s q))) op c (phase_hear place op i c at (store_reply s q))
 
 module _ (s : Store) (made : Made) (all : AllMade s made) (place : Place) (i : ℕ) (t : List Told) (op : OpId) where
+  -- the steps tell of the command once the request is done
   abbrev Heard : Command → Phase → Option AnyReq → Type 0
   Heard c at q = HeardTells s made place i t op c at q
 
+  -- the walk is over, in that directory
   abbrev Led : Command → DirId → Type 0
   Led c d = Walked root (way c) (of_op op t) d []
 
+  -- the steps with the request's tell of the phase
   abbrev After : Command → AnyReq → Phase → Type 0
   After c q at = PhaseTells (t ++ told_as op (tree_step q (store_reply s q)) (says (store_reply s q))) op c at
 
+  -- the tree allows the reply to the request
   abbrev Allows : AnyReq → Type 0
   Allows q = IsTreeRun (tree_after opening_tree t) (told_as op (tree_step q (store_reply s q)) (says (store_reply s q)))
 
@@ -131,6 +135,7 @@ module _ (s : Store) (made : Made) (all : AllMade s made) (place : Place) (i : �
 
   -- ---- the later ones
 
+  -- the steps tell of the phase
   abbrev Told_of : Command → Phase → Type 0
   Told_of c at = PhaseTells t op c at
 

@@ -65,21 +65,27 @@ asks_of (Some p) op serial q e = at (op_eq p.op op) refl e
     at false is e = absurd (let k : None ≡ Some q = e in cc)
 
 module _ (m : Moment) (made : Made) (tracks : Tracks m (view m.store made)) (op : OpId) (q : AnyReq) (a : Asks (m.actors op.actor).running op (m.actors op.actor).serial q) where
+  -- how many commands the actor began
   abbrev own_number : ℕ
   own_number = (m.actors op.actor).number
 
+  -- the serial of the actor's next object
   abbrev own_serial : ℕ
   own_serial = (m.actors op.actor).serial
 
+  -- the program that asks
   abbrev p : Program
   p = a.program
 
+  -- what the store replies
   abbrev x : AnyReply
   x = store_reply m.store q
 
+  -- what was made once it is done
   abbrev made2 : Made
   made2 = made_next m.store made op q
 
+  -- the step that it is
   abbrev told : List Told
   told = told_as op (tree_step q x) (says x)
 

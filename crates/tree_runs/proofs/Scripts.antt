@@ -80,15 +80,19 @@ record Rests (m : Moment) (t : Tree) (before : List Event) (own number : ℕ) : 
 module _ (clients : List (List ℕ)) (m : Moment) (t : Tree) (before : List Event) (own number : ℕ) (rests : Rests m t before own number)
     (op : OpId) (c : Command) (one : op.actor ≡ 1) (is : IsPlayed c) (front : List Event) (n : ℕ) (a : Answer) (acts : Acts op n front)
     (run : RunFrom m (Began op c ∷ front ++ Ended op a ∷ [])) where
+  -- what the tree plays
   abbrev p : Played
   p = played t own number c
 
+  -- the command's events
   abbrev part : List Event
   part = Began op c ∷ front ++ Ended op a ∷ []
 
+  -- the moment after it began
   abbrev mid : Moment
   mid = after m (Began op c)
 
+  -- the history once it began
   abbrev begun_before : List Event
   begun_before = before ++ Began op c ∷ []
 
@@ -165,6 +169,7 @@ LinesAgree clients client cs =
 
 module _ (clients : List (List ℕ)) (client : List ℕ) (c : Command) (cs : List Command) (others : LinesAgree clients client cs) (m : Moment) (t : Tree) (before es : List Event) (own number : ℕ)
     (busy : Busy) (rests : Rests m t before own number) (all : AllByRecursion IsPlayed (c ∷ cs)) (run : RunFrom m es) where
+  -- the lines from here on are those of the tree
   abbrev Agrees : Type 0
   Agrees = report_after clients before es ≡ session_lines clients t own number (c ∷ cs)
 

@@ -35,6 +35,7 @@ use Rattle.world_runs.specs.Points.{of_op, Walked, Seen, refused_answer, done_an
 use Rattle.tree_runs.proofs.Replies.{why_of, RefusesSo}
 use Rattle.tree_runs.proofs.Walks.{of_op-append, point_stays, here, over_still, seen_still, seen_now, walks_on}
 
+-- the command is a rename
 abbrev pub IsRename : Command → Type 0
 IsRename (commands.Rename p to) = Unit {0}
 IsRename c = ⊥
@@ -122,12 +123,15 @@ then_tells t op c None a p = inl p
 then_tells t op c (Some o) a p = p
 
 module _ (t : List Told) (place : Place) (op : OpId) (c : Command) where
+  -- the tree that the steps made
   abbrev tree : Tree
   tree = tree_after opening_tree t
 
+  -- the walk came to that directory, with these names left
   abbrev Walks : DirId → List (List ℕ) → Type 0
   Walks d ns = Walked root (way c) (of_op op t) d ns
 
+  -- with one more step they tell of the phase
   abbrev Then : TreeStep → TreeReply → Phase → Type 0
   Then s x at = PhaseTells (t ++ told_as op (Some s) x) op c at
 
@@ -150,12 +154,15 @@ module _ (t : List Told) (place : Place) (op : OpId) (c : Command) where
 
 -- a rename
 module _ (t : List Told) (place : Place) (op : OpId) (p to : List (List ℕ)) where
+  -- the rename
   abbrev rename : Command
   rename = commands.Rename p to
 
+  -- the tree that the steps made
   abbrev rename_tree : Tree
   rename_tree = tree_after opening_tree t
 
+  -- its walk is over, in that directory
   abbrev RenameWalks : DirId → Type 0
   RenameWalks d = Walked root (way rename) (of_op op t) d []
 
@@ -174,6 +181,7 @@ module _ (t : List Told) (place : Place) (op : OpId) (p to : List (List ℕ)) wh
           inl (here t op rename d [] (step.Look (key_in d (last_name p))) (says x) answers.Done w said (refl, source_same (key_in d (last_name p)) (last_name to) m (says x) (some m refl) same))
       at false e = (over_still t op rename d _ w, tt, refl, seen_now t op rename (step.Look (key_in d (last_name p))) (says x) (Ok (shown.Node m)) (some m refl))
 
+  -- it found the node at the entry
   abbrev SawSource : Key → Node → Type 0
   SawSource k n = Seen (of_op op t) (step.Look k) (Ok (shown.Node n))
 

@@ -26,9 +26,11 @@ use Rattle.tree_runs.specs.MapValues.{map_values}
 use Rattle.tree_runs.specs.View.{Made, view, Shows, AllMade, shown_dir, shown_file, shown_entry}
 use Rattle.tree_runs.proofs.ValuesSeen.{get-map_values, dir_put}
 
+-- the directory of that number
 abbrev pub dir_at : ℕ → Node
 dir_at i = nodes.Dir record { 0 = i }
 
+-- the file of that number
 abbrev pub file_at : ℕ → Node
 file_at i = nodes.File record { 0 = i }
 
