@@ -1,5 +1,5 @@
 -- a running command of one actor that goes on to its end, as the tree plays it
-use Rattle.std.proofs.Common.{◌≡◌, ◌≢◌, ◌<◌, ◌≤◌, ◌+◌, ℕ, zero, suc, eqb, Bool, true, false, is_some, if◌then◌else◌, Option, Some, None, List, [], ◌∷◌, ◌++◌, refl, sym, ap, subst, ◌∙◌, arith}
+use Rattle.std.proofs.Common.{◌≡◌, ◌+◌, ℕ, eqb, Bool, true, is_some, if◌then◌else◌, Option, Some, None, List, [], ◌∷◌, ◌++◌, refl, sym, ap, subst, ◌∙◌, arith}
 use Rattle.std.specs.Option.{option_map}
 use Rattle.std.specs.FinMap.{get}
 use Rattle.tect_ids.specs.declared.ids.DirId.{DirId}
@@ -10,7 +10,6 @@ use Rattle.tect_ids.specs.declared.ids.Place.{Place}
 use Rattle.tect_ids.specs.declared.ids.Node.{Node}
 use Rattle.tect_ids.specs.declared.ids.Node.TheVariants as nodes
 use Rattle.tect_ids.specs.declared.key.Key.{Key}
-use Rattle.tect_ids.specs.declared.values.Over.{Over}
 use Rattle.tect_ids.specs.declared.values.Over.TheVariants as over
 use Rattle.tect_ids.specs.declared.command.Command.{Command}
 use Rattle.tect_ids.specs.declared.command.Command.TheVariants as commands
@@ -28,7 +27,7 @@ use Rattle.store_rules.specs.declared.any.AnyReply.{AnyReply}
 use Rattle.store_rules.specs.Names.{key_in}
 use Rattle.store_rules.specs.Places.{request_place}
 use Rattle.store_rules.specs.Views.{is_made, as_found, as_bound}
-use Rattle.store_rules.specs.Store.{Store, store_reply}
+use Rattle.store_rules.specs.Store.{store_reply}
 use Rattle.tree_model.specs.declared.step.TreeStep.{TreeStep}
 use Rattle.tree_model.specs.declared.step.TreeStep.TheVariants as step
 use Rattle.tree_model.specs.declared.step.Shown.TheVariants as shown
@@ -37,20 +36,20 @@ use Rattle.tree_model.specs.declared.step.TreeReply.{TreeReply}
 use Rattle.tree_model.specs.declared.step.TreeReply.TheVariants.{Ok, Refused}
 use Rattle.tree_model.specs.Tree.{Tree, tree_reply, tree_next}
 use Rattle.op_names.specs.declared.program.Phase.{Phase}
-use Rattle.op_names.specs.declared.program.Phase.TheVariants.{Walk, Bind, Grant, Swap, Release, End}
+use Rattle.op_names.specs.declared.program.Phase.TheVariants.{Walk, Bind, Release, End}
 use Rattle.op_names.specs.declared.program.Program.{Program}
-use Rattle.op_names.specs.Programs.{root, object_number, own_hold, phase_ask, phase_hear, phase_answer, first_phase, release_ask, then_release, bound_heard, looked, refusal}
+use Rattle.op_names.specs.Programs.{object_number, own_hold, phase_ask, phase_hear, phase_answer, release_ask, then_release, bound_heard, looked, refusal}
 use Rattle.world_runs.specs.declared.event.Event.{Event}
 use Rattle.world_runs.specs.declared.event.Event.TheVariants.{Began, Acted, Ended, Stopped}
-use Rattle.world_runs.specs.Moments.{Actor, Moment, May, after, after_all, RunFrom, running, asked, answered, next_serial}
-use Rattle.world_runs.specs.TreeSteps.{Told, told_of, told_as, tree_steps, tree_step, says, tree_after, IsTreeRun}
+use Rattle.world_runs.specs.Moments.{Moment, May, after, after_all, RunFrom, running, asked, answered, next_serial}
+use Rattle.world_runs.specs.TreeSteps.{told_of, told_as, tree_steps, tree_step, says, tree_after, IsTreeRun}
 use Rattle.world_runs.specs.Points.{refused_answer, done_answer}
 use Rattle.world_runs.specs.Follows.{Acts}
-use Rattle.tree_runs.specs.View.{view, Shows, AllMade, shown_entry}
+use Rattle.tree_runs.specs.View.{AllMade, shown_entry}
 use Rattle.tree_runs.specs.Session.{Played, stepped, found_answer, releases}
 use Rattle.tree_runs.specs.Session as session
 use Rattle.tree_runs.proofs.ValuesSeen.{get-map_values}
-use Rattle.tree_runs.proofs.Tracks.{Tracks, TreeMade, Knows, all_made, dir_at, file_at}
+use Rattle.tree_runs.proofs.Tracks.{Tracks, TreeMade, Knows, all_made, file_at}
 use Rattle.tree_runs.proofs.Phases.{make_file_made, look_same, bind_same, release_same}
 use Rattle.tree_runs.proofs.Replies.{RefusesSo, why_of, look_some, look_none, bind_some, bind_none, bind_replaces}
 use Rattle.tree_runs.proofs.Runs.{event_tracked, tree_after-append}
@@ -77,6 +76,7 @@ abbrev program_at : OpId → Command → Phase → Program
 program_at op c at = record { op = op; command = c; phase = at }
 
 module _ (m : Moment) (t : Tree) (op : OpId) (c : Command) (own : ℕ) (at : Phase) (st : Stands m t op c own at) where
+  -- the number of the next object that its actor makes
   abbrev number_now : ℕ
   number_now = object_number op.actor own
 
@@ -92,16 +92,18 @@ module _ (m : Moment) (t : Tree) (op : OpId) (c : Command) (own : ℕ) (at : Pha
   asked_now : asked m op ≡ phase_ask op number_now c at
   asked_now = rw (runs_now, st.serial) refl
 
-  answered_now : answered m op ≡ phase_answer at
+  pub answered_now : answered m op ≡ phase_answer at
   answered_now = rw runs_now refl
 
   pub knows_now : Knows op.actor (m.actors op.actor).number own (Some (program_at op c at))
   knows_now = rw (st.runs, st.serial) at (st.tracks.knows op.actor)
 
   module _ (q : AnyReq) (asks : phase_ask op number_now c at ≡ Some q) where
+    -- what the store replies
     abbrev x : AnyReply
     x = store_reply m.store q
 
+    -- the transaction
     abbrev did : Event
     did = Acted op q x
 
@@ -238,24 +240,31 @@ not_said k a r why e = rw e refl
 
 -- after the bind of a file
 module _ (m : Moment) (t : Tree) (op : OpId) (c : Command) (own : ℕ) (k : Key) (f : FileId) (st : Stands m t op c own (Bind k (nodes.File f) over.File)) where
+  -- the file as a node
   abbrev n : Node
   n = nodes.File f
 
+  -- the tree's step
   abbrev bind : TreeStep
   bind = step.Bind k n over.File
 
+  -- the request
   abbrev q : AnyReq
   q = any.Name (names.Bind k n (own_hold op) over.File)
 
+  -- what the store replies
   abbrev y : AnyReply
   y = store_reply m.store q
 
+  -- the moment after the bind
   abbrev mid : Moment
   mid = after m (Acted op q y)
 
+  -- the tree after the bind
   abbrev u : Tree
   u = stepped t bind
 
+  -- what the tree plays
   abbrev p : Played
   p = session.bound t own k f
 
@@ -294,18 +303,23 @@ module _ (m : Moment) (t : Tree) (op : OpId) (c : Command) (own : ℕ) (k : Key)
       (bound_goes (request_place m.counts q) (as_bound y) refl next)
 
 module _ (m : Moment) (t : Tree) (op : OpId) (own : ℕ) (d : DirId) (n : List ℕ) (st : Stands m t op (commands.Create (n ∷ [])) own (Walk d [])) where
+  -- the file that is made
   abbrev file : FileId
   file = record { 0 = object_number op.actor own }
 
+  -- the request that makes it
   abbrev making : AnyReq
   making = any.File (files.MakeFile file (own_hold op) (key_in d n) None)
 
+  -- what the store replies
   abbrev made_reply : AnyReply
   made_reply = store_reply m.store making
 
+  -- the tree's step
   abbrev make : TreeStep
   make = step.MakeFile file None
 
+  -- the command
   abbrev c : Command
   c = commands.Create (n ∷ [])
 

@@ -1,5 +1,5 @@
 -- each answer is the one that the tree gives at the command's point
-use Rattle.std.proofs.Common.{◌≡◌, ◌≢◌, ◌<◌, ◌≤◌, ◌+◌, ◌⊎◌, ℕ, zero, suc, eqb, Bool, true, false, if◌then◌else◌, Option, Some, None, List, [], ◌∷◌, ◌++◌, refl, sym, ap, subst, ◌∙◌, arith, inl, inr, append_assoc, take}
+use Rattle.std.proofs.Common.{◌≡◌, ◌≢◌, ◌<◌, ◌⊎◌, ℕ, zero, suc, Bool, true, false, if◌then◌else◌, Option, Some, None, List, [], ◌∷◌, ◌++◌, refl, sym, ap, subst, ◌∙◌, arith, inl, inr, append_assoc, take}
 use Rattle.std.specs.List.{slice_get}
 use Rattle.std.proofs.lemmas.List.{append-nil}
 use Rattle.tect_ids.specs.declared.ids.Counts.{Counts}
@@ -7,9 +7,8 @@ use Rattle.tect_ids.specs.declared.ids.OpId.{OpId}
 use Rattle.tect_ids.specs.declared.command.Command.{Command}
 use Rattle.tect_ids.specs.declared.command.Command.TheVariants as commands
 use Rattle.tect_ids.specs.declared.answer.Answer.{Answer}
-use Rattle.tect_ids.specs.declared.answer.Answer.TheVariants as answers
 use Rattle.tect_ids.specs.Keys.{op_eq}
-use Rattle.tect_ids.proofs.KeyTests.{op_eq_cases, num_eq_cases}
+use Rattle.tect_ids.proofs.KeyTests.{op_eq_cases}
 use Rattle.store_rules.specs.declared.any.AnyReq.{AnyReq}
 use Rattle.store_rules.specs.declared.any.AnyReply.{AnyReply}
 use Rattle.store_rules.specs.Places.{request_place}
@@ -19,18 +18,17 @@ use Rattle.op_names.specs.declared.program.Phase.{Phase}
 use Rattle.op_names.specs.declared.program.Phase.TheVariants.{Walk, Bind, Grant, Swap, Release, End}
 use Rattle.op_names.specs.declared.program.Program.{Program}
 use Rattle.op_names.specs.Paths.{but_last}
-use Rattle.op_names.specs.Programs.{root, way, object_number, phase_ask, phase_hear, phase_answer, first_phase, from_root}
+use Rattle.op_names.specs.Programs.{root, way, object_number, phase_hear, phase_answer, first_phase, from_root}
 use Rattle.world_runs.specs.Served.{IsServed}
 use Rattle.world_runs.specs.declared.event.Event.{Event}
 use Rattle.world_runs.specs.declared.event.Event.TheVariants.{Began, Acted, Ended, Stopped}
-use Rattle.world_runs.specs.Moments.{Actor, Moment, opening, May, CanBegin, after, after_all, RunFrom, IsWorldRun, moment, asked, answered, program_answer, program_of, heard, with_actor}
-use Rattle.world_runs.specs.TreeSteps.{Told, told_as, told_of, tree_steps, tree_step, says, tree_after, IsTreeRun}
-use Rattle.world_runs.specs.Points.{of_op, Walked, Point, LacksName}
+use Rattle.world_runs.specs.Moments.{Actor, Moment, opening, May, CanBegin, after, after_all, RunFrom, IsWorldRun, asked, program_answer, program_of, heard, with_actor}
+use Rattle.world_runs.specs.TreeSteps.{Told, told_of, tree_steps, tree_step, says, tree_after, IsTreeRun}
+use Rattle.world_runs.specs.Points.{of_op, Walked, LacksName}
 use Rattle.world_runs.specs.Headline.{begun_by, or_later, command_of, Explains, Headline}
-use Rattle.tree_runs.specs.View.{view, Shows, AllMade, MakesNew}
+use Rattle.tree_runs.specs.View.{view, AllMade, MakesNew}
 use Rattle.tree_runs.proofs.Tracks.{Tracks, Knows, actor_cases, opening_tracks}
-use Rattle.tree_runs.proofs.Phases.{Acts}
-use Rattle.tree_runs.proofs.Runs.{Asks, asks_of, acts, made_all, knows, event_tracked, world_tracked, tree_after-append, tree_run-append}
+use Rattle.tree_runs.proofs.Runs.{Asks, asks_of, acts, made_all, event_tracked, world_tracked, tree_after-append}
 use Rattle.tree_runs.proofs.Histories.{tree_steps-append, acts_last}
 use Rattle.tree_runs.proofs.Walks.{of_op-append, other_step}
 use Rattle.tree_runs.proofs.Tells.{PhaseTells, phase_stays}
@@ -98,9 +96,11 @@ module _ (h : List Event) (m : Moment) (t : AllTold h m) (e : Event) (no_step : 
 -- ---- a command begins
 
 module _ (h : List Event) (m : Moment) (t : AllTold h m) (op : OpId) (c : Command) (can : CanBegin (m.actors op.actor) op) (served : IsServed c) where
+  -- the event
   abbrev began : Event
   began = Began op c
 
+  -- the steps told then
   abbrev told_then : List Told
   told_then = tree_steps (h ++ began ∷ [])
 
@@ -153,18 +153,22 @@ module _ (h : List Event) (m : Moment) (t : AllTold h m) (op : OpId) (c : Comman
 -- ---- a request
 
 module _ (h : List Event) (m : Moment) (t : AllTold h m) (op : OpId) (q : AnyReq) (asks : asked m op ≡ Some q) where
+  -- what the store replies
   abbrev x : AnyReply
   x = store_reply m.store q
 
+  -- the event
   abbrev did : Event
   did = Acted op q x
 
+  -- the tree that the history made
   abbrev tree : Tree
   tree = tree_after opening_tree (tree_steps h)
 
   asking : Asks (m.actors op.actor).running op (m.actors op.actor).serial q
   asking = asks_of _ op _ q asks
 
+  -- the program that asks
   abbrev p : Program
   p = asking.program
 

@@ -1,21 +1,16 @@
 -- histories that grow: their runs, steps, moments, transactions and lines
-use Rattle.std.proofs.Common.{◌≡◌, ◌≢◌, ◌<◌, ◌≤◌, ◌+◌, ℕ, zero, suc, Bool, true, false, cond, if◌then◌else◌, Option, Some, None, List, [], ◌∷◌, ◌++◌, refl, sym, ap, ◌∙◌, arith, append_assoc}
-use Rattle.std.specs.List.{count_by}
+use Rattle.std.proofs.Common.{◌≡◌, ◌<◌, ◌≤◌, ◌+◌, ℕ, Bool, true, false, cond, Some, List, [], ◌∷◌, ◌++◌, refl, sym, ap, ◌∙◌, arith, append_assoc}
 use Rattle.std.proofs.lemmas.List.{append-nil}
 use Rattle.std.proofs.lemmas.List.Sums.{sum_by-append}
 use Rattle.tect_ids.specs.declared.ids.OpId.{OpId}
-use Rattle.tect_ids.specs.declared.answer.Answer.{Answer}
-use Rattle.tect_ids.specs.declared.command.Command.{Command}
-use Rattle.tect_ids.specs.declared.script.ReportLine.{ReportLine}
 use Rattle.tect_ids.specs.Keys.{op_eq}
 use Rattle.tect_ids.proofs.KeyTests.{op_eq_cases}
 use Rattle.store_rules.specs.declared.any.AnyReq.{AnyReq}
-use Rattle.store_rules.specs.declared.any.AnyReply.{AnyReply}
 use Rattle.tree_model.specs.Tree.{Tree}
 use Rattle.world_runs.specs.declared.event.Event.{Event}
 use Rattle.world_runs.specs.declared.event.Event.TheVariants.{Began, Acted, Ended, Stopped}
-use Rattle.world_runs.specs.Moments.{Actor, Moment, May, after, after_all, RunFrom, asked}
-use Rattle.world_runs.specs.TreeSteps.{Told, told_of, tree_steps, tree_after}
+use Rattle.world_runs.specs.Moments.{Moment, May, after, after_all, RunFrom, asked}
+use Rattle.world_runs.specs.TreeSteps.{told_of, tree_steps, tree_after}
 use Rattle.world_runs.specs.Report.{is_act_of, transactions, report_after, lines_at}
 use Rattle.tree_runs.proofs.Tracks.{Tracks, Knows, actor_cases}
 use Rattle.tree_runs.proofs.Runs.{Asks, asks_of, event_tracked}
@@ -54,6 +49,7 @@ transactions-append es fs op = sum_by-append (λ e. cond (is_act_of op e) 1 0) e
 
 -- ---- an op that did not begin has no transaction
 
+-- an op of a number that its actor did not come to has no transaction
 abbrev pub Quiet : Moment → List Event → Type 0
 Quiet m before = (op : OpId) → (m.actors op.actor).number < op.number → transactions before op ≡ 0
 

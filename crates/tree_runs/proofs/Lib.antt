@@ -11,3 +11,5 @@ pub mod Walks
 pub mod Tells
 pub mod PhasesTell
 pub mod Headlines
+pub mod Ends
+pub mod CanFollow

@@ -1,5 +1,5 @@
 -- what a running command's own request makes, and what the command knows after it
-use Rattle.std.proofs.Common.{◌≡◌, ◌≢◌, ◌<◌, ◌≤◌, ◌+◌, ◌⊎◌, inl, inr, ℕ, Bool, true, false, is_some, if◌then◌else◌, Option, Some, None, List, [], ◌∷◌, refl, sym, ap, ◌∙◌, arith, eqb}
+use Rattle.std.proofs.Common.{◌≡◌, ◌≢◌, ◌≤◌, ◌+◌, ◌⊎◌, inl, inr, ℕ, Bool, true, false, if◌then◌else◌, Option, Some, None, List, [], ◌∷◌, refl, arith}
 use Rattle.std.specs.FinMap.{get}
 use Rattle.tect_ids.specs.declared.ids.DirId.{DirId}
 use Rattle.tect_ids.specs.declared.ids.FileId.{FileId}
@@ -18,18 +18,17 @@ use Rattle.tect_ids.specs.declared.command.Command.{Command}
 use Rattle.tect_ids.specs.declared.command.Command.TheVariants as commands
 use Rattle.tect_ids.specs.declared.answer.Answer.{Answer}
 use Rattle.tect_ids.specs.declared.answer.Answer.TheVariants as answers
-use Rattle.tect_ids.specs.Keys.{name_eq, node_eq}
+use Rattle.tect_ids.specs.Keys.{name_eq}
 use Rattle.key_maps.proofs.Lookups.{maps}
-use Rattle.store_rules.specs.declared.names.NameReq.{NameReq}
 use Rattle.store_rules.specs.declared.names.NameReq.TheVariants as names
 use Rattle.store_rules.specs.declared.names.Replaced.{Replaced}
 use Rattle.store_rules.specs.declared.files.FileReq.TheVariants as files
 use Rattle.store_rules.specs.declared.any.AnyReq.{AnyReq}
 use Rattle.store_rules.specs.declared.any.AnyReq.TheVariants as any
 use Rattle.store_rules.specs.declared.any.AnyReply.{AnyReply}
-use Rattle.store_rules.specs.Views.{is_made, as_found, as_listing, as_parent, as_bound, as_unbound, as_swapped, is_granted}
+use Rattle.store_rules.specs.Views.{is_made, as_found, as_listing, as_bound, as_unbound, as_swapped, is_granted}
 use Rattle.store_rules.specs.Names.{key_in}
-use Rattle.store_rules.specs.Store.{Store, store_reply, store_step}
+use Rattle.store_rules.specs.Store.{Store, store_reply}
 use Rattle.tree_model.specs.declared.step.TreeStep.{TreeStep}
 use Rattle.tree_model.specs.declared.step.TreeStep.TheVariants as step
 use Rattle.tree_model.specs.declared.step.TreeReply.{TreeReply}
@@ -38,11 +37,11 @@ use Rattle.tree_model.specs.Tree.{Tree, tree_next, tree_change}
 use Rattle.op_names.specs.declared.program.Phase.{Phase}
 use Rattle.op_names.specs.declared.program.Phase.TheVariants.{Walk, Bind, Grant, Swap, Release, End}
 use Rattle.op_names.specs.Paths.{last_name}
-use Rattle.op_names.specs.Programs.{object_number, own_hold, new_path, at_last, hear_at, dir_refusal, first_ask, phase_ask, phase_hear, first_hear, grant_ask, release_ask, look_ask, refusal, walked, looked, look_heard, checked, entries_heard, made_heard, unbound_heard, source_heard, then_release, bound_heard, swapped_heard}
+use Rattle.op_names.specs.Programs.{object_number, own_hold, new_path, at_last, first_ask, phase_ask, phase_hear, first_hear, grant_ask, release_ask, look_ask, refusal, walked, looked, look_heard, checked, entries_heard, unbound_heard, source_heard, then_release, bound_heard, swapped_heard}
 use Rattle.world_runs.specs.Moments.{next_serial}
-use Rattle.world_runs.specs.TreeSteps.{Told, told_as, tree_step, says, tree_after, where_refused}
+use Rattle.world_runs.specs.TreeSteps.{told_as, tree_step, says, tree_after, where_refused}
 use Rattle.tree_runs.specs.View.{Made, view, AllMade, MakesNew}
-use Rattle.tree_runs.proofs.Tracks.{Fresh, PhaseKnows, new_name, dir_at, file_at}
+use Rattle.tree_runs.proofs.Tracks.{PhaseKnows, new_name, dir_at, file_at}
 
 -- the node has another number
 abbrev pub IsOther : ℕ → Node → Type 0
@@ -146,6 +145,7 @@ ActsIf s made number own place op c at (Some q) = Acts s made number own place o
 
 -- ---- what a command knows after a reply, m being its actor's serial then
 module _ (number m : ℕ) (place : Place) (c : Command) where
+  -- what the command knows at the phase
   abbrev Known : Phase → Type 0
   Known at = PhaseKnows number m c at
 
@@ -204,18 +204,23 @@ module _ (number m : ℕ) (place : Place) (c : Command) where
 
 module _ (s : Store) (made : Made) (all : AllMade s made) (number own : ℕ) (few : own ≤ number + 1) (place : Place) (op : OpId)
     (new_dir : get made (dir_at (object_number op.actor own)) ≡ None) (new_file : get made (file_at (object_number op.actor own)) ≡ None) where
+  -- the number of the next object that the actor makes
   abbrev i : ℕ
   i = object_number op.actor own
 
+  -- the actor's serial after the request
   abbrev after_it : AnyReq → ℕ
   after_it q = next_serial own (store_reply s q)
 
+  -- what the store replies
   abbrev heard_by : AnyReq → AnyReply
   heard_by q = store_reply s q
 
+  -- what holds of a request of the command at the phase
   abbrev Act : Command → Phase → AnyReq → Type 0
   Act c at q = Acts s made number own place op c at q
 
+  -- the same of what may be a request
   abbrev ActIf : Command → Phase → Option AnyReq → Type 0
   ActIf c at q = ActsIf s made number own place op c at q
 

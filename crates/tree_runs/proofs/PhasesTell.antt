@@ -1,6 +1,5 @@
 -- what the steps tell of a running command after each of its requests
-use Rattle.std.proofs.Common.{◌≡◌, ℕ, Bool, true, false, is_some, if◌then◌else◌, Option, Some, None, List, [], ◌∷◌, ◌++◌, refl, sym, ap, ◌∙◌, arith, inl, inr}
-use Rattle.std.specs.FinMap.{get}
+use Rattle.std.proofs.Common.{◌≡◌, ℕ, Bool, true, false, is_some, Option, Some, None, List, [], ◌∷◌, ◌++◌, refl, inl}
 use Rattle.tect_ids.specs.declared.ids.DirId.{DirId}
 use Rattle.tect_ids.specs.declared.ids.Hold.{Hold}
 use Rattle.tect_ids.specs.declared.ids.OpId.{OpId}
@@ -22,15 +21,14 @@ use Rattle.store_rules.specs.declared.any.AnyReq.{AnyReq}
 use Rattle.store_rules.specs.declared.any.AnyReq.TheVariants as any
 use Rattle.store_rules.specs.declared.any.AnyReply.{AnyReply}
 use Rattle.store_rules.specs.Names.{key_in}
-use Rattle.store_rules.specs.Views.{is_made, as_parent, as_found, as_listing, as_bound, as_unbound, as_swapped, is_granted}
+use Rattle.store_rules.specs.Views.{as_parent, as_found, as_listing, as_bound, as_unbound, as_swapped, is_granted}
 use Rattle.store_rules.specs.Store.{Store, store_reply}
 use Rattle.tree_model.specs.declared.step.TreeStep.TheVariants as step
-use Rattle.tree_model.specs.declared.step.TreeReply.{TreeReply}
-use Rattle.tree_model.specs.Tree.{Tree, tree_reply, opening_tree}
+use Rattle.tree_model.specs.Tree.{opening_tree}
 use Rattle.op_names.specs.declared.program.Phase.{Phase}
 use Rattle.op_names.specs.declared.program.Phase.TheVariants.{Walk, Bind, Grant, Swap, Release, End}
 use Rattle.op_names.specs.Paths.{last_name}
-use Rattle.op_names.specs.Programs.{root, way, last, new_path, at_last, own_hold, first_ask, look_ask, grant_ask, release_ask, phase_ask, phase_hear, refusal, dir_refusal, looked, checked, entries_heard, unbound_heard}
+use Rattle.op_names.specs.Programs.{root, way, new_path, at_last, own_hold, first_ask, look_ask, grant_ask, release_ask, phase_ask, phase_hear, looked, checked, entries_heard, unbound_heard}
 use Rattle.world_runs.specs.TreeSteps.{Told, told_as, tree_step, says, tree_after, IsTreeRun}
 use Rattle.world_runs.specs.Points.{of_op, Walked, Point}
 use Rattle.tree_runs.specs.View.{Made, AllMade, MakesNew}
@@ -47,15 +45,19 @@ HeardTells s made place i t op c at (Some q) =
     → PhaseTells (t ++ told_as op (tree_step q (store_reply s q)) (says (store_reply s q))) op c (phase_hear place op i c at (store_reply s q))
 
 module _ (s : Store) (made : Made) (all : AllMade s made) (place : Place) (i : ℕ) (t : List Told) (op : OpId) where
+  -- the steps tell of the command once the request is done
   abbrev Heard : Command → Phase → Option AnyReq → Type 0
   Heard c at q = HeardTells s made place i t op c at q
 
+  -- the walk is over, in that directory
   abbrev Led : Command → DirId → Type 0
   Led c d = Walked root (way c) (of_op op t) d []
 
+  -- the steps with the request's tell of the phase
   abbrev After : Command → AnyReq → Phase → Type 0
   After c q at = PhaseTells (t ++ told_as op (tree_step q (store_reply s q)) (says (store_reply s q))) op c at
 
+  -- the tree allows the reply to the request
   abbrev Allows : AnyReq → Type 0
   Allows q = IsTreeRun (tree_after opening_tree t) (told_as op (tree_step q (store_reply s q)) (says (store_reply s q)))
 
@@ -133,6 +135,7 @@ module _ (s : Store) (made : Made) (all : AllMade s made) (place : Place) (i : �
 
   -- ---- the later ones
 
+  -- the steps tell of the phase
   abbrev Told_of : Command → Phase → Type 0
   Told_of c at = PhaseTells t op c at
 

@@ -1,7 +1,6 @@
 -- each request, seen by the tree
-use Rattle.std.proofs.Common.{◌≡◌, ◌≢◌, ℕ, Bool, true, false, not, is_some, Option, Some, None, refl, sym, ap, ◌∙◌, arith, if◌then◌else◌, List, [], ◌∷◌, map}
-use Rattle.std.specs.Option.{option_map}
-use Rattle.std.specs.FinMap.{FinMap, get, entries, empty, len}
+use Rattle.std.proofs.Common.{◌≡◌, ℕ, Bool, true, false, Option, Some, None, refl, sym, ap, ◌∙◌, arith, if◌then◌else◌, List, [], ◌∷◌, map}
+use Rattle.std.specs.FinMap.{FinMap, get, entries, empty}
 use Rattle.tect_ids.specs.declared.ids.DirId.{DirId}
 use Rattle.tect_ids.specs.declared.ids.FileId.{FileId}
 use Rattle.tect_ids.specs.declared.ids.Hold.{Hold}
@@ -12,33 +11,27 @@ use Rattle.tect_ids.specs.declared.key.Key.{Key}
 use Rattle.tect_ids.specs.declared.key.Upper.{Upper}
 use Rattle.tect_ids.specs.declared.key.Upper.TheVariants as uppers
 use Rattle.tect_ids.specs.declared.values.Over.{Over}
-use Rattle.tect_ids.specs.declared.values.Over.TheVariants as over
 use Rattle.tect_ids.specs.declared.values.Want.{Want}
-use Rattle.tect_ids.specs.declared.values.Want.TheVariants.{AnyFile, Exactly}
 use Rattle.tect_ids.specs.Keys.{key_cmp, name_eq}
 use Rattle.ordered_rows.specs.Maps.{set_at}
 use Rattle.key_maps.specs.Maps.{within}
-use Rattle.key_maps.proofs.Lookups.{maps}
-use Rattle.store_rules.specs.declared.names.Directory.{Directory}
 use Rattle.store_rules.specs.declared.names.Entry.{Entry}
 use Rattle.store_rules.specs.declared.names.NameReq.{NameReq}
 use Rattle.store_rules.specs.declared.names.NameReq.TheVariants as names
-use Rattle.store_rules.specs.declared.files.File.{File}
 use Rattle.store_rules.specs.declared.files.FileReq.{FileReq}
 use Rattle.store_rules.specs.declared.files.FileReq.TheVariants as files
 use Rattle.store_rules.specs.declared.any.AnyReq.{AnyReq}
 use Rattle.store_rules.specs.declared.any.AnyReq.TheVariants as any
 use Rattle.store_rules.specs.Names.{key_in, listed, dir_with_hold}
 use Rattle.store_rules.specs.Files.{file_with_hold}
-use Rattle.store_rules.specs.Store.{Store, store_reply, store_step, store_change, store_changes}
+use Rattle.store_rules.specs.Store.{Store, store_reply, store_change, store_changes}
 use Rattle.tree_model.specs.declared.step.TreeStep.{TreeStep}
 use Rattle.tree_model.specs.declared.step.TreeStep.TheVariants as step
 use Rattle.tree_model.specs.declared.step.TreeReply.{TreeReply}
-use Rattle.tree_model.specs.declared.step.TreeReply.TheVariants.{Ok, Refused}
-use Rattle.tree_model.specs.Tree.{Tree, Allowed, tree_next, tree_change, tree_reply, is_ok, as_listed, at_name}
+use Rattle.tree_model.specs.Tree.{Tree, tree_change, tree_reply, is_ok, as_listed}
 use Rattle.world_runs.specs.TreeSteps.{tree_step, says}
 use Rattle.tree_runs.specs.MapValues.{map_values, seen_by}
-use Rattle.tree_runs.specs.View.{Made, view, Shows, stands, AllMade, MakesNew, TreeFollows, StepShows, shown_dir, shown_file, shown_entry}
+use Rattle.tree_runs.specs.View.{Made, view, Shows, AllMade, MakesNew, StepShows, shown_dir, shown_file, shown_entry}
 use Rattle.tree_runs.proofs.ValuesSeen.{entries-map_values, get-map_values, dir_put, file_put, key_put, dir_alike, file_alike, within_seen, len_within_seen}
 
 -- a listing shows the nodes alone

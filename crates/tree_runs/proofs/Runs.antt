@@ -1,32 +1,29 @@
 -- every run is followed by the tree
-use Rattle.std.proofs.Common.{◌≡◌, ◌≢◌, ◌<◌, ◌≤◌, ◌+◌, ◌*◌, ◌^◌, ◌⊎◌, inl, inr, ℕ, Bool, true, false, if◌then◌else◌, Option, Some, None, List, [], ◌∷◌, ◌++◌, refl, sym, ap, subst, ◌∙◌, arith, eqb}
+use Rattle.std.proofs.Common.{◌≡◌, ◌≢◌, ◌<◌, ◌≤◌, ◌+◌, ◌^◌, ◌⊎◌, inl, inr, ℕ, Bool, true, false, if◌then◌else◌, Option, Some, None, List, [], ◌∷◌, ◌++◌, refl, sym, subst, arith}
 use Rattle.std.specs.FinMap.{get}
 use Rattle.tect_ids.specs.declared.ids.Counts.{Counts}
 use Rattle.tect_ids.specs.declared.ids.OpId.{OpId}
-use Rattle.tect_ids.specs.declared.ids.Node.{Node}
 use Rattle.tect_ids.specs.declared.command.Command.{Command}
 use Rattle.tect_ids.specs.declared.command.Command.TheVariants as commands
-use Rattle.tect_ids.specs.declared.answer.Answer.{Answer}
 use Rattle.tect_ids.specs.Keys.{op_eq}
-use Rattle.tect_ids.proofs.KeyTests.{op_eq_cases, num_eq_cases}
+use Rattle.tect_ids.proofs.KeyTests.{op_eq_cases}
 use Rattle.store_rules.specs.declared.any.AnyReq.{AnyReq}
 use Rattle.store_rules.specs.declared.any.AnyReply.{AnyReply}
 use Rattle.store_rules.specs.Places.{request_place}
-use Rattle.store_rules.specs.Views.{is_made}
-use Rattle.store_rules.specs.Store.{Store, store_reply, store_step}
+use Rattle.store_rules.specs.Store.{Store, store_reply}
 use Rattle.tree_model.specs.declared.step.TreeStep.{TreeStep}
 use Rattle.tree_model.specs.declared.step.TreeReply.{TreeReply}
-use Rattle.tree_model.specs.Tree.{Tree, Allowed, opening_tree, tree_next}
+use Rattle.tree_model.specs.Tree.{Tree, opening_tree, tree_next}
 use Rattle.op_names.specs.declared.program.Program.{Program}
 use Rattle.op_names.specs.Programs.{object_number, phase_ask, first_phase, from_root}
 use Rattle.world_runs.specs.declared.event.Event.{Event}
 use Rattle.world_runs.specs.declared.event.Event.TheVariants.{Began, Acted, Ended, Stopped}
-use Rattle.world_runs.specs.Moments.{Actor, Moment, opening, May, CanBegin, after, after_all, RunFrom, IsWorldRun, moment, asked, program_ask, program_of, next_serial, went_on, heard, with_actor}
+use Rattle.world_runs.specs.Moments.{Actor, Moment, opening, May, CanBegin, after, after_all, RunFrom, IsWorldRun, moment, asked, program_ask, program_of, next_serial, heard, with_actor}
 use Rattle.world_runs.specs.TreeSteps.{Told, told_as, told_of, tree_steps, tree_step, says, tree_after, IsTreeRun}
 use Rattle.tree_runs.specs.View.{Made, view, Shows, AllMade, TreeFollows, StepShows}
 use Rattle.tree_runs.proofs.RequestsShow.{request_shows}
 use Rattle.tree_runs.proofs.Tracks.{Tracks, TreeMade, Fresh, PhaseKnows, Knows, dir_at, file_at, actor_cases, all_made, next_made, opening_tracks}
-use Rattle.tree_runs.proofs.Phases.{Acts, ActsIf, Makes, MakesNoOther, IsOther, made_next, phase_acts}
+use Rattle.tree_runs.proofs.Phases.{Acts, Makes, MakesNoOther, made_next, phase_acts}
 
 -- ---- steps of the tree, one after another
 
@@ -68,21 +65,27 @@ asks_of (Some p) op serial q e = at (op_eq p.op op) refl e
     at false is e = absurd (let k : None ≡ Some q = e in cc)
 
 module _ (m : Moment) (made : Made) (tracks : Tracks m (view m.store made)) (op : OpId) (q : AnyReq) (a : Asks (m.actors op.actor).running op (m.actors op.actor).serial q) where
+  -- how many commands the actor began
   abbrev own_number : ℕ
   own_number = (m.actors op.actor).number
 
+  -- the serial of the actor's next object
   abbrev own_serial : ℕ
   own_serial = (m.actors op.actor).serial
 
+  -- the program that asks
   abbrev p : Program
   p = a.program
 
+  -- what the store replies
   abbrev x : AnyReply
   x = store_reply m.store q
 
+  -- what was made once it is done
   abbrev made2 : Made
   made2 = made_next m.store made op q
 
+  -- the step that it is
   abbrev told : List Told
   told = told_as op (tree_step q x) (says x)
 

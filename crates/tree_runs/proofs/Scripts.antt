@@ -1,5 +1,5 @@
 -- the report of a run that follows a script of one client is the one that the tree alone gives
-use Rattle.std.proofs.Common.{◌≡◌, ◌≢◌, ◌<◌, ◌≤◌, ◌+◌, ℕ, zero, suc, eqb, Bool, true, false, cond, if◌then◌else◌, Option, Some, None, List, [], ◌∷◌, ◌++◌, refl, sym, ap, subst, ◌∙◌, arith, append_assoc}
+use Rattle.std.proofs.Common.{◌≡◌, ◌+◌, ℕ, eqb, true, Option, None, List, [], ◌∷◌, ◌++◌, refl, sym, ap, subst, ◌∙◌, arith}
 use Rattle.std.specs.List.{AllByRecursion}
 use Rattle.std.proofs.lemmas.List.{append-nil}
 use Rattle.tect_ids.specs.declared.ids.Counts.{Counts}
@@ -8,7 +8,6 @@ use Rattle.tect_ids.specs.declared.command.Command.{Command}
 use Rattle.tect_ids.specs.declared.command.Command.TheVariants as commands
 use Rattle.tect_ids.specs.declared.answer.Answer.{Answer}
 use Rattle.tect_ids.specs.declared.script.Act.TheVariants as acts
-use Rattle.tect_ids.specs.declared.script.ReportLine.{ReportLine}
 use Rattle.tect_ids.specs.declared.script.ReportLine.TheVariants as lines
 use Rattle.tect_ids.specs.Keys.{op_eq}
 use Rattle.tect_ids.proofs.KeyTests.{op_eq_cases, num_eq_cases}
@@ -17,21 +16,21 @@ use Rattle.tree_model.specs.Tree.{Tree, opening_tree}
 use Rattle.op_names.specs.Programs.{root, object_number, first_phase}
 use Rattle.world_runs.specs.declared.event.Event.{Event}
 use Rattle.world_runs.specs.declared.event.Event.TheVariants.{Began, Acted, Ended, Stopped}
-use Rattle.world_runs.specs.Moments.{Actor, Moment, opening, May, CanBegin, after, after_all, RunFrom, IsWorldRun}
-use Rattle.world_runs.specs.TreeSteps.{Told, tree_steps, tree_after}
+use Rattle.world_runs.specs.Moments.{Moment, opening, CanBegin, after, after_all, RunFrom, IsWorldRun}
+use Rattle.world_runs.specs.TreeSteps.{tree_steps, tree_after}
 use Rattle.world_runs.specs.Report.{transactions, report, report_after, answer_line, client_name}
-use Rattle.world_runs.specs.Follows.{Acts, EndsAfter, RunsToEnd, BeginsAndEnds, DoesLine, Busy, none_busy, with_busy, FollowsFrom, Follows}
+use Rattle.world_runs.specs.Follows.{Acts, EndsAfter, BeginsAndEnds, DoesLine, Busy, none_busy, with_busy, FollowsFrom, Follows}
 use Rattle.tree_runs.specs.Session.{Played, played, played_line, IsPlayed, session_lines, session_script}
 use Rattle.tree_runs.specs.Session as session
 use Rattle.tree_runs.proofs.Tracks.{Tracks, opening_tracks, actor_cases}
-use Rattle.tree_runs.proofs.Runs.{event_tracked, run_tracked, tree_after-append}
+use Rattle.tree_runs.proofs.Runs.{event_tracked, run_tracked}
 use Rattle.tree_runs.proofs.Histories.{after_all-append, run-front, run-rest, tree_steps-append, report-append, transactions-append, Quiet, quiet_run}
 use Rattle.tree_runs.proofs.Comes.{Stands, Comes, Goes, look_goes, create_goes}
 
 -- ---- transactions alone
 
 -- they change no number
-acts_numbers : (m : Moment) (op : OpId) (n : ℕ) (es : List Event) (a : ℕ) → Acts op n es → ((after_all m es).actors a).number ≡ (m.actors a).number
+pub acts_numbers : (m : Moment) (op : OpId) (n : ℕ) (es : List Event) (a : ℕ) → Acts op n es → ((after_all m es).actors a).number ≡ (m.actors a).number
 acts_numbers m op n [] a acts = refl
 acts_numbers m op n (Acted o q x ∷ es) a acts =
     acts_numbers (after m (Acted o q x)) op (acts.1).0 es a (acts.1).2 ∙ actor_cases (λ st. st.number ≡ (m.actors a).number) m.actors o.actor _ a (λ e. rw e refl) (λ d. refl)
@@ -81,15 +80,19 @@ record Rests (m : Moment) (t : Tree) (before : List Event) (own number : ℕ) : 
 module _ (clients : List (List ℕ)) (m : Moment) (t : Tree) (before : List Event) (own number : ℕ) (rests : Rests m t before own number)
     (op : OpId) (c : Command) (one : op.actor ≡ 1) (is : IsPlayed c) (front : List Event) (n : ℕ) (a : Answer) (acts : Acts op n front)
     (run : RunFrom m (Began op c ∷ front ++ Ended op a ∷ [])) where
+  -- what the tree plays
   abbrev p : Played
   p = played t own number c
 
+  -- the command's events
   abbrev part : List Event
   part = Began op c ∷ front ++ Ended op a ∷ []
 
+  -- the moment after it began
   abbrev mid : Moment
   mid = after m (Began op c)
 
+  -- the history once it began
   abbrev begun_before : List Event
   begun_before = before ++ Began op c ∷ []
 
@@ -166,6 +169,7 @@ LinesAgree clients client cs =
 
 module _ (clients : List (List ℕ)) (client : List ℕ) (c : Command) (cs : List Command) (others : LinesAgree clients client cs) (m : Moment) (t : Tree) (before es : List Event) (own number : ℕ)
     (busy : Busy) (rests : Rests m t before own number) (all : AllByRecursion IsPlayed (c ∷ cs)) (run : RunFrom m es) where
+  -- the lines from here on are those of the tree
   abbrev Agrees : Type 0
   Agrees = report_after clients before es ≡ session_lines clients t own number (c ∷ cs)
 

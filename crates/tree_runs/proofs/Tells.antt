@@ -1,6 +1,5 @@
 -- what the steps so far tell of a running command at each phase
-use Rattle.std.proofs.Common.{◌≡◌, ◌≢◌, ◌⊎◌, ℕ, Bool, true, false, is_some, if◌then◌else◌, Option, Some, None, List, [], ◌∷◌, ◌++◌, refl, sym, ap, subst, ◌∙◌, arith, inl, inr}
-use Rattle.std.specs.FinMap.{get}
+use Rattle.std.proofs.Common.{◌≡◌, ◌⊎◌, ℕ, Bool, true, false, if◌then◌else◌, Option, Some, None, List, [], ◌∷◌, ◌++◌, refl, subst, arith, inl, inr}
 use Rattle.std.proofs.lemmas.List.{append-nil}
 use Rattle.tect_ids.specs.declared.ids.DirId.{DirId}
 use Rattle.tect_ids.specs.declared.ids.FileId.{FileId}
@@ -10,43 +9,33 @@ use Rattle.tect_ids.specs.declared.ids.Place.{Place}
 use Rattle.tect_ids.specs.declared.ids.Node.{Node}
 use Rattle.tect_ids.specs.declared.ids.Node.TheVariants.{Dir, File}
 use Rattle.tect_ids.specs.declared.key.Key.{Key}
-use Rattle.tect_ids.specs.declared.values.Listed.{Listed}
 use Rattle.tect_ids.specs.declared.values.Over.{Over}
 use Rattle.tect_ids.specs.declared.values.Over.TheVariants as over
-use Rattle.tect_ids.specs.declared.values.Want.TheVariants.{AnyFile}
 use Rattle.tect_ids.specs.declared.command.Command.{Command}
 use Rattle.tect_ids.specs.declared.command.Command.TheVariants as commands
 use Rattle.tect_ids.specs.declared.answer.Answer.{Answer}
 use Rattle.tect_ids.specs.declared.answer.Answer.TheVariants as answers
 use Rattle.tect_ids.specs.Keys.{name_eq}
 use Rattle.tect_ids.proofs.KeyTests.{name_eq_cases}
-use Rattle.store_rules.specs.declared.names.NameReq.TheVariants as names
 use Rattle.store_rules.specs.declared.names.Replaced.{Replaced}
-use Rattle.store_rules.specs.declared.files.FileReq.TheVariants as files
-use Rattle.store_rules.specs.declared.any.AnyReq.{AnyReq}
-use Rattle.store_rules.specs.declared.any.AnyReq.TheVariants as any
 use Rattle.store_rules.specs.declared.any.AnyReply.{AnyReply}
 use Rattle.store_rules.specs.Names.{key_in}
-use Rattle.store_rules.specs.Views.{is_made, as_parent, as_found, as_listing, as_bound, as_unbound, as_swapped, is_granted}
-use Rattle.store_rules.specs.Store.{Store, store_reply}
 use Rattle.tree_model.specs.declared.step.TreeStep.{TreeStep}
 use Rattle.tree_model.specs.declared.step.TreeStep.TheVariants as step
 use Rattle.tree_model.specs.declared.step.Shown.TheVariants as shown
-use Rattle.tree_model.specs.declared.step.Refusal.{Refusal}
 use Rattle.tree_model.specs.declared.step.TreeReply.{TreeReply}
 use Rattle.tree_model.specs.declared.step.TreeReply.TheVariants.{Ok, Refused}
 use Rattle.tree_model.specs.Tree.{Tree, tree_reply, opening_tree, is_ok}
 use Rattle.op_names.specs.declared.program.Phase.{Phase}
 use Rattle.op_names.specs.declared.program.Phase.TheVariants.{Walk, Bind, Grant, Swap, Release, End}
 use Rattle.op_names.specs.Paths.{last_name}
-use Rattle.op_names.specs.Programs.{root, way, last, new_path, at_last, own_hold, first_ask, look_ask, grant_ask, release_ask, phase_ask, phase_hear, refusal, dir_refusal, walked, looked, look_heard, checked, entries_heard, unbound_heard, source_heard, then_release, bound_heard, swapped_heard}
-use Rattle.world_runs.specs.TreeSteps.{Told, told_as, tree_step, says, tree_after, where_refused, IsTreeRun}
+use Rattle.op_names.specs.Programs.{root, way, last, refusal, walked, source_heard, then_release, bound_heard, swapped_heard}
+use Rattle.world_runs.specs.TreeSteps.{Told, told_as, says, tree_after, where_refused, IsTreeRun}
 use Rattle.world_runs.specs.Points.{of_op, Walked, Seen, refused_answer, done_answer, StopsWalk, Finds, Lists, FindsSource, IsRefusal, Decides, Point, LacksName}
-use Rattle.tree_runs.specs.View.{Made, AllMade, MakesNew}
-use Rattle.tree_runs.proofs.Phases.{make_dir_made, make_file_made}
-use Rattle.tree_runs.proofs.Replies.{why_of, RefusesSo, RefusesDir, look_some, look_none, check_some, check_none, list_some, list_none, bind_some, bind_none, unbind_some, unbind_none, swap_some, swap_none, grant_none}
+use Rattle.tree_runs.proofs.Replies.{why_of, RefusesSo}
 use Rattle.tree_runs.proofs.Walks.{of_op-append, point_stays, here, over_still, seen_still, seen_now, walks_on}
 
+-- the command is a rename
 abbrev pub IsRename : Command → Type 0
 IsRename (commands.Rename p to) = Unit {0}
 IsRename c = ⊥
@@ -134,12 +123,15 @@ then_tells t op c None a p = inl p
 then_tells t op c (Some o) a p = p
 
 module _ (t : List Told) (place : Place) (op : OpId) (c : Command) where
+  -- the tree that the steps made
   abbrev tree : Tree
   tree = tree_after opening_tree t
 
+  -- the walk came to that directory, with these names left
   abbrev Walks : DirId → List (List ℕ) → Type 0
   Walks d ns = Walked root (way c) (of_op op t) d ns
 
+  -- with one more step they tell of the phase
   abbrev Then : TreeStep → TreeReply → Phase → Type 0
   Then s x at = PhaseTells (t ++ told_as op (Some s) x) op c at
 
@@ -162,12 +154,15 @@ module _ (t : List Told) (place : Place) (op : OpId) (c : Command) where
 
 -- a rename
 module _ (t : List Told) (place : Place) (op : OpId) (p to : List (List ℕ)) where
+  -- the rename
   abbrev rename : Command
   rename = commands.Rename p to
 
+  -- the tree that the steps made
   abbrev rename_tree : Tree
   rename_tree = tree_after opening_tree t
 
+  -- its walk is over, in that directory
   abbrev RenameWalks : DirId → Type 0
   RenameWalks d = Walked root (way rename) (of_op op t) d []
 
@@ -186,6 +181,7 @@ module _ (t : List Told) (place : Place) (op : OpId) (p to : List (List ℕ)) wh
           inl (here t op rename d [] (step.Look (key_in d (last_name p))) (says x) answers.Done w said (refl, source_same (key_in d (last_name p)) (last_name to) m (says x) (some m refl) same))
       at false e = (over_still t op rename d _ w, tt, refl, seen_now t op rename (step.Look (key_in d (last_name p))) (says x) (Ok (shown.Node m)) (some m refl))
 
+  -- it found the node at the entry
   abbrev SawSource : Key → Node → Type 0
   SawSource k n = Seen (of_op op t) (step.Look k) (Ok (shown.Node n))
 

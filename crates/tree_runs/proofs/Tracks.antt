@@ -1,18 +1,12 @@
 -- what each moment keeps, beside that its store shows the tree
-use Rattle.std.proofs.Common.{◌≡◌, ◌≢◌, ◌<◌, ◌≤◌, ◌+◌, ◌^◌, ℕ, Bool, true, false, is_some, if◌then◌else◌, Option, Some, None, List, [], ◌∷◌, ◌++◌, refl, sym, ap, ◌∙◌, arith, eqb}
-use Rattle.std.specs.Option.{option_map}
-use Rattle.std.specs.FinMap.{FinMap, get, empty, get-empty, same_map}
-use Rattle.std.specs.declared.cmp.Ordering.{Ordering}
-use Rattle.std.specs.declared.cmp.Ordering.TheVariants.{Equal}
-use Rattle.std.specs.Cmp.{IsTotalOrder}
+use Rattle.std.proofs.Common.{◌≡◌, ◌≢◌, ◌<◌, ◌≤◌, ◌+◌, ◌^◌, ℕ, true, false, is_some, if◌then◌else◌, Option, Some, None, List, refl, arith, eqb}
+use Rattle.std.specs.FinMap.{get, empty, same_map}
 use Rattle.tect_ids.specs.declared.ids.DirId.{DirId}
 use Rattle.tect_ids.specs.declared.ids.FileId.{FileId}
-use Rattle.tect_ids.specs.declared.ids.OpId.{OpId}
 use Rattle.tect_ids.specs.declared.ids.Counts.{Counts}
 use Rattle.tect_ids.specs.declared.ids.Node.{Node}
 use Rattle.tect_ids.specs.declared.ids.Node.TheVariants as nodes
 use Rattle.tect_ids.specs.declared.command.Command.{Command}
-use Rattle.tect_ids.specs.declared.command.Command.TheVariants as commands
 use Rattle.tect_ids.specs.Keys.{name_eq, dir_cmp, file_cmp, key_cmp}
 use Rattle.tect_ids.proofs.KeyTests.{dir_cmp_total, file_cmp_total, key_cmp_total, dir_antisymmetric, file_antisymmetric, key_antisymmetric, num_eq_cases}
 use Rattle.key_maps.proofs.Lookups.{maps}
@@ -29,12 +23,14 @@ use Rattle.op_names.specs.Paths.{last_name}
 use Rattle.op_names.specs.Programs.{object_number, new_path}
 use Rattle.world_runs.specs.Moments.{Actor, Moment, opening}
 use Rattle.tree_runs.specs.MapValues.{map_values}
-use Rattle.tree_runs.specs.View.{Made, view, Shows, stands, AllMade, shown_dir, shown_file, shown_entry}
+use Rattle.tree_runs.specs.View.{Made, view, Shows, AllMade, shown_dir, shown_file, shown_entry}
 use Rattle.tree_runs.proofs.ValuesSeen.{get-map_values, dir_put}
 
+-- the directory of that number
 abbrev pub dir_at : ℕ → Node
 dir_at i = nodes.Dir record { 0 = i }
 
+-- the file of that number
 abbrev pub file_at : ℕ → Node
 file_at i = nodes.File record { 0 = i }
 

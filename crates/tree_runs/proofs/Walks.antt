@@ -1,5 +1,5 @@
 -- the steps of one op: its walk, what it saw, and its point, once more steps are there
-use Rattle.std.proofs.Common.{◌≡◌, ℕ, Bool, true, false, if◌then◌else◌, Option, Some, None, List, [], ◌∷◌, ◌++◌, refl, sym, ap, ◌∙◌, arith, inl, inr, append_assoc}
+use Rattle.std.proofs.Common.{◌≡◌, ℕ, true, false, if◌then◌else◌, Option, Some, None, List, [], ◌∷◌, ◌++◌, refl, ap, ◌∙◌, arith, inl, inr, append_assoc}
 use Rattle.tect_ids.specs.declared.ids.DirId.{DirId}
 use Rattle.tect_ids.specs.declared.ids.OpId.{OpId}
 use Rattle.tect_ids.specs.declared.ids.Node.TheVariants.{Dir}
@@ -12,7 +12,7 @@ use Rattle.tree_model.specs.declared.step.TreeStep.{TreeStep}
 use Rattle.tree_model.specs.declared.step.TreeStep.TheVariants as step
 use Rattle.tree_model.specs.declared.step.Shown.TheVariants as shown
 use Rattle.tree_model.specs.declared.step.TreeReply.{TreeReply}
-use Rattle.tree_model.specs.declared.step.TreeReply.TheVariants.{Ok, Refused}
+use Rattle.tree_model.specs.declared.step.TreeReply.TheVariants.{Ok}
 use Rattle.tree_model.specs.Tree.{tree_reply, opening_tree}
 use Rattle.op_names.specs.Programs.{root, way}
 use Rattle.world_runs.specs.TreeSteps.{Told, told_as, tree_after}

@@ -76,6 +76,7 @@ abbrev pub played_look : Tree → ℕ → List (List ℕ) → Played
 played_look t serial (n ∷ []) = looked t serial (key_in root n)
 played_look t serial p = unplayed t serial
 
+-- the same for a create, which takes the client's next number
 abbrev pub played_create : Tree → ℕ → List (List ℕ) → Played
 played_create t serial (n ∷ []) = created t serial (key_in root n) record { 0 = object_number 1 serial }
 played_create t serial p = unplayed t serial

@@ -2,12 +2,13 @@
 //! that the tree gives at the command's point, and a session of one client prints what the tree alone gives.
 #![tactic(auto)]
 
-ghost use Rattle.std.specs.Prelude.{◌≡◌, ℕ, List};
+ghost use Rattle.std.specs.Prelude.{◌≡◌, ◌<◌, ◌^◌, ℕ, List, length};
 ghost use Rattle.std.specs.List.{AllByRecursion};
 ghost use Rattle.tect_ids.specs.declared.command.Command.{Command};
 ghost use Rattle.world_runs.specs.Follows.{Follows};
 ghost use Rattle.world_runs.specs.Headline.{Headline};
 ghost use Rattle.world_runs.specs.Report.{report};
+ghost use Rattle.world_runs.specs.Served.{IsServed};
 ghost use Rattle.tree_runs.specs.Session.{IsPlayed, session_lines, session_script};
 ghost use Rattle.store_rules.specs.Store.{Store};
 ghost use Rattle.store_rules.specs.declared.any.AnyReq.{AnyReq};
@@ -41,5 +42,9 @@ pub fn report_is_session()
 /// command's point.
 pub fn each_answer_is_the_trees()
     ensures { (counts : Counts) (events : List Event) → IsWorldRun counts events → Headline events }
-{
-}
+{}
+
+/// Each script of one client, whose commands are served and done one after another, is followed by some run of the world.
+pub fn each_session_can_be_run()
+    ensures { (counts : Counts) (client : List ℕ) (commands : List Command) → AllByRecursion IsServed commands → length commands < 2 ^ 31 → (history : List Event) × IsWorldRun counts history × Follows (session_script client commands) history }
+{}
