@@ -147,12 +147,4 @@ impl World {
     {
         self.actors[actor as usize - 1].transactions
     }
-
-    /// All that was done, in order.
-    pub fn history(&self) -> &[Event]
-        ensures events { result.now ≡ self.now.history }
-        ensures run { IsWorldRun self.now.counts self.now.history }
-    {
-        self.history.as_slice()
-    }
 }
