@@ -1,13 +1,17 @@
 //! `tect replay`: reads a script from the standard input, does its commands on a new store, and writes their answers.
 #![tactic(auto)]
 
+ghost use Rattle.std.specs.Prelude.{◌≡◌, ◌⊎◌, IfErr};
+
 use std::process::ExitCode;
 use std::{env, io};
 use tect_app::{Status, run};
 use tect_edge::{StdSink, StdSource};
 
 /// The words behind the program's own name. They fail as a whole: for want of memory, or as words that are no text.
-fn words(rt: &HostRuntime) -> Result<Vec<String>, Status> {
+fn words(rt: &HostRuntime) -> Result<Vec<String>, Status>
+    ensures { IfErr result (λ status. (status ≡ Status.NoMemory) ⊎ (status ≡ Status.Usage)) }
+{
     let args = match env::args(rt) {
         Ok(args) => args,
         Err(error) if error.kind() == io::ErrorKind::OutOfMemory => return Err(Status::NoMemory),
