@@ -1,0 +1,16 @@
+//! The program as one call over a source and a sink: the words of the command line, the input and the output.
+//!
+//! So far it has one mode, `replay`: it reads a script in which one client creates files in the root and looks them up,
+//! does the commands one after another on a store on one thread, and writes the answer of each and `end`.
+#![tactic(auto)]
+
+mod input;
+mod report;
+mod script;
+mod status;
+#[cfg(test)]
+mod tests;
+mod top;
+
+pub use status::Status;
+pub use top::{run, run_replay};
