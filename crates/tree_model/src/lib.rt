@@ -7,3 +7,6 @@ mod tree;
 
 pub use step::{Refusal, Shown, TreeDir, TreeFile, TreeReply, TreeStep};
 pub use tree::Tree;
+
+#[cfg(test)]
+mod tests;
