@@ -7,3 +7,6 @@ mod requests;
 mod shard;
 
 pub use shard::FileShard;
+
+#[cfg(test)]
+mod tests;

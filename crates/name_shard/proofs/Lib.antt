@@ -1,4 +1,3 @@
-pub mod Counted
 pub mod Limited
 pub mod Released
 pub mod Renamed

@@ -3,4 +3,3 @@ pub mod Dumps
 pub mod Limits
 pub mod Memory
 pub mod Outcomes
-pub mod Tables

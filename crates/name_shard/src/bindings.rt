@@ -1,38 +1,43 @@
-ghost use Rattle.std.specs.Prelude.{◌≡◌, ◌+◌, ◌<◌, ◌^◌, Some, None, IfOk, OnOk, OnErr};
+ghost use Rattle.std.specs.Prelude.{◌≡◌, Some, None, IfOk, OnOk, OnErr};
 ghost use Rattle.std.specs.Option.{option_copied};
-ghost use Rattle.std.specs.FinMap.{get, len};
+ghost use Rattle.std.specs.FinMap.{get};
 ghost use Rattle.ordered_rows.specs.Maps.{set_at};
-ghost use Rattle.key_maps.specs.Maps.{within};
 ghost use Rattle.store_rules.specs.declared.names.NameReq.TheVariants as req;
 ghost use Rattle.tect_ids.specs.Keys.{node_eq};
 ghost use Rattle.store_rules.specs.declared.names.NameReply.TheVariants.{Unbound};
 ghost use Rattle.store_rules.specs.Outcomes.{Changes, reply};
 ghost use Rattle.store_rules.specs.Names.{bind_answer, bind_over, swap_answer, swap_over, unbind_answer, unbind_any, unbind_node, key_in, name_step};
-ghost use Rattle.name_shard.specs.Outcomes.{outcome_of};
+ghost use Rattle.name_shard.specs.Outcomes.{outcome_of, dir_refusal};
 
 use crate::outcome::Outcome;
 use crate::shard::NameShard;
-use crate::table::EntryTable;
+use key_maps::EntryTable;
 use store_rules::{Entry, NameReply, Replaced};
 use tect_ids::{DirId, Hold, Key, Name, NoMemory, Node, Over, Want};
 
 // How many entries a directory may have.
-const ENTRY_LIMIT: u32 = 65_536;
+const ENTRY_LIMIT: u64 = 65_536;
 
 // The requests that change an entry.
 impl NameShard {
     pub(crate) fn bind_outcome(&self, key: &Key, over: Over) -> Outcome
         ensures { outcome_of result ≡ bind_answer self.now key.now over }
     {
-        match self.dirs.get(key.dir) {
-            None => return Outcome::Leaves(NameReply::NoDir),
-            Some(directory) => {
-                if directory.sealed {
-                    return Outcome::Leaves(NameReply::Sealed);
-                }
-            }
+        match self.refusal(key.dir) {
+            Some(refusal) => Outcome::Leaves(refusal),
+            None => self.bind_over(key, over),
         }
-        self.bind_over(key, over)
+    }
+
+    // Why the directory takes no change of its entries, if it takes none.
+    fn refusal(&self, dir: DirId) -> Option<NameReply>
+        ensures { result ≡ dir_refusal (get self.now.dirs dir) }
+    {
+        match self.dirs.get(dir) {
+            None => Some(NameReply::NoDir),
+            Some(directory) if directory.sealed => Some(NameReply::Sealed),
+            Some(_) => None,
+        }
     }
 
     // What stands at the key decides.
@@ -80,18 +85,10 @@ impl NameShard {
     pub(crate) fn unbind_outcome(&self, key: &Key, want: Want) -> Outcome
         ensures { outcome_of result ≡ unbind_answer self.now key.now want }
     {
-        match self.dirs.get(key.dir) {
-            None => return Outcome::Leaves(NameReply::NoDir),
-            Some(directory) => {
-                if directory.sealed {
-                    return Outcome::Leaves(NameReply::Sealed);
-                }
-            }
-        }
-        let entry = self.entries.get(key);
-        match want {
-            Want::AnyFile => unbind_any(entry),
-            Want::Exactly(node) => unbind_node(entry, node),
+        match (self.refusal(key.dir), want) {
+            (Some(refusal), _) => Outcome::Leaves(refusal),
+            (None, Want::AnyFile) => unbind_any(self.entries.get(key)),
+            (None, Want::Exactly(node)) => unbind_node(self.entries.get(key), node),
         }
     }
 
@@ -127,23 +124,18 @@ impl NameShard {
         requires { to.now.dir ≡ from.now.dir }
         ensures { outcome_of result ≡ swap_answer self.now from.now.dir from.now.name to.now.name node }
     {
-        match self.dirs.get(from.dir) {
-            None => return Outcome::Leaves(NameReply::NoDir),
-            Some(directory) => {
-                if directory.sealed {
-                    return Outcome::Leaves(NameReply::Sealed);
-                }
-            }
+        if let Some(refusal) = self.refusal(from.dir) {
+            return Outcome::Leaves(refusal);
         }
-        let Some(entry) = self.entries.get(from) else {
+        let Some(renamed) = self.entries.get(from) else {
             return Outcome::Leaves(NameReply::Changed { now: None });
         };
-        if !is_node(entry.node, node) {
+        if !is_node(renamed.node, node) {
             return Outcome::Leaves(NameReply::Changed {
-                now: Some(entry.node),
+                now: Some(renamed.node),
             });
         }
-        swap_over(self.entries.get(to), node, entry.hold)
+        swap_over(self.entries.get(to), node, renamed.hold)
     }
 
     pub(crate) fn swap(
@@ -234,12 +226,11 @@ fn swap_over(over: Option<&Entry>, node: Node, hold: Hold) -> Outcome
 
 // Takes the entry at the old key away and puts one at the new key, or nothing of it for want of memory.
 fn rename_entry(
-    entries: &mut EntryTable,
+    entries: &mut EntryTable<Entry>,
     from: &Key,
     to: &Key,
     entry: Entry,
 ) -> Result<(), NoMemory>
-    requires { len (within entries.old to.now.dir) + 1 < 2 ^ 32 }
     ensures moved { OnOk result (entries.new ≡ set_at (set_at entries.old from.now None) to.now (Some entry)) }
     ensures unchanged { OnErr result (entries.new ≡ entries.old) }
 {

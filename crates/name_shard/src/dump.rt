@@ -44,7 +44,7 @@ impl NameShard {
             } else {
                 DirState::Open
             },
-            entries: self.entries.count(dir),
+            entries: self.entries.count(dir) as u32,
             // No memory has room for more holds than that.
             holds: u32::try_from(directory.holds.len()).or(Err(NoMemory))?,
             moving: None,

@@ -7,6 +7,8 @@ mod dump;
 mod outcome;
 mod readings;
 mod shard;
-mod table;
 
 pub use shard::NameShard;
+
+#[cfg(test)]
+mod tests;

@@ -3,11 +3,10 @@ ghost use Rattle.store_rules.specs.Names.{root_names, no_names, name_answer, nam
 ghost use Rattle.store_rules.specs.Outcomes.{reply};
 ghost use Rattle.name_shard.specs.Memory.{takes_no_memory};
 
-use crate::table::EntryTable;
-use key_maps::DirMap;
+use key_maps::{DirMap, EntryTable};
 use std::alloc::Global;
 use std::marker::Model;
-use store_rules::{Directory, NameReply, NameReq};
+use store_rules::{Directory, Entry, NameReply, NameReq};
 use tect_ids::{DirId, HoldList, NoMemory, ROOT};
 
 /// A shard of the Name layer: some of the directories, with all entries of each.
@@ -15,7 +14,7 @@ use tect_ids::{DirId, HoldList, NoMemory, ROOT};
 pub struct NameShard {
     pub(crate) alloc: Global,
     pub(crate) dirs: DirMap<Directory>,
-    pub(crate) entries: EntryTable,
+    pub(crate) entries: EntryTable<Entry>,
 }
 
 impl Model for NameShard {
