@@ -1,0 +1,4 @@
+pub mod IdText
+pub mod AnswerText
+pub mod DumpText
+pub mod ReportText
