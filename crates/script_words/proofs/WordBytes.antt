@@ -22,6 +22,7 @@ split_behind line = by (parts 32 line) (some line)
         onto : (ps : List (List ℕ)) (b : ℕ) → splits 32 b ≡ false → (l : List ℕ) → parts 32 l ≡ ps → (y : List ℕ) × (ys : List (List ℕ)) × (parts 32 (b ∷ l) ≡ y ∷ ys)
         onto [] b miss l is = (b ∷ [], [], rw (miss, is) refl)
         onto (p ∷ ps) b miss l is = (b ∷ p, ps, rw (miss, is) refl)
+
     by : (words : List (List ℕ)) → ((y : List ℕ) × (ys : List (List ℕ)) × (words ≡ y ∷ ys)) → behind_length words ≡ 1 + spaced_length words
     by words (y, ys, is) = rw is (omega arith)
 

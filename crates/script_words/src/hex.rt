@@ -56,7 +56,7 @@ pub fn hex_fit(word: &[u8]) -> Fit
 
 /// The bytes that the word writes.
 pub fn read_hex(alloc: Global, word: &[u8]) -> Result<Bytes, NoMemory>
-    requires { IsTrue (are_hex_pairs word.now) }
+    requires { hex_fit word.now ≡ Fit.Fits }
     ensures { IfOk result (λ bytes. bytes ≡ hex_bytes word.now) }
 {
     let mut bytes = Vec::new(alloc);
