@@ -28,6 +28,14 @@ read limited (done value) words = Got value words
 read limited (word fit next) [] = Wrong []
 read limited (word fit next) (w ∷ words) = by_fit limited (fit w) (w ∷ words) (read limited (next w) words)
 
+-- a value with a word behind it that is one too many
+abbrev pub ended : {A : Type 0} → Outcome A → Outcome A
+ended (Got value []) = Got value []
+ended (Got value (w ∷ words)) = Wrong (w ∷ words)
+ended (Wrong words) = Wrong words
+ended (Large limit words) = Large limit words
+
+-- a form, and behind it another one that may depend on its value
 abbrev pub and_then : {A B : Type 0} → Form A → (A → Form B) → Form B
 and_then (done value) go = go value
 and_then (word fit next) go = word fit (λ w. and_then (next w) go)

@@ -16,6 +16,7 @@ use Rattle.tect_ids.specs.declared.script.Act.{Act}
 use Rattle.tect_ids.specs.declared.script.Act.TheVariants as acts
 use Rattle.tect_ids.specs.declared.script.Line.{Line}
 use Rattle.tect_ids.specs.declared.script.Line.TheVariants as lines
+use Rattle.script_lines.specs.declared.verbs.PathVerb.{PathVerb}
 use Rattle.script_lines.specs.declared.verbs.PathVerb.TheVariants as paths
 use Rattle.script_lines.specs.declared.verbs.Verb.{Verb}
 use Rattle.script_lines.specs.declared.verbs.Verb.TheVariants as verbs
@@ -37,6 +38,10 @@ abbrev pub fits_if : Bool → Fit
 fits_if true = Fits
 fits_if false = Unfit
 
+-- just this word
+abbrev pub text_fit : List ℕ → List ℕ → Fit
+text_fit text w = fits_if (bytes_eq w text)
+
 abbrev pub the_disk : ℕ → DiskId
 the_disk n = record { 0 = n }
 
@@ -48,13 +53,31 @@ the_layer w = unwrap_or (layer_of w) Names
 
 -- ---- commands: what stands behind the first word
 
+abbrev pub path_form : PathVerb → Form Command
+path_form verb = word path_fit (λ p. done (path_command verb (path_names p)))
+
+abbrev pub rename_form : Form Command
+rename_form = word path_fit (λ p. word (sibling_fit p) (λ q. done (commands.Rename (path_names p) (path_names q))))
+
+abbrev pub move_form : Form Command
+move_form = word path_fit (λ p. word path_fit (λ q. done (commands.Move (path_names p) (path_names q))))
+
+abbrev pub append_form : Form Command
+append_form = word path_fit (λ p. word hex_fit (λ h. done (commands.Append (path_names p) (hex_bytes h))))
+
+abbrev pub sweep_form : Counts → Form Command
+sweep_form counts = word layer_fit (λ l. word (number_fit 0 (places_of counts (the_layer l) - 1)) (λ i. done (commands.Sweep (the_layer l) (number_of i))))
+
+abbrev pub repair_form : Counts → Form Command
+repair_form counts = word (number_fit 0 (counts.disks - 1)) (λ d. word (number_fit 0 (counts.blocks - 1)) (λ i. done (commands.Repair (the_disk (number_of d)) (number_of i))))
+
 abbrev pub command_form : Counts → Verb → Form Command
-command_form counts (verbs.OnPath verb) = word path_fit (λ p. done (path_command verb (path_names p)))
-command_form counts verbs.Rename = word path_fit (λ p. word (sibling_fit p) (λ q. done (commands.Rename (path_names p) (path_names q))))
-command_form counts verbs.Move = word path_fit (λ p. word path_fit (λ q. done (commands.Move (path_names p) (path_names q))))
-command_form counts verbs.Append = word path_fit (λ p. word hex_fit (λ h. done (commands.Append (path_names p) (hex_bytes h))))
-command_form counts verbs.Sweep = word layer_fit (λ l. word (number_fit 0 (places_of counts (the_layer l) - 1)) (λ i. done (commands.Sweep (the_layer l) (number_of i))))
-command_form counts verbs.Repair = word (number_fit 0 (counts.disks - 1)) (λ d. word (number_fit 0 (counts.blocks - 1)) (λ i. done (commands.Repair (the_disk (number_of d)) (number_of i))))
+command_form counts (verbs.OnPath verb) = path_form verb
+command_form counts verbs.Rename = rename_form
+command_form counts verbs.Move = move_form
+command_form counts verbs.Append = append_form
+command_form counts verbs.Sweep = sweep_form counts
+command_form counts verbs.Repair = repair_form counts
 
 abbrev pub verb_fit : List ℕ → Fit
 verb_fit w = fits_if (is_some (served_verb w))
@@ -67,10 +90,13 @@ any_command counts = word verb_fit (λ w. command_form counts (the_verb w))
 
 -- ---- clients
 
+abbrev pub steps_form : Form Act
+steps_form = word (number_fit 1 65535) (λ n. done (acts.Step (number_of n)))
+
 abbrev pub act_behind : Counts → ActWord → Form Act
 act_behind counts (act_words.Do verb) = and_then (command_form counts verb) (λ command. done (acts.Do command))
 act_behind counts act_words.Begin = and_then (any_command counts) (λ command. done (acts.Begin command))
-act_behind counts act_words.Step = word (number_fit 1 65535) (λ n. done (acts.Step (number_of n)))
+act_behind counts act_words.Step = steps_form
 act_behind counts act_words.Run = done acts.Run
 act_behind counts act_words.Stop = done acts.Stop
 
@@ -86,18 +112,12 @@ act_form counts = word act_fit (λ w. act_behind counts (the_act_word w))
 
 -- ---- world lines: what stands behind the first word
 
-abbrev pub all_fit : List ℕ → Fit
-all_fit w = fits_if (bytes_eq w (codes "all"))
-
 abbrev pub world_behind : Counts → WorldVerb → Form Line
-world_behind counts worlds.Sweep = word all_fit (λ w. done lines.Sweep)
+world_behind counts worlds.Sweep = word (text_fit (codes "all")) (λ w. done lines.Sweep)
 world_behind counts worlds.Lose = word (number_fit 0 (counts.disks - 1)) (λ d. done (lines.Lose (the_disk (number_of d))))
 world_behind counts worlds.Dump = done lines.Dump
 
 -- ---- the store line
-
-abbrev pub store_fit : List ℕ → Fit
-store_fit w = fits_if (bytes_eq w (codes "store"))
 
 abbrev pub shards_fit : List ℕ → Fit
 shards_fit w = count_fit limits.Shards 64 w
@@ -112,7 +132,7 @@ counts_form =
     done (the_counts (number_of n) (number_of f) (number_of b) (number_of d) (number_of c)))))))
 
 abbrev pub store_form : Form Counts
-store_form = word store_fit (λ w. counts_form)
+store_form = word (text_fit (codes "store")) (λ w. counts_form)
 
 -- ---- lines behind the store line, but for the states of the clients; a client has the number that the function gives its name
 

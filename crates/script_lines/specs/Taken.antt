@@ -1,5 +1,5 @@
 -- What a reading function took from the words of a line, as the forms say it.
-use Rattle.std.specs.Prelude.{ℕ, ◌≡◌, true, List, [], ◌∷◌, Result, Ok, Err, ◌⊎◌}
+use Rattle.std.specs.Prelude.{ℕ, ◌≡◌, true, List, [], ◌∷◌, Result, Ok, Err, Option, Some, None, ◌⊎◌}
 use Rattle.std.specs.Borrow.{Bor}
 use Rattle.script_words.specs.declared.limits.Fit.{Fit}
 use Rattle.script_words.specs.declared.limits.Fit.TheVariants.{Fits, Over, Unfit}
@@ -27,3 +27,17 @@ abbrev pub IsJudged : ℕ → Bor (List ℕ) → Fit → Result (Bor (List ℕ))
 IsJudged bytes w Fits result = result ≡ Ok w
 IsJudged bytes w (Over limit) result = result ≡ Err (faults.Large limit)
 IsJudged bytes w Unfit result = result ≡ Err (faults.Wrong bytes)
+
+-- one word was taken, which says this
+abbrev pub TakesChoice : {X : Type 0} → (List ℕ → Option X) → Result X LineFault → List (List ℕ) → List (List ℕ) → Type 0
+TakesChoice of (Ok x) old new = (w : List ℕ) × (old ≡ w ∷ new) × (of w ≡ Some x)
+TakesChoice of (Err faults.NoMemory) old new = ⊥
+TakesChoice of (Err (faults.Wrong bytes)) old new = (bytes ≡ spaced_length old) × ((old ≡ []) ⊎ ((w : List ℕ) × (words : List (List ℕ)) × (old ≡ w ∷ words) × (of w ≡ None)))
+TakesChoice of (Err (faults.Large limit)) old new = ⊥
+
+-- no word is left
+abbrev pub TakesEnd : Result (Unit {0}) LineFault → List (List ℕ) → Type 0
+TakesEnd (Ok unit) old = old ≡ []
+TakesEnd (Err faults.NoMemory) old = ⊥
+TakesEnd (Err (faults.Wrong bytes)) old = (w : List ℕ) × (words : List (List ℕ)) × (old ≡ w ∷ words) × (bytes ≡ spaced_length old)
+TakesEnd (Err (faults.Large limit)) old = ⊥

@@ -1,4 +1,5 @@
 use script_words::Limit;
+use tect_ids::NoMemory;
 
 /// Why a line was not read.
 #[derive(Clone, Copy, Debug, PartialEq, Eq)]
@@ -8,4 +9,15 @@ pub enum LineFault {
     Wrong { left: usize },
     /// A word passes that limit.
     Large(Limit),
+}
+
+impl From<NoMemory> for LineFault {
+    ghost use Rattle.std.specs.Prelude.{◌≡◌};
+    ghost use Rattle.script_lines.specs.declared.faults.LineFault.TheVariants as faults;
+
+    ghost from_gives = { λ _ fault. fault ≡ faults.NoMemory };
+
+    fn from(_no_memory: NoMemory) -> LineFault {
+        LineFault::NoMemory
+    }
 }
