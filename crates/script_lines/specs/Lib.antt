@@ -4,3 +4,6 @@ pub mod Served
 pub mod Verbs
 pub mod Grammar
 pub mod Taken
+pub mod Clients
+pub mod Reading
+pub mod GivesPlan

@@ -2,10 +2,14 @@
 #![tactic(auto)]
 
 mod acts;
+mod clients;
 mod commands;
 mod faults;
+mod lines;
+mod script;
 mod spelling;
 mod takes;
 mod verbs;
 
+pub use faults::ScriptFault;
 pub use spelling::write_line;
