@@ -1,1 +1,2 @@
 pub mod FormReads
+pub mod LineByLine

@@ -1,5 +1,5 @@
 -- What a function returned is what reading gives, unless memory ran out.
-use Rattle.std.specs.Prelude.{ℕ, ◌≡◌, ◌+◌, ◌-◌, ◌<◌, ◌≤◌, List, length, Option, Some, None, Result, Ok, Err}
+use Rattle.std.specs.Prelude.{ℕ, ◌≡◌, ◌+◌, ◌-◌, ◌<◌, ◌≤◌, ◌==◌, Bool, false, List, length, Option, Some, None, Result, Ok, Err}
 use Rattle.std.specs.Borrow.{Bor}
 use Rattle.script_words.specs.declared.limits.Limit.TheVariants as limits
 use Rattle.script_words.specs.LimitText.{limit_value}
@@ -33,3 +33,8 @@ IsMeasured number line (Err (faults.TooLarge what limit)) = ⊥
 abbrev pub EndsLine : ℕ → List ℕ → Option (Bor (List ℕ)) → Result (Bor (List ℕ)) ScriptFault → Type 0
 EndsLine number line (Some more) result = result ≡ Ok more
 EndsLine number line None result = result ≡ Err (faults.Bad number (length line + 1))
+
+-- nothing stands behind the last line feed
+abbrev pub ends_script : List ℕ → Option (Bor (List ℕ)) → Bool
+ends_script line None = length line == 0
+ends_script line (Some more) = false

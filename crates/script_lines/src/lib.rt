@@ -12,4 +12,5 @@ mod takes;
 mod verbs;
 
 pub use faults::ScriptFault;
+pub use script::read_script;
 pub use spelling::write_line;

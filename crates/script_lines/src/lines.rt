@@ -48,6 +48,7 @@ fn client_line(
     requires few { length clients.old.entries ≤ 64 }
     requires size { left ≡ spaced_length (name ∷ words_left words) }
     ensures line { Gives result [] (client_read counts clients.old.entries name (words_left words.entry)) }
+    ensures few { OnOk result (length clients.new.entries ≤ 64) }
     ensures seen { IfOk result (λ line. clients.new.entries ≡ seen_after clients.old.entries line) }
 {
     if is_out_of_state(clients, &name, words) {
@@ -83,6 +84,7 @@ pub fn read_line(
 ) -> Result<Line, LineFault>
     requires { length clients.old.entries ≤ 64 }
     ensures line { Gives result [] (line_read counts clients.old.entries (parts 32 line.now)) }
+    ensures few { OnOk result (length clients.new.entries ≤ 64) }
     ensures seen { IfOk result (λ line. clients.new.entries ≡ seen_after clients.old.entries line) }
 {
     let mut words = Words::new(line);

@@ -1,6 +1,6 @@
 -- The words of a line, one after another.
 use Rattle.std.proofs.Common.{◌≡◌, ℕ, ◌+◌, ◌<◌, ◌≤◌, Bool, List, [], ◌∷◌, ◌++◌, Option, Some, None, length, take, drop, map, refl, sym, ap, ◌∙◌, append_assoc, arith, inl, inr, ◌⊎◌, length-take, length-drop}
-use Rattle.std.specs.List.{slice_split, position, position_or_len}
+use Rattle.std.specs.List.{slice_split, onto_first, position, position_or_len}
 use Rattle.std.specs.Borrow.{Bor}
 use Rattle.std.proofs.lemmas.Bool.{cases_lt, lt-ltb, le-ltb, cases_Bool}
 use Rattle.std.proofs.lemmas.List.{take_all}
@@ -34,3 +34,15 @@ module _ (separator : ℕ) where
           size = rw (word-is, more-is) (omega (arith, some.1, at, length-take end line, length-drop (end + 1) line));
         }
   ]
+
+-- there is always a first part
+pub parts_some : (separator : ℕ) (bytes : List ℕ) → (first : List ℕ) × (others : List (List ℕ)) × (parts separator bytes ≡ first ∷ others)
+parts_some separator [] = ([], [], refl)
+parts_some separator (b ∷ bytes) = elim (cases_Bool (splits separator b)) [
+  | inl hit ↦ ([], parts separator bytes, rw hit refl)
+  | inr miss ↦ let some = onto_some b (parts separator bytes) in (some.0, some.1, rw miss some.2)
+]
+  where
+    onto_some : (b : ℕ) (ps : List (List ℕ)) → (y : List ℕ) × (ys : List (List ℕ)) × (onto_first b ps ≡ y ∷ ys)
+    onto_some b [] = (b ∷ [], [], refl)
+    onto_some b (part ∷ ps) = (b ∷ part, ps, refl)
