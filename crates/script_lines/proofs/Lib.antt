@@ -1,2 +1,4 @@
 pub mod FormReads
+pub mod FormLaws
+pub mod WordLaws
 pub mod LineByLine

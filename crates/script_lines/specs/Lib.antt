@@ -7,3 +7,4 @@ pub mod Taken
 pub mod Clients
 pub mod Reading
 pub mod GivesPlan
+pub mod LineForms
