@@ -5,10 +5,10 @@ use Rattle.script_words.specs.declared.limits.Fit.{Fit}
 use Rattle.script_words.specs.declared.limits.Fit.TheVariants.{Fits, Over, Unfit}
 use Rattle.script_lines.specs.Form.{Form, done, word, Outcome, Got, Wrong, Large, by_fit, read, ended, passes, IsAlive}
 
-abbrev got : (A : Type 0) → A → List (List ℕ) → Outcome A
+abbrev pub got : (A : Type 0) → A → List (List ℕ) → Outcome A
 got A a ws = Got a ws
 
-abbrev wrong : (A : Type 0) → List (List ℕ) → Outcome A
+abbrev pub wrong : (A : Type 0) → List (List ℕ) → Outcome A
 wrong A ws = Wrong ws
 
 abbrev large : (A : Type 0) → Limit → List (List ℕ) → Outcome A
@@ -101,7 +101,7 @@ dead_on fit next v front (w ∷ others) e dead = λ limited more. read_on limite
 unfit_dead : {A : Type 0} (fit : List ℕ → Fit) (next : List ℕ → Form A) (w : List ℕ) (limited : Bool) (more : List (List ℕ)) → fit w ≡ Unfit → read limited (word fit next) (w ∷ more) ≡ Wrong (w ∷ more)
 unfit_dead fit next w limited more is = rw is refl
 
-fits_pass : (limited : Bool) (k : Fit) → k ≡ Fits → passes limited k
+pub fits_pass : (limited : Bool) (k : Fit) → k ≡ Fits → passes limited k
 fits_pass limited Fits is = tt
 fits_pass limited (Over limit) is = absurd cc
 fits_pass limited Unfit is = absurd cc
@@ -156,7 +156,7 @@ over_large fit next w limit more is = rw is refl
 over_on : {A : Type 0} (fit : List ℕ → Fit) (next : List ℕ → Form A) (w : List ℕ) (limit : Limit) (more : List (List ℕ)) → fit w ≡ Over limit → read false (word fit next) (w ∷ more) ≡ read false (next w) more
 over_on fit next w limit more is = rw is refl
 
-over_passes : (limit : Limit) (k : Fit) → k ≡ Over limit → passes false k
+pub over_passes : (limit : Limit) (k : Fit) → k ≡ Over limit → passes false k
 over_passes limit Fits is = tt
 over_passes limit (Over other) is = tt
 over_passes limit Unfit is = absurd cc

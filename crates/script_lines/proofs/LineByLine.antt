@@ -38,13 +38,13 @@ abbrev pub IsLine : List ℕ → List (List ℕ) → Type 0
 IsLine [] [] = ⊥
 IsLine line more = Unit {0}
 
-lines_step : (counts : Counts) (seen : Seen) (n : ℕ) (line : List ℕ) (more : List (List ℕ)) → IsLine line more →
+pub lines_step : (counts : Counts) (seen : Seen) (n : ℕ) (line : List ℕ) (more : List (List ℕ)) → IsLine line more →
     lines_read counts seen n (line ∷ more) ≡ go_on (text_read counts seen n line) (λ read. ended_by n line more (add_line read (lines_read counts (seen_behind seen read) (n + 1) more)))
 lines_step counts seen n [] [] is = absurd is
 lines_step counts seen n [] (part ∷ parts) is = refl
 lines_step counts seen n (b ∷ line) more is = refl
 
-store_step : (n : ℕ) (line : List ℕ) (more : List (List ℕ)) → IsLine line more →
+pub store_step : (n : ℕ) (line : List ℕ) (more : List (List ℕ)) → IsLine line more →
     store_read n (line ∷ more) ≡ go_on (store_text_read n line) (λ read. ended_by n line more (behind_store read (store_read (n + 1) more) (λ counts. plan_of counts (lines_read counts [] (n + 1) more))))
 store_step n [] [] is = absurd is
 store_step n [] (part ∷ parts) is = refl

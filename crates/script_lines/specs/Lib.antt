@@ -8,3 +8,4 @@ pub mod Clients
 pub mod Reading
 pub mod GivesPlan
 pub mod LineForms
+pub mod Spelling
