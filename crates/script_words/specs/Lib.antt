@@ -1,1 +1,5 @@
 pub mod WordText
+pub mod LimitText
+pub mod Splitting
+pub mod WordForm
+pub mod WordList

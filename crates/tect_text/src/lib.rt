@@ -6,5 +6,9 @@ mod dump;
 mod ids;
 mod report;
 
+#[cfg(test)]
+mod tests;
+
 pub use report::{write_answer, write_dump};
-pub use script_lines::write_line;
+pub use script_lines::{ScriptFault, read_script, write_line};
+pub use script_words::Limit;

@@ -1,0 +1,10 @@
+pub mod FormReads
+pub mod FormLaws
+pub mod WordLaws
+pub mod VerbLaws
+pub mod CommandLaws
+pub mod ActLaws
+pub mod GrammarLaws
+pub mod Visible
+pub mod ScriptLaws
+pub mod LineByLine

@@ -1,0 +1,105 @@
+ghost use Rattle.std.specs.Prelude.{◌≡◌, ◌+◌, ◌<◌, ◌≤◌, not, is_some, false, ◌++◌, ◌∷◌, [], take, IfOk, OnOk, length};
+ghost use Rattle.std.specs.Map.{lookup, keys_of};
+ghost use Rattle.indexmap.specs.IndexMap.{insert_entry, index_map_len};
+ghost use Rattle.script_lines.specs.Clients.{same_name, state_of as client_state, takes_word as takes, state_after as after, client_number, is_one_too_many as one_too_many, goes_on as going};
+
+use crate::verbs::is;
+use indexmap::IndexMap;
+use std::alloc::Global;
+use tect_ids::{Act, Items, Name, NoMemory};
+
+/// What the lines of a script so far leave a client at.
+#[derive(Clone, Copy, Debug, PartialEq, Eq)]
+pub enum ClientState {
+    /// It may begin a command.
+    Idle,
+    /// Its command may go on.
+    Busy,
+    /// It was stopped.
+    Gone,
+}
+
+/// The clients in first-seen order.
+pub type Clients = IndexMap<Name, ClientState>;
+
+/// The state of a client.
+pub fn state_of(clients: &Clients, name: &Name) -> ClientState
+    ensures { result ≡ client_state clients.now.entries name.now }
+{
+    match clients.get(name) {
+        Some(state) => *state,
+        None => ClientState::Idle,
+    }
+}
+
+fn goes_on(word: &[u8]) -> bool
+    ensures { result ≡ going word.now }
+{
+    is(word, "step") || is(word, "run") || is(word, "stop")
+}
+
+/// Whether a client in that state may have that word behind its name.
+pub fn takes_word(state: ClientState, word: &[u8]) -> bool
+    ensures { result ≡ takes state word.now }
+{
+    match state {
+        ClientState::Idle => !goes_on(word),
+        ClientState::Busy => goes_on(word),
+        ClientState::Gone => false,
+    }
+}
+
+/// The state in which an act leaves its client.
+pub fn state_after(act: &Act) -> ClientState
+    ensures { result ≡ after act.now }
+{
+    match act {
+        Act::Do(_) => ClientState::Idle,
+        Act::Begin(_) => ClientState::Busy,
+        Act::Step(_) => ClientState::Busy,
+        Act::Run => ClientState::Idle,
+        Act::Stop => ClientState::Gone,
+    }
+}
+
+/// Whether the client is not seen yet, behind 64 others.
+pub fn is_one_too_many(clients: &Clients, name: &Name) -> bool
+    ensures { result ≡ one_too_many clients.now.entries name.now }
+{
+    clients.len() >= 64 && clients.get(name).is_none()
+}
+
+fn name_at(alloc: Global, clients: &Clients, at: usize) -> Result<Name, NoMemory>
+    requires { at < length clients.now.entries }
+    ensures { IfOk result (λ name. keys_of (take (at + 1) clients.now.entries) ≡ keys_of (take at clients.now.entries) ++ name ∷ []) }
+{
+    // There is a client at each index below their count.
+    match clients.get_index(at) {
+        Some((name, _)) => name.copy(alloc),
+        None => Err(NoMemory),
+    }
+}
+
+/// The names of the clients, in their order.
+pub fn names_of(alloc: Global, clients: &Clients) -> Result<Items<Name>, NoMemory>
+    ensures { IfOk result (λ names. names ≡ keys_of clients.now.entries) }
+{
+    let mut names = Items::new(alloc);
+    'clients: for at in 0..clients.len() {
+        let name = name_at(alloc, clients, at)?;
+        names.push(name)?;
+    }
+    Ok(names)
+}
+
+/// Notes the state of a client, and answers its number, from 1.
+pub fn note(clients: &mut Clients, name: Name, state: ClientState) -> Result<u32, NoMemory>
+    requires few { length clients.old.entries ≤ 64 }
+    requires room { one_too_many clients.old.entries name ≡ false }
+    ensures few { OnOk result (length clients.new.entries ≤ 64) }
+    ensures number { IfOk result (λ number. number ≡ client_number clients.old.entries name) }
+    ensures noted { OnOk result (clients.new.entries ≡ insert_entry same_name clients.old.entries name state) }
+{
+    let (index, _) = clients.insert_full(name, state)?;
+    Ok(index as u32 + 1)
+}
