@@ -1,6 +1,6 @@
 -- a request to a shard that has its directory is answered and done as on the whole, and leaves the other shards
-use Rattle.std.proofs.Common.{◌≡◌, Bool, true, false, Option, Some, None, if◌then◌else◌, refl, sym, ap, ◌∙◌, arith}
-use Rattle.std.specs.FinMap.{FinMap, get, same_map}
+use Rattle.std.proofs.Common.{◌≡◌, Bool, true, false, Option, Some, None, if◌then◌else◌, refl, arith}
+use Rattle.std.specs.FinMap.{get, same_map}
 use Rattle.tect_ids.specs.declared.ids.DirId.{DirId}
 use Rattle.tect_ids.specs.declared.key.Key.{Key}
 use Rattle.tect_ids.specs.declared.values.Over.{Over}
@@ -12,7 +12,7 @@ use Rattle.store_rules.specs.declared.names.Directory.{Directory}
 use Rattle.store_rules.specs.declared.names.Entry.{Entry}
 use Rattle.store_rules.specs.declared.names.NameReq.{NameReq}
 use Rattle.store_rules.specs.declared.names.NameReq.TheVariants as req
-use Rattle.store_rules.specs.Names.{Names, key_in, set_dir, set_entry, bind_over, dir_with_hold, name_answer, name_change, name_step}
+use Rattle.store_rules.specs.Names.{Names, key_in, set_dir, set_entry, bind_over, name_answer, name_change, name_step}
 use Rattle.store_rules.specs.Outcomes.{changes}
 use Rattle.store_rules.specs.Places.{dir_of}
 use Rattle.store_shards.specs.Shards.{KeepsNames}
