@@ -39,7 +39,10 @@ impl FileShard {
         }
     }
 
-    /// Answers the request, and makes the change where the request is not refused.
+    /// Answers the request by its rule, and makes the rule's change where it is not refused.
+    ///
+    /// A refusal is an answer like others, and changes nothing. Nor does want of memory, which may come at any request but
+    /// `Release`: that takes none. Files are found in logarithmic time.
     pub fn step(&mut self, req: &FileReq) -> Result<FileReply, NoMemory>
         ensures answers { IfOk result (λ x. x ≡ reply (file_answer self.old req.now)) }
         ensures steps { OnOk result (self.new ≡ file_step self.old req.now) }

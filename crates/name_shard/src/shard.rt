@@ -9,7 +9,8 @@ use std::marker::Model;
 use store_rules::{Directory, Entry, NameReply, NameReq};
 use tect_ids::{DirId, HoldList, NoMemory, ROOT};
 
-/// A shard of the Name layer: some of the directories, with all entries of each.
+/// A shard of the Name layer: some of the directories, each with all of its entries. No directory comes to have more than
+/// 65,536 of them.
 #[derive(Drop)]
 pub struct NameShard {
     pub(crate) alloc: Global,
@@ -54,7 +55,11 @@ impl NameShard {
         })
     }
 
-    /// Answers the request, and makes the change where the request is not refused.
+    /// Answers the request by its rule, and makes the rule's change where it is not refused.
+    ///
+    /// A refusal is an answer like others, and changes nothing. Nor does want of memory, which may come at any request but
+    /// `CheckDir`, `Look`, `Unbind` and `Release`: these take none. Names are found in logarithmic time, and only `List`
+    /// goes over a directory's entries, those of its own directory alone.
     pub fn step(&mut self, req: &NameReq) -> Result<NameReply, NoMemory>
         ensures answers { IfOk result (λ x. x ≡ reply (name_answer self.old req.now)) }
         ensures steps { OnOk result (self.new ≡ name_step self.old req.now) }

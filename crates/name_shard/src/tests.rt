@@ -1,16 +1,18 @@
 use crate::NameShard;
 use std::alloc::Global;
+use std::process::Abort;
 use std::test::Fail;
-use store_rules::{NameReply, NameReq, Replaced};
+use store_rules::{NameReply, NameReq};
 use tect_ids::{
-    BadName, DirId, DirState, DumpLine, FileId, Hold, Key, Name, Node, OpId, Over, ROOT, Want,
+    BadName, DirId, DirState, DumpLine, FileId, Hold, Items, Key, Listed, Name, Node, OpId, Over,
+    ROOT, Want,
 };
 
-const HOME: DirId = DirId(4_294_967_297);
+const HOME: DirId = DirId(20);
 
-const NOTES: Node = Node::File(FileId(4_294_967_298));
+const NOTES: Node = Node::File(FileId(31));
 
-const TASKS: Node = Node::File(FileId(4_294_967_299));
+const TASKS: Node = Node::File(FileId(32));
 
 fn hold(part: u32) -> Hold {
     Hold {
@@ -38,13 +40,13 @@ fn make_home(alloc: Global) -> Result<NameReq, BadName> {
     })
 }
 
-fn bind(alloc: Global, name: &[u8], node: Node, part: u32, over: Over) -> Result<NameReq, BadName> {
-    Ok(NameReq::Bind {
-        key: key(alloc, HOME, name)?,
+fn bind(key: Key, node: Node, part: u32, over: Over) -> NameReq {
+    NameReq::Bind {
+        key,
         node,
         hold: hold(part),
         over,
-    })
+    }
 }
 
 fn look(alloc: Global, name: &[u8]) -> Result<NameReq, BadName> {
@@ -63,91 +65,115 @@ fn swap(alloc: Global, from: &[u8], to: &[u8], node: Node) -> Result<NameReq, Ba
     })
 }
 
-/// A shard with the directory `HOME` alone.
+/// A shard with the directory `HOME` alone, which names `NOTES` `a` by hold 1.
 fn home(alloc: Global) -> Result<NameShard, Fail> {
     let mut shard = NameShard::new(alloc, false)?;
     shard.step(&make_home(alloc)?)?;
+    shard.step(&bind(key(alloc, HOME, b"a")?, NOTES, 1, Over::Absent))?;
     Ok(shard)
+}
+
+/// What is told beforehand is answered, and is the text.
+fn told(
+    rt: &impl Abort,
+    alloc: Global,
+    shard: &mut NameShard,
+    req: NameReq,
+    text: &str,
+) -> Result<(), Fail> {
+    let before = shard.reply(&req)?;
+    let before = format!(in alloc; "{before:?}")?;
+    assert_eq!(rt; before.as_str(), text);
+    let answer = shard.step(&req)?;
+    let answer = format!(in alloc; "{answer:?}")?;
+    assert_eq!(rt; answer.as_str(), text);
+    Ok(())
 }
 
 #[test]
 fn a_shard_begins_with_the_root_or_with_nothing(rt: HostRuntime) -> Result<(), Fail> {
-    let mut with = NameShard::new(rt.alloc(), true)?;
-    let mut without = NameShard::new(rt.alloc(), false)?;
-    let check = NameReq::CheckDir { dir: ROOT };
-    assert!(rt;
-        matches!(
-            with.step(&check)?,
-            NameReply::DirIs {
-                parent: DirId(0),
-                sealed: false
-            }
-        )
-    );
-    assert!(rt; matches!(without.step(&check)?, NameReply::NoDir));
-    Ok(())
+    let alloc = rt.alloc();
+    let check = || NameReq::CheckDir { dir: ROOT };
+    let mut with = NameShard::new(alloc, true)?;
+    told(
+        &rt,
+        alloc,
+        &mut with,
+        check(),
+        "DirIs { parent: DirId(0), sealed: false }",
+    )?;
+    let mut without = NameShard::new(alloc, false)?;
+    told(&rt, alloc, &mut without, check(), "NoDir")
 }
 
 #[test]
-fn a_name_is_bound_looked_up_replaced_and_unbound(rt: HostRuntime) -> Result<(), Fail> {
+fn a_name_is_bound_over_a_file(rt: HostRuntime) -> Result<(), Fail> {
     let alloc = rt.alloc();
     let mut shard = home(alloc)?;
-    assert!(rt; matches!(shard.step(&make_home(alloc)?)?, NameReply::HasId));
-    let notes = bind(alloc, b"a", NOTES, 1, Over::Absent)?;
-    assert!(rt; matches!(shard.reply(&notes)?, NameReply::Bound { old: None }));
-    assert!(rt; matches!(shard.step(&look(alloc, b"a")?)?, NameReply::NoName));
-    assert!(rt; matches!(shard.step(&notes)?, NameReply::Bound { old: None }));
-    assert!(rt;
-        matches!(
-            shard.step(&look(alloc, b"a")?)?,
-            NameReply::Found { node: NOTES }
-        )
-    );
-    assert!(rt; matches!(shard.step(&notes)?, NameReply::Exists));
-    let old = Some(Replaced {
-        file: FileId(4_294_967_298),
-        hold: hold(1),
-    });
-    let tasks = bind(alloc, b"a", TASKS, 2, Over::File)?;
-    assert!(rt; matches!(shard.step(&tasks)?, NameReply::Bound { old: was } if was == old));
-    let unbind = NameReq::Unbind {
-        key: key(alloc, HOME, b"a")?,
-        want: Want::Exactly(TASKS),
+    told(&rt, alloc, &mut shard, make_home(alloc)?, "HasId")?;
+    told(&rt, alloc, &mut shard, look(alloc, b"b")?, "NoName")?;
+    let absent = bind(key(alloc, HOME, b"a")?, TASKS, 2, Over::Absent);
+    told(&rt, alloc, &mut shard, absent, "Exists")?;
+    let over = bind(key(alloc, HOME, b"a")?, TASKS, 2, Over::File);
+    let old =
+        "Bound { old: Some(Replaced { file: FileId(31), hold: Hold { op: OpId { actor: 1, number: 1 }, part: 1 } }) }";
+    told(&rt, alloc, &mut shard, over, old)?;
+    told(
+        &rt,
+        alloc,
+        &mut shard,
+        look(alloc, b"a")?,
+        "Found { node: File(FileId(32)) }",
+    )
+}
+
+#[test]
+fn a_name_is_unbound_from_the_node_that_it_has(rt: HostRuntime) -> Result<(), Fail> {
+    let alloc = rt.alloc();
+    let mut shard = home(alloc)?;
+    let unbind = |key, node| NameReq::Unbind {
+        key,
+        want: Want::Exactly(node),
     };
-    assert!(rt;
-        matches!(shard.step(&unbind)?, NameReply::Unbound { node: TASKS, hold: was } if was == hold(2))
-    );
-    assert!(rt; matches!(shard.step(&unbind)?, NameReply::Changed { now: None }));
-    Ok(())
+    let other = unbind(key(alloc, HOME, b"a")?, TASKS);
+    told(
+        &rt,
+        alloc,
+        &mut shard,
+        other,
+        "Changed { now: Some(File(FileId(31))) }",
+    )?;
+    let own = unbind(key(alloc, HOME, b"a")?, NOTES);
+    let gone =
+        "Unbound { node: File(FileId(31)), hold: Hold { op: OpId { actor: 1, number: 1 }, part: 1 } }";
+    told(&rt, alloc, &mut shard, own, gone)?;
+    let again = unbind(key(alloc, HOME, b"a")?, NOTES);
+    told(&rt, alloc, &mut shard, again, "Changed { now: None }")
 }
 
 #[test]
-fn a_name_is_swapped_over_a_file(rt: HostRuntime) -> Result<(), Fail> {
+fn a_name_is_swapped_for_another(rt: HostRuntime) -> Result<(), Fail> {
     let alloc = rt.alloc();
     let mut shard = home(alloc)?;
-    shard.step(&bind(alloc, b"a", NOTES, 1, Over::Absent)?)?;
-    shard.step(&bind(alloc, b"b", TASKS, 2, Over::Absent)?)?;
-    assert!(rt;
-        matches!(
-            shard.step(&swap(alloc, b"a", b"b", TASKS)?)?,
-            NameReply::Changed { now: Some(NOTES) }
-        )
-    );
-    let old = Some(Replaced {
-        file: FileId(4_294_967_299),
-        hold: hold(2),
-    });
-    assert!(rt;
-        matches!(shard.step(&swap(alloc, b"a", b"b", NOTES)?)?, NameReply::Swapped { hold: was, old: over } if was == hold(1) && over == old)
-    );
-    assert!(rt; matches!(shard.step(&look(alloc, b"a")?)?, NameReply::NoName));
-    assert!(rt;
-        matches!(
-            shard.step(&look(alloc, b"b")?)?,
-            NameReply::Found { node: NOTES }
-        )
-    );
-    Ok(())
+    let wrong = swap(alloc, b"a", b"b", TASKS)?;
+    told(
+        &rt,
+        alloc,
+        &mut shard,
+        wrong,
+        "Changed { now: Some(File(FileId(31))) }",
+    )?;
+    let right = swap(alloc, b"a", b"b", NOTES)?;
+    let done = "Swapped { hold: Hold { op: OpId { actor: 1, number: 1 }, part: 1 }, old: None }";
+    told(&rt, alloc, &mut shard, right, done)?;
+    told(&rt, alloc, &mut shard, look(alloc, b"a")?, "NoName")?;
+    told(
+        &rt,
+        alloc,
+        &mut shard,
+        look(alloc, b"b")?,
+        "Found { node: File(FileId(31)) }",
+    )
 }
 
 #[test]
@@ -156,18 +182,37 @@ fn holds_are_granted_and_released(rt: HostRuntime) -> Result<(), Fail> {
     let mut shard = home(alloc)?;
     let grant = NameReq::Grant {
         dir: HOME,
-        hold: hold(1),
+        hold: hold(5),
         key: key(alloc, ROOT, b"house")?,
     };
-    assert!(rt; matches!(shard.step(&grant)?, NameReply::Granted));
-    let release = NameReq::Release {
+    told(&rt, alloc, &mut shard, grant, "Granted")?;
+    let release = || NameReq::Release {
         dir: HOME,
-        hold: hold(1),
+        hold: hold(5),
     };
-    assert!(rt; matches!(shard.reply(&release)?, NameReply::Released { was: true }));
-    assert!(rt; matches!(shard.step(&release)?, NameReply::Released { was: true }));
-    assert!(rt; matches!(shard.step(&release)?, NameReply::Released { was: false }));
-    Ok(())
+    told(&rt, alloc, &mut shard, release(), "Released { was: true }")?;
+    told(&rt, alloc, &mut shard, release(), "Released { was: false }")
+}
+
+fn dir_line(line: &DumpLine) -> Option<(DirId, DirId, DirState, u32, u32)> {
+    match line {
+        DumpLine::Dir {
+            dir,
+            parent,
+            state,
+            entries,
+            holds,
+            ..
+        } => Some((*dir, *parent, *state, *entries, *holds)),
+        _ => None,
+    }
+}
+
+fn entry_line(line: &DumpLine) -> Option<(DirId, Node)> {
+    match line {
+        DumpLine::Entry { key, node, .. } => Some((key.dir, *node)),
+        _ => None,
+    }
 }
 
 #[test]
@@ -175,42 +220,14 @@ fn a_dump_shows_each_directory_before_its_entries(rt: HostRuntime) -> Result<(),
     let alloc = rt.alloc();
     let mut shard = NameShard::new(alloc, true)?;
     shard.step(&make_home(alloc)?)?;
-    shard.step(&bind(alloc, b"b", TASKS, 2, Over::Absent)?)?;
-    shard.step(&bind(alloc, b"a", NOTES, 1, Over::Absent)?)?;
+    shard.step(&bind(key(alloc, HOME, b"b")?, TASKS, 2, Over::Absent))?;
+    shard.step(&bind(key(alloc, HOME, b"a")?, NOTES, 1, Over::Absent))?;
     let lines = shard.dump()?;
-    assert!(rt;
-        matches!(
-            lines.as_slice(),
-            [
-                DumpLine::Dir {
-                    dir: ROOT,
-                    parent: DirId(0),
-                    state: DirState::Open,
-                    entries: 0,
-                    holds: 0,
-                    moving: None
-                },
-                DumpLine::Dir {
-                    dir: HOME,
-                    parent: ROOT,
-                    state: DirState::Open,
-                    entries: 2,
-                    holds: 1,
-                    moving: None
-                },
-                DumpLine::Entry {
-                    node: NOTES,
-                    pin: None,
-                    ..
-                },
-                DumpLine::Entry {
-                    node: TASKS,
-                    pin: None,
-                    ..
-                },
-            ]
-        )
-    );
+    assert_eq!(rt; lines.len(), 4);
+    assert!(rt; dir_line(&lines[0]) == Some((ROOT, DirId(0), DirState::Open, 0, 0)));
+    assert!(rt; dir_line(&lines[1]) == Some((HOME, ROOT, DirState::Open, 2, 1)));
+    assert!(rt; entry_line(&lines[2]) == Some((HOME, NOTES)));
+    assert!(rt; entry_line(&lines[3]) == Some((HOME, TASKS)));
     Ok(())
 }
 
@@ -218,29 +235,31 @@ fn digits(number: u32) -> [u8; 4] {
     [1000, 100, 10, 1].map(|power| b'0' + (number / power % 10) as u8)
 }
 
-#[test]
-fn a_listing_has_the_entries_of_one_directory_in_order(rt: HostRuntime) -> Result<(), Fail> {
-    let alloc = rt.alloc();
+/// A shard in whose root and in whose `HOME` the names of four digits were bound in scattered order.
+fn crowded(alloc: Global) -> Result<NameShard, Fail> {
     let mut shard = NameShard::new(alloc, true)?;
     shard.step(&make_home(alloc)?)?;
-    for i in 0..1000u32 {
-        let number = i * 379 % 1000;
-        shard.step(&bind(alloc, &digits(number), NOTES, number, Over::Absent)?)?;
-        shard.step(&NameReq::Bind {
-            key: key(alloc, ROOT, &digits(number))?,
-            node: TASKS,
-            hold: hold(0),
-            over: Over::Absent,
-        })?;
+    for i in 0..10_000u32 {
+        let name = digits(i * 379 % 10_000);
+        shard.step(&bind(key(alloc, HOME, &name)?, NOTES, i, Over::Absent))?;
+        shard.step(&bind(key(alloc, ROOT, &name)?, TASKS, i, Over::Absent))?;
     }
-    let NameReply::Listing {
-        sealed: false,
-        items,
-    } = shard.step(&NameReq::List { dir: HOME })?
-    else {
-        panic!(rt; "no listing");
-    };
-    assert_eq!(rt; items.len(), 1000);
+    Ok(shard)
+}
+
+fn listed(reply: NameReply) -> Option<Items<Listed>> {
+    match reply {
+        NameReply::Listing { items, .. } => Some(items),
+        _ => None,
+    }
+}
+
+#[test]
+fn a_listing_has_the_entries_of_one_directory_in_order(rt: HostRuntime) -> Result<(), Fail> {
+    let mut shard = crowded(rt.alloc())?;
+    let reply = shard.step(&NameReq::List { dir: HOME })?;
+    let items = listed(reply).ok_or("no listing")?;
+    assert_eq!(rt; items.len(), 10_000);
     let mut next = 0u32;
     for item in items.as_slice() {
         assert!(rt; item.node == NOTES);
