@@ -13,7 +13,10 @@ use Rattle.script_words.specs.WordForm.{is_client_name, is_numeral, number_of, n
 use Rattle.script_words.proofs.Apart.{both}
 use Rattle.script_words.proofs.NumberWords.{number_of_text, number_spelled, number_text_form}
 use Rattle.tect_ids.specs.declared.ids.Counts.{Counts}
+use Rattle.tect_ids.specs.declared.command.Command.{Command}
+use Rattle.tect_ids.specs.declared.command.Command.TheVariants as commands
 use Rattle.tect_ids.specs.declared.script.Act.{Act}
+use Rattle.tect_ids.specs.declared.script.Act.TheVariants as acts
 use Rattle.tect_ids.specs.declared.script.Line.{Line}
 use Rattle.tect_ids.specs.declared.script.Line.TheVariants as lines
 use Rattle.script_lines.specs.declared.verbs.WorldVerb.{WorldVerb}
@@ -23,11 +26,11 @@ use Rattle.script_lines.specs.Served.{serves_world}
 use Rattle.script_lines.specs.Verbs.{world_word, served_world}
 use Rattle.script_lines.specs.LineText.{act_words, counts_words, line_words}
 use Rattle.script_lines.specs.Grammar.{fits_if, text_fit, the_disk, the_counts, act_form, world_behind, shards_fit, counts_form, store_form, first_fit, client_form, behind_first, line_form}
-use Rattle.script_lines.specs.LineForms.{IsAct, IsLine, act_limit, line_limit, AreCounts}
+use Rattle.script_lines.specs.LineForms.{IsAct, IsLine, path_limit, block_limit, command_limit, act_limit, line_limit, AreCounts}
 use Rattle.script_lines.proofs.FormLaws.{got_same, one_word, pass_word, fits_pass, TakesOne}
 use Rattle.script_lines.proofs.WordLaws.{unfit_stops, passes_same, if_passes, passes_if, number_word, number_text, number_fit_of_text}
 use Rattle.script_lines.proofs.VerbLaws.{some_is, world_spelled, world_read_word, world_no_client}
-use Rattle.script_lines.proofs.CommandLaws.{one_spelled, index_word, index_passes}
+use Rattle.script_lines.proofs.CommandLaws.{one_spelled, index_word, index_passes, both_pass, names_pass, block_passes}
 use Rattle.script_lines.proofs.ActLaws.{Mapped, mapped_form, form_mapped, alive_then, ActSpelled, act_sound, act_complete, act_alive}
 
 -- the client of a line has the number that the function gives its name
@@ -112,7 +115,7 @@ line_sound limited counts are number ws line rest is =
     let o = one_word limited first_fit (λ w. behind_first counts number w) ws line rest is in
     subst (λ (vs : List (List ℕ)). LineSpelled limited counts number vs rest line) (sym o.split) (behind_sound limited counts are number o.w o.passed o.others line rest o.reads)
 
-client_first : (limited : Bool) (counts : Counts) (number : List ℕ → ℕ) (w : List ℕ) → is_client_name w ≡ true → (ws : List (List ℕ)) → read limited (line_form counts number) (w ∷ ws) ≡ read limited (client_form counts w (number w)) ws
+pub client_first : (limited : Bool) (counts : Counts) (number : List ℕ → ℕ) (w : List ℕ) → is_client_name w ≡ true → (ws : List (List ℕ)) → read limited (line_form counts number) (w ∷ ws) ≡ read limited (client_form counts w (number w)) ws
 client_first limited counts number w named ws =
     pass_word limited first_fit (λ w. behind_first counts number w) w ws (fits_pass limited (first_fit w) (rw named refl))
       ∙ (let e : behind_first counts number w ≡ client_form counts w (number w) = rw named refl in ap (λ (f : Form Line). read limited f ws) e)
@@ -152,6 +155,41 @@ behind_alive limited counts are number w = elim (cases_Bool (is_client_name w)) 
 
 pub line_alive : (limited : Bool) (counts : Counts) → AreCounts counts → (number : List ℕ → ℕ) → IsAlive limited (line_form counts number)
 line_alive limited counts are number = ((codes "a", fits_pass limited Fits refl), λ w p. behind_alive limited counts are number w)
+
+-- a line of the form passes where limits do not count
+loose_command : (counts : Counts) (command : Command) → passes false (command_limit command)
+loose_command counts (commands.Look path) = names_pass 0 path
+loose_command counts (commands.List path) = names_pass 0 path
+loose_command counts (commands.Create path) = names_pass 0 path
+loose_command counts (commands.Mkdir path) = names_pass 0 path
+loose_command counts (commands.Delete path) = names_pass 0 path
+loose_command counts (commands.Rename from to) = both_pass false (path_limit from) (path_limit to) (names_pass 0 from) (names_pass 0 to)
+loose_command counts (commands.Move from to) = both_pass false (path_limit from) (path_limit to) (names_pass 0 from) (names_pass 0 to)
+loose_command counts (commands.Rmdir path) = names_pass 0 path
+loose_command counts (commands.Drop path) = names_pass 0 path
+loose_command counts (commands.Seal path) = names_pass 0 path
+loose_command counts (commands.Open path) = names_pass 0 path
+loose_command counts (commands.Append path bytes) = both_pass false (path_limit path) (block_limit bytes) (names_pass 0 path) (block_passes bytes)
+loose_command counts (commands.Blocks path) = names_pass 0 path
+loose_command counts (commands.Read path) = names_pass 0 path
+loose_command counts (commands.Sweep layer index) = tt
+loose_command counts (commands.Repair disk index) = tt
+loose_command counts commands.SweepAll = tt
+loose_command counts (commands.Lose disk) = tt
+
+loose_act : (counts : Counts) (act : Act) → passes false (act_limit act)
+loose_act counts (acts.Do command) = loose_command counts command
+loose_act counts (acts.Begin command) = loose_command counts command
+loose_act counts (acts.Step count) = tt
+loose_act counts acts.Run = tt
+loose_act counts acts.Stop = tt
+
+pub loose_limit : (counts : Counts) (line : Line) → IsLine counts line → passes false (line_limit line)
+loose_limit counts (lines.Store other) is = tt
+loose_limit counts (lines.Client client actor act) is = loose_act counts act
+loose_limit counts lines.Sweep is = tt
+loose_limit counts (lines.Lose disk) is = tt
+loose_limit counts lines.Dump is = tt
 
 -- ---- the store line
 

@@ -7,4 +7,7 @@ pub mod ActLaws
 pub mod GrammarLaws
 pub mod Visible
 pub mod ScriptLaws
+pub mod PlanLaws
+pub mod HonestLaws
+pub mod WrongLaws
 pub mod LineByLine

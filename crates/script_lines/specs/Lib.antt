@@ -9,3 +9,4 @@ pub mod Reading
 pub mod GivesPlan
 pub mod LineForms
 pub mod Spelling
+pub mod FirstWrong
