@@ -10,4 +10,5 @@ pub mod ScriptLaws
 pub mod PlanLaws
 pub mod HonestLaws
 pub mod WrongLaws
+pub mod FaultLaws
 pub mod LineByLine

@@ -86,7 +86,7 @@ abbrev pub IsStore : List ℕ → Option Counts → Type 0
 IsStore text None = is_comment text ≡ true
 IsStore text (Some counts) = (is_comment text ≡ false) × AreCounts counts × (text ≡ line_text (lines.Store counts))
 
-store_by : (n : ℕ) (text : List ℕ) (found : Option Counts) → (if is_comment text then Ok None else go_on (at_line n text (ended (read true store_form (parts 32 text)))) (λ counts. Ok (Some counts))) ≡ Ok found → IsStore text found
+pub store_by : (n : ℕ) (text : List ℕ) (found : Option Counts) → (if is_comment text then Ok None else go_on (at_line n text (ended (read true store_form (parts 32 text)))) (λ counts. Ok (Some counts))) ≡ Ok found → IsStore text found
 store_by n text found is = elim (cases_Bool (is_comment text)) [
   | inl hit ↦ subst (λ (r : Option Counts). IsStore text r) (right_same None found (rw hit at is)) hit
   | inr miss ↦

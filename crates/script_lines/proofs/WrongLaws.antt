@@ -122,3 +122,71 @@ module _ (counts : Counts) (are : AreCounts counts) (number : List ℕ → ℕ) 
   ended_large ws limit rest (Wrong others) e is = wrong_large limit others rest is
   ended_large ws limit rest (Large other others) e is =
       large_of ws limit rest (e ∙ is)
+
+-- ---- with the clients' states
+
+of_client_ended : (client : List ℕ) (actor : ℕ) (o : Outcome Act) → of_client client actor (ended o) ≡ ended (map_outcome (λ act. lines.Client client actor act) o)
+of_client_ended client actor (Got act []) = refl
+of_client_ended client actor (Got act (w ∷ others)) = refl
+of_client_ended client actor (Wrong ws) = refl
+of_client_ended client actor (Large limit ws) = refl
+
+-- a client in order is read by the form of lines
+client_as_form : (counts : Counts) (seen : Seen) (client : List ℕ) (words : List (List ℕ)) → is_client_name client ≡ true → out_of_state seen client words ≡ false → is_one_too_many seen client ≡ false →
+    line_read counts seen (client ∷ words) ≡ ended (read true (line_form counts (λ name. client_number seen name)) (client ∷ words))
+client_as_form counts seen client words named fits few =
+    let first = client_first true counts (λ name. client_number seen name) client named words in
+    let e : line_read counts seen (client ∷ words) ≡ of_client client (client_number seen client) (ended (read true (act_form counts) words)) = rw (named, fits, few) refl in
+    e ∙ of_client_ended client (client_number seen client) (read true (act_form counts) words)
+      ∙ ap (λ (o : Outcome Line). ended o) (sym (read-map (λ act. lines.Client client (client_number seen client) act) true (act_form counts) words) ∙ sym first)
+
+world_as_form : (counts : Counts) (seen : Seen) (first : List ℕ) (words : List (List ℕ)) (o : Option WorldVerb) → is_client_name first ≡ false → served_world first ≡ o →
+    world_read counts o first words ≡ ended (read true (line_form counts (λ name. client_number seen name)) (first ∷ words))
+world_as_form counts seen first words None miss none =
+    let fit : first_fit first ≡ Unfit = rw (miss, none) refl in
+    sym (ap (λ (o : Outcome Line). ended o) (unfit_read fit))
+  where
+    unfit_read : first_fit first ≡ Unfit → read true (line_form counts (λ name. client_number seen name)) (first ∷ words) ≡ Wrong (first ∷ words)
+    unfit_read fit = rw fit refl
+world_as_form counts seen first words (Some verb) miss some =
+    let s = world_spelled first verb some in
+    ap (λ (o : Outcome Line). ended o) (sym (ap (λ (f : List ℕ). read true (line_form counts (λ name. client_number seen name)) (f ∷ words)) s.0 ∙ world_first true counts (λ name. client_number seen name) verb s.1 words))
+
+as_form : (counts : Counts) (seen : Seen) (first : List ℕ) (words : List (List ℕ)) → IsInState seen (first ∷ words) → line_read counts seen (first ∷ words) ≡ ended (read true (line_form counts (λ name. client_number seen name)) (first ∷ words))
+as_form counts seen first words in_state = elim (cases_Bool (is_client_name first)) [
+  | inl hit ↦ (let order = in_state hit in client_as_form counts seen first words hit order.0 order.1)
+  | inr miss ↦ (let e : line_read counts seen (first ∷ words) ≡ world_read counts (served_world first) first words = rw miss refl in e ∙ world_as_form counts seen first words (served_world first) miss refl)
+]
+
+no_client : (seen : Seen) (first : List ℕ) (words : List (List ℕ)) → is_client_name first ≡ false → IsInState seen (first ∷ words)
+no_client seen first words miss = λ hit. absurd (let h : false ≡ true = sym miss ∙ hit in cc)
+
+pub line_wrong : (counts : Counts) → AreCounts counts → (seen : Seen) (first : List ℕ) (words rest : List (List ℕ)) → line_read counts seen (first ∷ words) ≡ Wrong rest → IsWrongLine counts seen (first ∷ words) rest
+line_wrong counts are seen first words rest is = elim (cases_Bool (is_client_name first)) [
+  | inr miss ↦ inr (no_client seen first words miss, by_form (no_client seen first words miss))
+  | inl hit ↦ elim (cases_Bool (out_of_state seen first words)) [
+    | inl out ↦ inl ((hit, out), sym (wrong_same (first ∷ words) rest (rw (hit, out) at is)))
+    | inr fits ↦ elim (cases_Bool (is_one_too_many seen first)) [
+      | inl many ↦ wrong_large limits.Clients rest (first ∷ words) (sym (rw (hit, fits, many) at is))
+      | inr few ↦ inr ((λ named. (fits, few)), by_form (λ named. (fits, few)))
+    ]
+  ]
+]
+  where
+    by_form : IsInState seen (first ∷ words) → IsWrongWords counts (first ∷ words) rest
+    by_form in_state = ended_wrong counts are (λ name. client_number seen name) (first ∷ words) rest (read true (line_form counts (λ name. client_number seen name)) (first ∷ words)) refl (sym (as_form counts seen first words in_state) ∙ is)
+
+pub line_large : (counts : Counts) → AreCounts counts → (seen : Seen) (first : List ℕ) (words : List (List ℕ)) (limit : Limit) (rest : List (List ℕ)) → line_read counts seen (first ∷ words) ≡ Large limit rest → IsLargeLine counts seen (first ∷ words) limit rest
+line_large counts are seen first words limit rest is = elim (cases_Bool (is_client_name first)) [
+  | inr miss ↦ inr (no_client seen first words miss, by_form (no_client seen first words miss))
+  | inl hit ↦ elim (cases_Bool (out_of_state seen first words)) [
+    | inl out ↦ wrong_large limit (first ∷ words) rest (rw (hit, out) at is)
+    | inr fits ↦ elim (cases_Bool (is_one_too_many seen first)) [
+      | inl many ↦ inl ((hit, fits, many), sym (large_same limits.Clients limit (first ∷ words) rest (rw (hit, fits, many) at is)).0)
+      | inr few ↦ inr ((λ named. (fits, few)), by_form (λ named. (fits, few)))
+    ]
+  ]
+]
+  where
+    by_form : IsInState seen (first ∷ words) → IsLargeWords counts (first ∷ words) limit rest
+    by_form in_state = ended_large counts are (λ name. client_number seen name) (first ∷ words) limit rest (read true (line_form counts (λ name. client_number seen name)) (first ∷ words)) refl (sym (as_form counts seen first words in_state) ∙ is)

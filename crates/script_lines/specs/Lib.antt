@@ -10,3 +10,4 @@ pub mod GivesPlan
 pub mod LineForms
 pub mod Spelling
 pub mod FirstWrong
+pub mod FirstFault
