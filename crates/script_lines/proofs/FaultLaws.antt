@@ -102,7 +102,9 @@ behind_wrong : (counts : Counts) (seen : Seen) (n : ℕ) (text : List ℕ) (more
 behind_wrong counts seen n text more fault None short told m =
     let at : n + 1 + length m.before ≡ n + length (text ∷ m.before) = omega arith in
     record {
-      before = text ∷ m.before; text = m.text; others = m.others;
+      before = text ∷ m.before;
+      text = m.text;
+      others = m.others;
       whole = ap (λ (ps : List (List ℕ)). text ∷ ps) m.whole;
       short = (short, m.short);
       ls = m.ls;
@@ -113,7 +115,9 @@ behind_wrong counts seen n text more fault None short told m =
 behind_wrong counts seen n text more fault (Some line) short told m =
     let at : n + 1 + length m.before ≡ n + length (text ∷ m.before) = omega arith in
     record {
-      before = text ∷ m.before; text = m.text; others = m.others;
+      before = text ∷ m.before;
+      text = m.text;
+      others = m.others;
       whole = ap (λ (ps : List (List ℕ)). text ∷ ps) m.whole;
       short = (short, m.short);
       ls = line ∷ m.ls;
@@ -139,6 +143,7 @@ lines_wrong counts are seen n p (q ∷ qs) fault is = by (go_on_wrong (text_read
     text_before : (p : List ℕ) → IsText p (q ∷ qs)
     text_before [] = tt
     text_before (b ∷ p) = tt
+
     by : (text_read counts seen n p ≡ Err fault) ⊎ ((read : Option Line) × (text_read counts seen n p ≡ Ok read) × (HasGone counts seen n p (q ∷ qs) read ≡ Err fault)) → ((after : Seen) → lines_read counts after (n + 1) (q ∷ qs) ≡ Err fault → LinesWrong counts after (n + 1) (q ∷ qs) fault) → LinesWrong counts seen n (p ∷ q ∷ qs) fault
     by (inl e) go = here_wrong counts seen n p (q ∷ qs) fault (measured_wrong n p _ fault _ e (λ h. text_wrong_words counts are seen n p (q ∷ qs) fault h))
     by (inr (read, ok, e)) go =
@@ -156,6 +161,7 @@ store_words_wrong n text others fault is = elim (cases_Bool (is_comment text)) [
     placed : is_comment text ≡ false → ((rest : List (List ℕ)) × (ended (read true store_form (parts 32 text)) ≡ Wrong rest) × (fault ≡ faults.Bad n (column_of text rest))) ⊎ ((limit : Limit) × (rest : List (List ℕ)) × (ended (read true store_form (parts 32 text)) ≡ Large limit rest) × (fault ≡ too_large limit)) → IsStoreFault n text others fault
     placed miss (inl w) = inr (inl (miss, (w.0, w.1, w.2)))
     placed miss (inr l) = inr (inr (miss, (l.0, l.1, l.2, l.3)))
+
     by : is_comment text ≡ false → (at_line n text (ended (read true store_form (parts 32 text))) ≡ Err fault) ⊎ ((counts : Counts) × (at_line n text (ended (read true store_form (parts 32 text))) ≡ Ok counts) × (right (Some counts) ≡ Err fault)) → IsStoreFault n text others fault
     by miss (inl e) = placed miss (at_line_wrong n text (ended (read true store_form (parts 32 text))) fault e)
     by miss (inr (counts, ok, e)) = right_faulty (Some counts) fault e
@@ -169,7 +175,7 @@ abbrev pub IsBehind : ℕ → List (List ℕ) → List ℕ → List (List ℕ) �
 IsBehind n before text others fault =
     ((filter is_told before ≡ []) × (((text ≡ []) × (others ≡ []) × (fault ≡ faults.Bad (n + length before) 1)) ⊎ IsMeasuredFault (n + length before) text fault (IsStoreFault (n + length before) text others fault)))
     ⊎ ((counts : Counts) × (ls : List Line) × (filter is_told before ≡ map line_text (lines.Store counts ∷ ls)) × AreCounts counts × AreLines counts [] ls
-        × IsMeasuredFault (n + length before) text fault (IsTextFault counts (seen_of [] ls) (n + length before) text others fault))
+    × IsMeasuredFault (n + length before) text fault (IsTextFault counts (seen_of [] ls) (n + length before) text others fault))
 
 pub record StoreWrong (n : ℕ) (ps : List (List ℕ)) (fault : ScriptFault) : Type 0 where
   pub before : List (List ℕ)
@@ -206,11 +212,19 @@ found_wrong n t q qs (Some counts) fault short told is later =
     let m = lines_wrong counts told.1 [] (n + 1) q qs fault (plan_wrong counts _ fault is) in
     let at : n + 1 + length m.before ≡ n + length (t ∷ m.before) = omega arith in
     record {
-      before = t ∷ m.before; text = m.text; others = m.others;
+      before = t ∷ m.before;
+      text = m.text;
+      others = m.others;
       whole = ap (λ (ps : List (List ℕ)). t ∷ ps) m.whole;
       short = (short, m.short);
-      fault_is = inr (counts, m.ls, rw told.0 (ap (λ (v : List ℕ). v ∷ filter is_told m.before) told.2 ∙ ap (λ (ts : List (List ℕ)). line_text (lines.Store counts) ∷ ts) m.told), told.1, m.are,
-          subst (λ (k : ℕ). IsMeasuredFault k m.text fault (IsTextFault counts (seen_of [] m.ls) k m.text m.others fault)) at m.fault_is);
+      fault_is = inr (
+        counts,
+        m.ls,
+        rw told.0 (ap (λ (v : List ℕ). v ∷ filter is_told m.before) told.2 ∙ ap (λ (ts : List (List ℕ)). line_text (lines.Store counts) ∷ ts) m.told),
+        told.1,
+        m.are,
+        subst (λ (k : ℕ). IsMeasuredFault k m.text fault (IsTextFault counts (seen_of [] m.ls) k m.text m.others fault)) at m.fault_is,
+      );
     }
 
 abbrev StoreGone : ℕ → List ℕ → List (List ℕ) → Option Counts → Result Plan ScriptFault
@@ -230,6 +244,7 @@ store_wrong_at n p (q ∷ qs) fault is = by (go_on_wrong (store_text_read n p) (
     text_before : (p : List ℕ) → IsText p (q ∷ qs)
     text_before [] = tt
     text_before (b ∷ p) = tt
+
     by : (store_text_read n p ≡ Err fault) ⊎ ((found : Option Counts) × (store_text_read n p ≡ Ok found) × (StoreGone n p (q ∷ qs) found ≡ Err fault)) → (store_read (n + 1) (q ∷ qs) ≡ Err fault → StoreWrong (n + 1) (q ∷ qs) fault) → StoreWrong n (p ∷ q ∷ qs) fault
     by (inl e) go = here_store n p (q ∷ qs) fault (inr (measured_wrong n p _ fault _ e (λ h. store_words_wrong n p (q ∷ qs) fault h)))
     by (inr (found, ok, e)) go =

@@ -11,4 +11,6 @@ pub mod PlanLaws
 pub mod HonestLaws
 pub mod WrongLaws
 pub mod FaultLaws
+pub mod WrittenLaws
+pub mod PublicLaws
 pub mod LineByLine

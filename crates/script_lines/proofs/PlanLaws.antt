@@ -60,7 +60,7 @@ lines_complete counts are seen n [] (l ∷ ls) few short told may = list_none _ 
 lines_complete counts are seen n (t ∷ texts) ls few short told may = elim (cases_Bool (is_comment t)) [
   | inl hit ↦
       step_on counts seen n t texts None (text_told counts are seen n t None (omega arith) short.0 hit)
-        ∙ lines_complete counts are seen (n + 1) texts ls (omega arith) short.1 (rw hit at told) may
+      ∙ lines_complete counts are seen (n + 1) texts ls (omega arith) short.1 (rw hit at told) may
   | inr miss ↦ told_line counts are seen n t texts ls few short miss (rw miss at told) may (λ ls' seen' few' told' may'. lines_complete counts are seen' (n + 1) texts ls' few' short.1 told' may')
 ]
   where
@@ -70,7 +70,7 @@ lines_complete counts are seen n (t ∷ texts) ls few short told may = elim (cas
     told_line counts are seen n t texts (l ∷ ls) few short miss told may go =
         let same = list_cons t (line_text l) (filter is_told texts) (map line_text ls) told in
         step_on counts seen n t texts (Some l) (text_told counts are seen n t (Some l) (omega arith) short.0 (miss, may.0, same.0))
-          ∙ ap (λ r. add_line (Some l) r) (go ls (seen_after seen l) (omega arith) same.1 may.1)
+        ∙ ap (λ r. add_line (Some l) r) (go ls (seen_after seen l) (omega arith) same.1 may.1)
 
 -- ---- the store line
 
@@ -159,12 +159,12 @@ plan_complete n [] plan is few short told = list_none _ _ told
 plan_complete n (t ∷ texts) plan is few short told = elim (cases_Bool (is_comment t)) [
   | inl hit ↦
       store_on n t texts None (store_told n t None (omega arith) short.0 hit)
-        ∙ plan_complete (n + 1) texts plan is (omega arith) short.1 (rw hit at told)
+      ∙ plan_complete (n + 1) texts plan is (omega arith) short.1 (rw hit at told)
   | inr miss ↦
       let same = list_cons t (line_text (lines.Store plan.counts)) (filter is_told texts) (map line_text plan.lines) (rw miss at told) in
       store_on n t texts (Some plan.counts) (store_told n t (Some plan.counts) (omega arith) short.0 (miss, is.counts, same.0))
-        ∙ ap (λ r. plan_of plan.counts r) (lines_complete plan.counts is.counts [] (n + 1) texts plan.lines (omega arith) short.1 same.1 is.lines)
-        ∙ ap (λ (names : List (List ℕ)). Ok (the_plan plan.counts names plan.lines)) (sym is.clients)
+      ∙ ap (λ r. plan_of plan.counts r) (lines_complete plan.counts is.counts [] (n + 1) texts plan.lines (omega arith) short.1 same.1 is.lines)
+      ∙ ap (λ (names : List (List ℕ)). Ok (the_plan plan.counts names plan.lines)) (sym is.clients)
 ]
 
 -- ---- the whole

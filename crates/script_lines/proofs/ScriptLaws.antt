@@ -128,7 +128,7 @@ world_line counts are seen verb served ws line is within plain words =
     let number = λ (name : List ℕ). client_number seen name in
     let all = line_complete true counts are number line is (fits_pass true (line_limit line) within) (plain_number number line plain) [] in
     let from : read true (world_behind counts verb) ws ≡ Got line [] =
-        sym (world_first true counts number verb served ws) ∙ ap (λ (vs : List (List ℕ)). read true (line_form counts number) vs) (sym (append_nil (line_words line) ∙ words)) ∙ all in
+    sym (world_first true counts number verb served ws) ∙ ap (λ (vs : List (List ℕ)). read true (line_form counts number) vs) (sym (append_nil (line_words line) ∙ words)) ∙ all in
     ap (λ (vs : List (List ℕ)). line_read counts seen vs) words ∙ world_line_read counts seen verb served ws line from
   where
     plain_number : (number : List ℕ → ℕ) (line : Line) → IsPlain line → IsNumbered number line
@@ -148,7 +148,7 @@ line_stands counts are seen (lines.Store other) may = absurd may.form
 line_stands counts are seen (lines.Client client actor act) may =
     let is = act_complete true counts are act may.form.1 (fits_pass true (act_limit act) may.within) [] in
     client_line counts seen client act may.form.0 may.in_order.0 may.in_order.1 (ap (λ (vs : List (List ℕ)). read true (act_form counts) vs) (sym (append_nil (act_words act))) ∙ is)
-      ∙ ap (λ (n : ℕ). Got (lines.Client client n act) []) (sym may.in_order.2)
+    ∙ ap (λ (n : ℕ). Got (lines.Client client n act) []) (sym may.in_order.2)
 line_stands counts are seen lines.Sweep may = world_line counts are seen worlds.Sweep may.form _ lines.Sweep may.form refl tt refl
 line_stands counts are seen (lines.Lose disk) may = world_line counts are seen worlds.Lose may.form.0 _ (lines.Lose disk) may.form refl tt refl
 line_stands counts are seen lines.Dump may = world_line counts are seen worlds.Dump may.form [] lines.Dump may.form refl tt refl
@@ -208,6 +208,7 @@ text_told counts are seen n text (Some line) few short told =
     some_words lines.Sweep = (_, _, refl)
     some_words (lines.Lose disk) = (_, _, refl)
     some_words lines.Dump = (_, _, refl)
+
     line_parts : (counts : Counts) → AreCounts counts → (line : Line) → IsLine counts line → parts 32 (line_text line) ≡ line_words line
     line_parts counts are line is =
         let some = some_words line in
@@ -271,7 +272,7 @@ lines_right counts are seen n p (q ∷ qs) ls after is =
     let g = go_on_right (text_read counts seen n p) (λ read. add_line read (lines_read counts (seen_behind seen read) (n + 1) (q ∷ qs))) (outcome ls after) (sym (lines_step counts seen n p (q ∷ qs) (text_before p)) ∙ is) in
     let m = measured_right n p _ g.0 g.1 in
     add_right counts seen n p (q ∷ qs) g.0 (lines_read counts (seen_behind seen g.0) (n + 1) (q ∷ qs)) ls after m.number m.size (told_by counts are seen n p g.0 m.is) g.2
-      (λ vs inner. lines_right counts are (seen_behind seen g.0) (n + 1) q qs vs after inner)
+    (λ vs inner. lines_right counts are (seen_behind seen g.0) (n + 1) q qs vs after inner)
   where
     text_before : (p : List ℕ) → IsText p (q ∷ qs)
     text_before [] = tt

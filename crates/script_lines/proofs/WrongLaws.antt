@@ -54,13 +54,12 @@ number_words number lines.Sweep = refl
 number_words number (lines.Lose disk) = refl
 number_words number lines.Dump = refl
 
-
 module _ (counts : Counts) (are : AreCounts counts) (number : List ℕ → ℕ) where
   -- a line of the form is read where limits do not count
   form_read : (line : Line) → IsLine counts line → (ws : List (List ℕ)) → line_words line ≡ ws → read false (line_form counts number) ws ≡ Got (with_number number line) []
   form_read line is ws text =
       ap (λ (vs : List (List ℕ)). read false (line_form counts number) vs) (sym (append_nil (line_words (with_number number line)) ∙ number_words number line ∙ text))
-        ∙ line_complete false counts are number (with_number number line) (number_form counts number line is) (loose_limit counts (with_number number line) (number_form counts number line is)) (numbered number line) []
+      ∙ line_complete false counts are number (with_number number line) (number_form counts number line is) (loose_limit counts (with_number number line) (number_form counts number line is)) (numbered number line) []
 
   begins_of : (front more : List (List ℕ)) (line : Line) → read true (line_form counts number) (front ++ more) ≡ Got line [] → Begins counts front
   begins_of front more line is =
@@ -138,7 +137,7 @@ client_as_form counts seen client words named fits few =
     let first = client_first true counts (λ name. client_number seen name) client named words in
     let e : line_read counts seen (client ∷ words) ≡ of_client client (client_number seen client) (ended (read true (act_form counts) words)) = rw (named, fits, few) refl in
     e ∙ of_client_ended client (client_number seen client) (read true (act_form counts) words)
-      ∙ ap (λ (o : Outcome Line). ended o) (sym (read-map (λ act. lines.Client client (client_number seen client) act) true (act_form counts) words) ∙ sym first)
+    ∙ ap (λ (o : Outcome Line). ended o) (sym (read-map (λ act. lines.Client client (client_number seen client) act) true (act_form counts) words) ∙ sym first)
 
 world_as_form : (counts : Counts) (seen : Seen) (first : List ℕ) (words : List (List ℕ)) (o : Option WorldVerb) → is_client_name first ≡ false → served_world first ≡ o →
     world_read counts o first words ≡ ended (read true (line_form counts (λ name. client_number seen name)) (first ∷ words))

@@ -50,7 +50,7 @@ abbrev pub IsFaultBehind : List (List ℕ) → List ℕ → List (List ℕ) → 
 IsFaultBehind before text others fault =
     ((filter is_told before ≡ []) × (((text ≡ []) × (others ≡ []) × (fault ≡ faults.Bad (length before + 1) 1)) ⊎ IsMeasuredFault (length before + 1) text fault (IsStoreFault (length before + 1) text others fault)))
     ⊎ ((counts : Counts) × (ls : List Line) × (filter is_told before ≡ map line_text (lines.Store counts ∷ ls)) × AreCounts counts × AreLines counts [] ls
-        × IsMeasuredFault (length before + 1) text fault (IsTextFault counts (seen_of [] ls) (length before + 1) text others fault))
+    × IsMeasuredFault (length before + 1) text fault (IsTextFault counts (seen_of [] ls) (length before + 1) text others fault))
 
 pub record IsFaultAt (bytes : List ℕ) (fault : ScriptFault) : Type 0 where
   pub size : length bytes ≤ 67108864
