@@ -109,31 +109,31 @@ act_word_back a known = ap (λ (o : Option ActWord). unwrap_or o words.Run) (act
 behind_word : (limited : Bool) (counts : Counts) (a : ActWord) → IsKnown a → (ws : List (List ℕ)) → read limited (act_form counts) (act_word_text a ∷ ws) ≡ read limited (act_behind counts a) ws
 behind_word limited counts a known ws =
     pass_word limited act_fit (λ w. act_behind counts (the_act_word w)) (act_word_text a) ws (fits_pass limited _ (act_fit_read a known))
-      ∙ ap (λ (b : ActWord). read limited (act_behind counts b) ws) (act_word_back a known)
+    ∙ ap (λ (b : ActWord). read limited (act_behind counts b) ws) (act_word_back a known)
 
 any_read : (limited : Bool) (counts : Counts) (verb : Verb) → serves verb ≡ true → (ws : List (List ℕ)) → read limited (any_command counts) (verb_word verb ∷ ws) ≡ read limited (command_form counts verb) ws
 any_read limited counts verb served ws =
     let read_verb = served_read verb served in
     pass_word limited verb_fit (λ w. command_form counts (the_verb w)) (verb_word verb) ws (fits_pass limited _ (ap (λ (o : Option Verb). fits_if (is_some o)) read_verb))
-      ∙ ap (λ (v : Verb). read limited (command_form counts v) ws) (ap (λ (o : Option Verb). unwrap_or o (OnPath paths.Look)) read_verb)
+    ∙ ap (λ (v : Verb). read limited (command_form counts v) ws) (ap (λ (o : Option Verb). unwrap_or o (OnPath paths.Look)) read_verb)
 
 pub act_complete : (limited : Bool) (counts : Counts) → AreCounts counts → (act : Act) → IsAct counts act → passes limited (act_limit act) → (rest : List (List ℕ)) → read limited (act_form counts) (act_words act ++ rest) ≡ Got act rest
 act_complete limited counts are (Do command) is p rest =
     let c = command_complete limited counts are command is p in
     ap (λ (ws : List (List ℕ)). read limited (act_form counts) (ws ++ rest)) c.words
-      ∙ behind_word limited counts (words.Do c.verb) c.served (c.args ++ rest)
-      ∙ form_mapped limited (λ command. Do command) (command_form counts c.verb) (c.args ++ rest) rest command (c.reads rest)
+    ∙ behind_word limited counts (words.Do c.verb) c.served (c.args ++ rest)
+    ∙ form_mapped limited (λ command. Do command) (command_form counts c.verb) (c.args ++ rest) rest command (c.reads rest)
 act_complete limited counts are (Begin command) is p rest =
     let c = command_complete limited counts are command is p in
     behind_word limited counts words.Begin tt (command_words command ++ rest)
-      ∙ form_mapped limited (λ command. Begin command) (any_command counts) (command_words command ++ rest) rest command
-          (ap (λ (ws : List (List ℕ)). read limited (any_command counts) (ws ++ rest)) c.words ∙ any_read limited counts c.verb c.served (c.args ++ rest) ∙ c.reads rest)
+    ∙ form_mapped limited (λ command. Begin command) (any_command counts) (command_words command ++ rest) rest command
+    (ap (λ (ws : List (List ℕ)). read limited (any_command counts) (ws ++ rest)) c.words ∙ any_read limited counts c.verb c.served (c.args ++ rest) ∙ c.reads rest)
 act_complete limited counts are (Step count) is p rest =
     let low = is.0 in
     let high = is.1 in
     behind_word limited counts words.Step tt (decimal count ∷ rest)
-      ∙ pass_word limited (number_fit 1 65535) (λ n. done (Step (number_of n))) (decimal count) rest (fits_pass limited _ (number_fit_of_text 1 65535 count (omega arith) is.0 is.1))
-      ∙ ap (λ (n : ℕ). Got (Step n) rest) (number_of_text count (omega arith))
+    ∙ pass_word limited (number_fit 1 65535) (λ n. done (Step (number_of n))) (decimal count) rest (fits_pass limited _ (number_fit_of_text 1 65535 count (omega arith) is.0 is.1))
+    ∙ ap (λ (n : ℕ). Got (Step n) rest) (number_of_text count (omega arith))
 act_complete limited counts are Run is p rest = behind_word limited counts words.Run tt rest
 act_complete limited counts are Stop is p rest = behind_word limited counts words.Stop tt rest
 

@@ -187,7 +187,7 @@ pub record CommandRead (limited : Bool) (counts : Counts) (command : Command) : 
   pub words : command_words command ≡ verb_word verb ∷ args
   pub reads : (rest : List (List ℕ)) → read limited (command_form counts verb) (args ++ rest) ≡ Got command rest
 
-names_pass : (before : ℕ) (names : List (List ℕ)) → passes false (names_fit before names)
+pub names_pass : (before : ℕ) (names : List (List ℕ)) → passes false (names_fit before names)
 names_pass before [] = tt
 names_pass before (name ∷ names) = elim (cases_Bool (nat_le 256 before)) [
   | inl hit ↦ rw hit tt
@@ -197,7 +197,7 @@ names_pass before (name ∷ names) = elim (cases_Bool (nat_le 256 before)) [
   ]
 ]
 
-block_passes : (bytes : List ℕ) → passes false (block_limit bytes)
+pub block_passes : (bytes : List ℕ) → passes false (block_limit bytes)
 block_passes bytes = elim (cases_Bool (nat_lt 32768 (length bytes))) [ inl hit ↦ rw hit tt | inr miss ↦ rw miss tt ]
 
 two_pass : (limited : Bool) (a b : Fit) → passes false b → passes limited (first_limit a b) → passes limited a × passes limited b

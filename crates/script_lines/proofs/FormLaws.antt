@@ -52,6 +52,7 @@ taken_by fit next w ws value rest Fits e is more =
     }
 taken_by fit next w ws value rest (Over limit) e is more = got_large value limit rest (w ∷ ws) (sym is)
 taken_by fit next w ws value rest Unfit e is more = got_wrong value rest (w ∷ ws) (sym is)
+
 pub taken : {A : Type 0} (f : Form A) (ws : List (List ℕ)) (value : A) (rest : List (List ℕ)) → read true f ws ≡ Got value rest → Taken f ws value rest
 taken (done a) ws value rest is =
     let same = got_same a value ws rest is in

@@ -13,7 +13,10 @@ use Rattle.script_words.specs.WordForm.{is_client_name, is_numeral, number_of, n
 use Rattle.script_words.proofs.Apart.{both}
 use Rattle.script_words.proofs.NumberWords.{number_of_text, number_spelled, number_text_form}
 use Rattle.tect_ids.specs.declared.ids.Counts.{Counts}
+use Rattle.tect_ids.specs.declared.command.Command.{Command}
+use Rattle.tect_ids.specs.declared.command.Command.TheVariants as commands
 use Rattle.tect_ids.specs.declared.script.Act.{Act}
+use Rattle.tect_ids.specs.declared.script.Act.TheVariants as acts
 use Rattle.tect_ids.specs.declared.script.Line.{Line}
 use Rattle.tect_ids.specs.declared.script.Line.TheVariants as lines
 use Rattle.script_lines.specs.declared.verbs.WorldVerb.{WorldVerb}
@@ -23,11 +26,11 @@ use Rattle.script_lines.specs.Served.{serves_world}
 use Rattle.script_lines.specs.Verbs.{world_word, served_world}
 use Rattle.script_lines.specs.LineText.{act_words, counts_words, line_words}
 use Rattle.script_lines.specs.Grammar.{fits_if, text_fit, the_disk, the_counts, act_form, world_behind, shards_fit, counts_form, store_form, first_fit, client_form, behind_first, line_form}
-use Rattle.script_lines.specs.LineForms.{IsAct, IsLine, act_limit, line_limit, AreCounts}
+use Rattle.script_lines.specs.LineForms.{IsAct, IsLine, path_limit, block_limit, command_limit, act_limit, line_limit, AreCounts}
 use Rattle.script_lines.proofs.FormLaws.{got_same, one_word, pass_word, fits_pass, TakesOne}
 use Rattle.script_lines.proofs.WordLaws.{unfit_stops, passes_same, if_passes, passes_if, number_word, number_text, number_fit_of_text}
 use Rattle.script_lines.proofs.VerbLaws.{some_is, world_spelled, world_read_word, world_no_client}
-use Rattle.script_lines.proofs.CommandLaws.{one_spelled, index_word, index_passes}
+use Rattle.script_lines.proofs.CommandLaws.{one_spelled, index_word, index_passes, both_pass, names_pass, block_passes}
 use Rattle.script_lines.proofs.ActLaws.{Mapped, mapped_form, form_mapped, alive_then, ActSpelled, act_sound, act_complete, act_alive}
 
 -- the client of a line has the number that the function gives its name
@@ -55,14 +58,20 @@ world_sound limited counts are number worlds.Sweep served ws line rest is =
     let same = got_same lines.Sweep line o.others rest o.reads in
     subst (λ (l : Line). LineSpelled limited counts number (codes "sweep" ∷ ws) rest l) same.0 (record {
       words = ap (λ (r : List (List ℕ)). codes "sweep" ∷ codes "all" ∷ r) (sym same.1) ∙ ap (λ (w : List ℕ). codes "sweep" ∷ w ∷ o.others) (sym (text_passes limited (codes "all") o.w o.passed)) ∙ ap (λ (r : List (List ℕ)). codes "sweep" ∷ r) (sym o.split);
-      form = served; within = fits_pass limited Fits refl; numbered = tt })
+      form = served;
+      within = fits_pass limited Fits refl;
+      numbered = tt;
+    })
 world_sound limited counts are number worlds.Lose served ws line rest is =
     let o = one_word limited (number_fit 0 (counts.disks - 1)) (λ d. done (lines.Lose (the_disk (number_of d)))) ws line rest is in
     let same = got_same (lines.Lose (the_disk (number_of o.w))) line o.others rest o.reads in
     let d = index_word limited counts.disks o.w are.disks o.passed in
     subst (λ (l : Line). LineSpelled limited counts number (codes "lose" ∷ ws) rest l) same.0 (record {
       words = ap (λ (t : List ℕ). codes "lose" ∷ t ∷ rest) d.0 ∙ ap (λ (r : List (List ℕ)). codes "lose" ∷ o.w ∷ r) (sym same.1) ∙ ap (λ (r : List (List ℕ)). codes "lose" ∷ r) (sym o.split);
-      form = (served, d.1); within = fits_pass limited Fits refl; numbered = tt })
+      form = (served, d.1);
+      within = fits_pass limited Fits refl;
+      numbered = tt;
+    })
 world_sound limited counts are number worlds.Dump served ws line rest is =
     let same = got_same lines.Dump line ws rest is in
     subst (λ (l : Line). LineSpelled limited counts number (codes "dump" ∷ ws) rest l) same.0 (record { words = ap (λ (r : List (List ℕ)). codes "dump" ∷ r) (sym same.1); form = served; within = fits_pass limited Fits refl; numbered = tt })
@@ -93,7 +102,11 @@ client_sound limited counts are number client named ws line rest is =
     let m = mapped_form limited (λ act. lines.Client client (number client) act) (act_form counts) ws line rest is in
     let a = act_sound limited counts are ws m.from rest m.was in
     subst (λ (l : Line). LineSpelled limited counts number (client ∷ ws) rest l) m.is (record {
-      words = ap (λ (r : List (List ℕ)). client ∷ r) a.words_are; form = (named, a.form); within = a.within; numbered = refl })
+      words = ap (λ (r : List (List ℕ)). client ∷ r) a.words_are;
+      form = (named, a.form);
+      within = a.within;
+      numbered = refl;
+    })
 
 first_world : (limited : Bool) (w : List ℕ) → is_client_name w ≡ false → passes limited (first_fit w) → is_some (served_world w) ≡ true
 first_world limited w miss p = if_passes limited (is_some (served_world w)) (passes_same limited (first_fit w) _ (rw miss refl) p)
@@ -112,10 +125,10 @@ line_sound limited counts are number ws line rest is =
     let o = one_word limited first_fit (λ w. behind_first counts number w) ws line rest is in
     subst (λ (vs : List (List ℕ)). LineSpelled limited counts number vs rest line) (sym o.split) (behind_sound limited counts are number o.w o.passed o.others line rest o.reads)
 
-client_first : (limited : Bool) (counts : Counts) (number : List ℕ → ℕ) (w : List ℕ) → is_client_name w ≡ true → (ws : List (List ℕ)) → read limited (line_form counts number) (w ∷ ws) ≡ read limited (client_form counts w (number w)) ws
+pub client_first : (limited : Bool) (counts : Counts) (number : List ℕ → ℕ) (w : List ℕ) → is_client_name w ≡ true → (ws : List (List ℕ)) → read limited (line_form counts number) (w ∷ ws) ≡ read limited (client_form counts w (number w)) ws
 client_first limited counts number w named ws =
     pass_word limited first_fit (λ w. behind_first counts number w) w ws (fits_pass limited (first_fit w) (rw named refl))
-      ∙ (let e : behind_first counts number w ≡ client_form counts w (number w) = rw named refl in ap (λ (f : Form Line). read limited f ws) e)
+    ∙ (let e : behind_first counts number w ≡ client_form counts w (number w) = rw named refl in ap (λ (f : Form Line). read limited f ws) e)
 
 pub world_first : (limited : Bool) (counts : Counts) (number : List ℕ → ℕ) (verb : WorldVerb) → serves_world verb ≡ true → (ws : List (List ℕ)) → read limited (line_form counts number) (world_word verb ∷ ws) ≡ read limited (world_behind counts verb) ws
 world_first limited counts number verb served ws =
@@ -129,16 +142,16 @@ pub line_complete : (limited : Bool) (counts : Counts) → AreCounts counts → 
 line_complete limited counts are number (lines.Store other) is p numbered rest = absurd is
 line_complete limited counts are number (lines.Client client actor act) is p numbered rest =
     client_first limited counts number client is.0 (act_words act ++ rest)
-      ∙ form_mapped limited (λ act. lines.Client client (number client) act) (act_form counts) (act_words act ++ rest) rest act (act_complete limited counts are act is.1 p rest)
-      ∙ ap (λ (n : ℕ). Got (lines.Client client n act) rest) (sym numbered)
+    ∙ form_mapped limited (λ act. lines.Client client (number client) act) (act_form counts) (act_words act ++ rest) rest act (act_complete limited counts are act is.1 p rest)
+    ∙ ap (λ (n : ℕ). Got (lines.Client client n act) rest) (sym numbered)
 line_complete limited counts are number lines.Sweep is p numbered rest =
     world_first limited counts number worlds.Sweep is (codes "all" ∷ rest) ∙ pass_word limited (text_fit (codes "all")) (λ w. done lines.Sweep) (codes "all") rest (passes_text limited (codes "all"))
 line_complete limited counts are number (lines.Lose disk) is p numbered rest =
     let low = are.disks.1 in
     let less = is.1 in
     world_first limited counts number worlds.Lose is.0 (decimal disk.0 ∷ rest)
-      ∙ pass_word limited (number_fit 0 (counts.disks - 1)) (λ d. done (lines.Lose (the_disk (number_of d)))) (decimal disk.0) rest (index_passes limited counts.disks disk.0 are.disks is.1)
-      ∙ ap (λ (n : ℕ). Got (lines.Lose (the_disk n)) rest) (number_of_text disk.0 (omega arith))
+    ∙ pass_word limited (number_fit 0 (counts.disks - 1)) (λ d. done (lines.Lose (the_disk (number_of d)))) (decimal disk.0) rest (index_passes limited counts.disks disk.0 are.disks is.1)
+    ∙ ap (λ (n : ℕ). Got (lines.Lose (the_disk n)) rest) (number_of_text disk.0 (omega arith))
 line_complete limited counts are number lines.Dump is p numbered rest = world_first limited counts number worlds.Dump is rest
 
 client_alive : (limited : Bool) (counts : Counts) → AreCounts counts → (client : List ℕ) (actor : ℕ) → IsAlive limited (client_form counts client actor)
@@ -152,6 +165,41 @@ behind_alive limited counts are number w = elim (cases_Bool (is_client_name w)) 
 
 pub line_alive : (limited : Bool) (counts : Counts) → AreCounts counts → (number : List ℕ → ℕ) → IsAlive limited (line_form counts number)
 line_alive limited counts are number = ((codes "a", fits_pass limited Fits refl), λ w p. behind_alive limited counts are number w)
+
+-- a line of the form passes where limits do not count
+loose_command : (counts : Counts) (command : Command) → passes false (command_limit command)
+loose_command counts (commands.Look path) = names_pass 0 path
+loose_command counts (commands.List path) = names_pass 0 path
+loose_command counts (commands.Create path) = names_pass 0 path
+loose_command counts (commands.Mkdir path) = names_pass 0 path
+loose_command counts (commands.Delete path) = names_pass 0 path
+loose_command counts (commands.Rename from to) = both_pass false (path_limit from) (path_limit to) (names_pass 0 from) (names_pass 0 to)
+loose_command counts (commands.Move from to) = both_pass false (path_limit from) (path_limit to) (names_pass 0 from) (names_pass 0 to)
+loose_command counts (commands.Rmdir path) = names_pass 0 path
+loose_command counts (commands.Drop path) = names_pass 0 path
+loose_command counts (commands.Seal path) = names_pass 0 path
+loose_command counts (commands.Open path) = names_pass 0 path
+loose_command counts (commands.Append path bytes) = both_pass false (path_limit path) (block_limit bytes) (names_pass 0 path) (block_passes bytes)
+loose_command counts (commands.Blocks path) = names_pass 0 path
+loose_command counts (commands.Read path) = names_pass 0 path
+loose_command counts (commands.Sweep layer index) = tt
+loose_command counts (commands.Repair disk index) = tt
+loose_command counts commands.SweepAll = tt
+loose_command counts (commands.Lose disk) = tt
+
+loose_act : (counts : Counts) (act : Act) → passes false (act_limit act)
+loose_act counts (acts.Do command) = loose_command counts command
+loose_act counts (acts.Begin command) = loose_command counts command
+loose_act counts (acts.Step count) = tt
+loose_act counts acts.Run = tt
+loose_act counts acts.Stop = tt
+
+pub loose_limit : (counts : Counts) (line : Line) → IsLine counts line → passes false (line_limit line)
+loose_limit counts (lines.Store other) is = tt
+loose_limit counts (lines.Client client actor act) is = loose_act counts act
+loose_limit counts lines.Sweep is = tt
+loose_limit counts (lines.Lose disk) is = tt
+loose_limit counts lines.Dump is = tt
 
 -- ---- the store line
 
@@ -189,10 +237,20 @@ count_passes limited limit most n small bound =
     fits_pass limited (count_fit limit most (decimal n)) (rw (number_of_text n less, number_text_form n less, le-leb 1 n bound.0, le-leb n most bound.1) refl)
 
 pub store_alive : (limited : Bool) → IsAlive limited store_form
-store_alive limited =
-    ((codes "store", passes_text limited (codes "store")), λ w p.
-    ((codes "1", fits_pass limited Fits refl), λ a p. ((codes "1", fits_pass limited Fits refl), λ b p. ((codes "1", fits_pass limited Fits refl), λ c p.
-    ((codes "1", fits_pass limited Fits refl), λ d p. ((codes "1", fits_pass limited Fits refl), λ e p. tt))))))
+store_alive limited = (
+  (codes "store", passes_text limited (codes "store")),
+  λ w p. (
+    (codes "1", fits_pass limited Fits refl),
+    λ a p. (
+      (codes "1", fits_pass limited Fits refl),
+      λ b p. (
+        (codes "1", fits_pass limited Fits refl),
+        λ c p.
+            ((codes "1", fits_pass limited Fits refl), λ d p. ((codes "1", fits_pass limited Fits refl), λ e p. tt)),
+      ),
+    ),
+  ),
+)
 
 abbrev pub store_words : Counts → List (List ℕ)
 store_words counts = codes "store" ∷ counts_words counts
@@ -239,11 +297,11 @@ store_complete limited counts are rest =
     let d1 = d.1 in
     let c1 = c.1 in
     let last : read limited (done (the_counts (number_of (decimal counts.names)) (number_of (decimal counts.files)) (number_of (decimal counts.blocks)) (number_of (decimal counts.disks)) (number_of (decimal counts.copies)))) rest ≡ Got counts rest
-        = rw (number_of_text counts.names (omega arith), number_of_text counts.files (omega arith), number_of_text counts.blocks (omega arith), number_of_text counts.disks (omega arith), number_of_text counts.copies (omega arith)) refl in
+    = rw (number_of_text counts.names (omega arith), number_of_text counts.files (omega arith), number_of_text counts.blocks (omega arith), number_of_text counts.disks (omega arith), number_of_text counts.copies (omega arith)) refl in
     pass_word limited (text_fit (codes "store")) (λ w. counts_form) (codes "store") (counts_words counts ++ rest) (passes_text limited (codes "store"))
-      ∙ pass_word limited shards_fit (λ x. word shards_fit (λ f. word shards_fit (λ b. word (count_fit limits.Disks 64) (λ d. word (count_fit limits.Copies 5) (λ c. done (the_counts (number_of x) (number_of f) (number_of b) (number_of d) (number_of c))))))) (decimal counts.names) (decimal counts.files ∷ decimal counts.blocks ∷ decimal counts.disks ∷ decimal counts.copies ∷ rest) (count_passes limited limits.Shards 64 counts.names (omega arith) n)
-      ∙ pass_word limited shards_fit (λ x. word shards_fit (λ b. word (count_fit limits.Disks 64) (λ d. word (count_fit limits.Copies 5) (λ c. done (the_counts (number_of (decimal counts.names)) (number_of x) (number_of b) (number_of d) (number_of c)))))) (decimal counts.files) (decimal counts.blocks ∷ decimal counts.disks ∷ decimal counts.copies ∷ rest) (count_passes limited limits.Shards 64 counts.files (omega arith) f)
-      ∙ pass_word limited shards_fit (λ x. word (count_fit limits.Disks 64) (λ d. word (count_fit limits.Copies 5) (λ c. done (the_counts (number_of (decimal counts.names)) (number_of (decimal counts.files)) (number_of x) (number_of d) (number_of c))))) (decimal counts.blocks) (decimal counts.disks ∷ decimal counts.copies ∷ rest) (count_passes limited limits.Shards 64 counts.blocks (omega arith) b)
-      ∙ pass_word limited (count_fit limits.Disks 64) (λ x. word (count_fit limits.Copies 5) (λ c. done (the_counts (number_of (decimal counts.names)) (number_of (decimal counts.files)) (number_of (decimal counts.blocks)) (number_of x) (number_of c)))) (decimal counts.disks) (decimal counts.copies ∷ rest) (count_passes limited limits.Disks 64 counts.disks (omega arith) d)
-      ∙ pass_word limited (count_fit limits.Copies 5) (λ x. done (the_counts (number_of (decimal counts.names)) (number_of (decimal counts.files)) (number_of (decimal counts.blocks)) (number_of (decimal counts.disks)) (number_of x))) (decimal counts.copies) rest (count_passes limited limits.Copies 5 counts.copies (omega arith) c)
-      ∙ last
+    ∙ pass_word limited shards_fit (λ x. word shards_fit (λ f. word shards_fit (λ b. word (count_fit limits.Disks 64) (λ d. word (count_fit limits.Copies 5) (λ c. done (the_counts (number_of x) (number_of f) (number_of b) (number_of d) (number_of c))))))) (decimal counts.names) (decimal counts.files ∷ decimal counts.blocks ∷ decimal counts.disks ∷ decimal counts.copies ∷ rest) (count_passes limited limits.Shards 64 counts.names (omega arith) n)
+    ∙ pass_word limited shards_fit (λ x. word shards_fit (λ b. word (count_fit limits.Disks 64) (λ d. word (count_fit limits.Copies 5) (λ c. done (the_counts (number_of (decimal counts.names)) (number_of x) (number_of b) (number_of d) (number_of c)))))) (decimal counts.files) (decimal counts.blocks ∷ decimal counts.disks ∷ decimal counts.copies ∷ rest) (count_passes limited limits.Shards 64 counts.files (omega arith) f)
+    ∙ pass_word limited shards_fit (λ x. word (count_fit limits.Disks 64) (λ d. word (count_fit limits.Copies 5) (λ c. done (the_counts (number_of (decimal counts.names)) (number_of (decimal counts.files)) (number_of x) (number_of d) (number_of c))))) (decimal counts.blocks) (decimal counts.disks ∷ decimal counts.copies ∷ rest) (count_passes limited limits.Shards 64 counts.blocks (omega arith) b)
+    ∙ pass_word limited (count_fit limits.Disks 64) (λ x. word (count_fit limits.Copies 5) (λ c. done (the_counts (number_of (decimal counts.names)) (number_of (decimal counts.files)) (number_of (decimal counts.blocks)) (number_of x) (number_of c)))) (decimal counts.disks) (decimal counts.copies ∷ rest) (count_passes limited limits.Disks 64 counts.disks (omega arith) d)
+    ∙ pass_word limited (count_fit limits.Copies 5) (λ x. done (the_counts (number_of (decimal counts.names)) (number_of (decimal counts.files)) (number_of (decimal counts.blocks)) (number_of (decimal counts.disks)) (number_of x))) (decimal counts.copies) rest (count_passes limited limits.Copies 5 counts.copies (omega arith) c)
+    ∙ last

@@ -7,4 +7,10 @@ pub mod ActLaws
 pub mod GrammarLaws
 pub mod Visible
 pub mod ScriptLaws
+pub mod PlanLaws
+pub mod HonestLaws
+pub mod WrongLaws
+pub mod FaultLaws
+pub mod WrittenLaws
+pub mod PublicLaws
 pub mod LineByLine

@@ -38,16 +38,16 @@ use Rattle.script_lines.proofs.GrammarLaws.{IsNumbered, LineSpelled, world_sound
 use Rattle.script_lines.proofs.Visible.{parts_spaced, spaced_parts, line_visible, store_visible}
 use Rattle.script_lines.proofs.LineByLine.{IsLine as IsText, lines_step, store_step}
 
-abbrev right : {A : Type 0} → A → Result A ScriptFault
+abbrev pub right : {A : Type 0} → A → Result A ScriptFault
 right x = Ok x
 
-abbrev faulty : (A : Type 0) → ScriptFault → Result A ScriptFault
+abbrev pub faulty : (A : Type 0) → ScriptFault → Result A ScriptFault
 faulty A fault = Err fault
 
-right_same : {A : Type 0} (x y : A) → right x ≡ Ok y → x ≡ y
+pub right_same : {A : Type 0} (x y : A) → right x ≡ Ok y → x ≡ y
 right_same x y e = cc
 
-faulty_right : {A P : Type 0} (fault : ScriptFault) (y : A) → faulty A fault ≡ Ok y → P
+pub faulty_right : {A P : Type 0} (fault : ScriptFault) (y : A) → faulty A fault ≡ Ok y → P
 faulty_right fault y e = absurd cc
 
 -- a form that was read to the line's end
@@ -57,7 +57,7 @@ ended_got (Got a (w ∷ rest)) value ws is = got_wrong value ws (w ∷ rest) (sy
 ended_got (Wrong rest) value ws is = got_wrong value ws rest (sym is)
 ended_got (Large limit rest) value ws is = got_large value limit ws rest (sym is)
 
-true_within : (k : Fit) → passes true k → k ≡ Fits
+pub true_within : (k : Fit) → passes true k → k ≡ Fits
 true_within Fits p = refl
 true_within (Over limit) p = absurd p
 true_within Unfit p = absurd p
@@ -75,7 +75,7 @@ of_client_got client actor (Got act ws) line rest is =
 of_client_got client actor (Wrong ws) line rest is = got_wrong line rest ws (sym is)
 of_client_got client actor (Large limit ws) line rest is = got_large line limit rest ws (sym is)
 
-append_nil : (xs : List (List ℕ)) → xs ++ [] ≡ xs
+pub append_nil : (xs : List (List ℕ)) → xs ++ [] ≡ xs
 append_nil [] = refl
 append_nil (x ∷ xs) = ap (λ (ys : List (List ℕ)). x ∷ ys) (append_nil xs)
 
@@ -128,7 +128,7 @@ world_line counts are seen verb served ws line is within plain words =
     let number = λ (name : List ℕ). client_number seen name in
     let all = line_complete true counts are number line is (fits_pass true (line_limit line) within) (plain_number number line plain) [] in
     let from : read true (world_behind counts verb) ws ≡ Got line [] =
-        sym (world_first true counts number verb served ws) ∙ ap (λ (vs : List (List ℕ)). read true (line_form counts number) vs) (sym (append_nil (line_words line) ∙ words)) ∙ all in
+    sym (world_first true counts number verb served ws) ∙ ap (λ (vs : List (List ℕ)). read true (line_form counts number) vs) (sym (append_nil (line_words line) ∙ words)) ∙ all in
     ap (λ (vs : List (List ℕ)). line_read counts seen vs) words ∙ world_line_read counts seen verb served ws line from
   where
     plain_number : (number : List ℕ → ℕ) (line : Line) → IsPlain line → IsNumbered number line
@@ -148,7 +148,7 @@ line_stands counts are seen (lines.Store other) may = absurd may.form
 line_stands counts are seen (lines.Client client actor act) may =
     let is = act_complete true counts are act may.form.1 (fits_pass true (act_limit act) may.within) [] in
     client_line counts seen client act may.form.0 may.in_order.0 may.in_order.1 (ap (λ (vs : List (List ℕ)). read true (act_form counts) vs) (sym (append_nil (act_words act))) ∙ is)
-      ∙ ap (λ (n : ℕ). Got (lines.Client client n act) []) (sym may.in_order.2)
+    ∙ ap (λ (n : ℕ). Got (lines.Client client n act) []) (sym may.in_order.2)
 line_stands counts are seen lines.Sweep may = world_line counts are seen worlds.Sweep may.form _ lines.Sweep may.form refl tt refl
 line_stands counts are seen (lines.Lose disk) may = world_line counts are seen worlds.Lose may.form.0 _ (lines.Lose disk) may.form refl tt refl
 line_stands counts are seen lines.Dump may = world_line counts are seen worlds.Dump may.form [] lines.Dump may.form refl tt refl
@@ -160,7 +160,7 @@ pub record Measures {A : Type 0} (n : ℕ) (line : List ℕ) (more : Result A Sc
   pub size : length line ≤ 70000
   pub is : more ≡ Ok value
 
-measured_right : {A : Type 0} (n : ℕ) (line : List ℕ) (more : Result A ScriptFault) (value : A) → measured n line more ≡ Ok value → Measures n line more value
+pub measured_right : {A : Type 0} (n : ℕ) (line : List ℕ) (more : Result A ScriptFault) (value : A) → measured n line more ≡ Ok value → Measures n line more value
 measured_right n line more value is = elim (cases_Bool (nat_lt 65536 n)) [
   | inl many ↦ faulty_right (too_large limits.Lines) value (rw many at is)
   | inr few ↦ elim (cases_Bool (nat_lt 70000 (length line))) [
@@ -169,10 +169,10 @@ measured_right n line more value is = elim (cases_Bool (nat_lt 65536 n)) [
   ]
 ]
 
-measures : {A : Type 0} (n : ℕ) (line : List ℕ) (more : Result A ScriptFault) → n ≤ 65536 → length line ≤ 70000 → measured n line more ≡ more
+pub measures : {A : Type 0} (n : ℕ) (line : List ℕ) (more : Result A ScriptFault) → n ≤ 65536 → length line ≤ 70000 → measured n line more ≡ more
 measures n line more few short = rw (le-ltb 65536 n few, le-ltb 70000 (length line) short) refl
 
-at_line_right : {A : Type 0} (n : ℕ) (line : List ℕ) (o : Outcome A) (value : A) → at_line n line o ≡ Ok value → (rest : List (List ℕ)) × (o ≡ Got value rest)
+pub at_line_right : {A : Type 0} (n : ℕ) (line : List ℕ) (o : Outcome A) (value : A) → at_line n line o ≡ Ok value → (rest : List (List ℕ)) × (o ≡ Got value rest)
 at_line_right n line (Got a ws) value is = (ws, ap (λ v. Got v ws) (right_same a value is))
 at_line_right n line (Wrong ws) value is = faulty_right _ value is
 at_line_right n line (Large limit ws) value is = faulty_right _ value is
@@ -185,7 +185,7 @@ some_line_right : (r : Result Line ScriptFault) (read : Option Line) → some_li
 some_line_right (Ok line) read is = (line, refl, right_same (Some line) read is)
 some_line_right (Err fault) read is = faulty_right fault read is
 
-told_by : (counts : Counts) → AreCounts counts → (seen : Seen) (n : ℕ) (text : List ℕ) (read : Option Line) → (if is_comment text then Ok None else some_line (at_line n text (line_read counts seen (parts 32 text)))) ≡ Ok read → IsTold counts seen text read
+pub told_by : (counts : Counts) → AreCounts counts → (seen : Seen) (n : ℕ) (text : List ℕ) (read : Option Line) → (if is_comment text then Ok None else some_line (at_line n text (line_read counts seen (parts 32 text)))) ≡ Ok read → IsTold counts seen text read
 told_by counts are seen n text read is = elim (cases_Bool (is_comment text)) [
   | inl hit ↦ subst (λ (r : Option Line). IsTold counts seen text r) (right_same None read (rw hit at is)) hit
   | inr miss ↦
@@ -195,7 +195,7 @@ told_by counts are seen n text read is = elim (cases_Bool (is_comment text)) [
       subst (λ (o : Option Line). IsTold counts seen text o) l.2 (miss, r.stands, sym (ap (λ (ws : List (List ℕ)). spaced ws) r.words ∙ spaced_parts text))
 ]
 
-text_told : (counts : Counts) → AreCounts counts → (seen : Seen) (n : ℕ) (text : List ℕ) (read : Option Line) → n ≤ 65536 → length text ≤ 70000 → IsTold counts seen text read → text_read counts seen n text ≡ Ok read
+pub text_told : (counts : Counts) → AreCounts counts → (seen : Seen) (n : ℕ) (text : List ℕ) (read : Option Line) → n ≤ 65536 → length text ≤ 70000 → IsTold counts seen text read → text_read counts seen n text ≡ Ok read
 text_told counts are seen n text None few short told = measures n text _ few short ∙ rw told refl
 text_told counts are seen n text (Some line) few short told =
     let words : parts 32 text ≡ line_words line = ap (λ (t : List ℕ). parts 32 t) told.2 ∙ line_parts counts are line told.1.form in
@@ -208,6 +208,7 @@ text_told counts are seen n text (Some line) few short told =
     some_words lines.Sweep = (_, _, refl)
     some_words (lines.Lose disk) = (_, _, refl)
     some_words lines.Dump = (_, _, refl)
+
     line_parts : (counts : Counts) → AreCounts counts → (line : Line) → IsLine counts line → parts 32 (line_text line) ≡ line_words line
     line_parts counts are line is =
         let some = some_words line in
@@ -215,7 +216,7 @@ text_told counts are seen n text (Some line) few short told =
 
 -- ---- all texts
 
-go_on_right : {A B : Type 0} (r : Result A ScriptFault) (go : A → Result B ScriptFault) (value : B) → go_on r go ≡ Ok value → (x : A) × (r ≡ Ok x) × (go x ≡ Ok value)
+pub go_on_right : {A B : Type 0} (r : Result A ScriptFault) (go : A → Result B ScriptFault) (value : B) → go_on r go ≡ Ok value → (x : A) × (r ≡ Ok x) × (go x ≡ Ok value)
 go_on_right (Ok x) go value is = (x, refl, is)
 go_on_right (Err fault) go value is = faulty_right fault value is
 
@@ -228,7 +229,7 @@ pub record LinesRight (counts : Counts) (seen : Seen) (n : ℕ) (ps : List (List
   pub are : AreLines counts seen ls
   pub after_is : after ≡ seen_of seen ls
 
-abbrev outcome : List Line → Seen → List Line × Seen
+abbrev pub outcome : List Line → Seen → List Line × Seen
 outcome ls seen = (ls, seen)
 
 add_right : (counts : Counts) (seen : Seen) (n : ℕ) (text : List ℕ) (more : List (List ℕ)) (read : Option Line) (r : Result (List Line × Seen) ScriptFault) (ls : List Line) (after : Seen) → n ≤ 65536 → length text ≤ 70000 → IsTold counts seen text read → add_line read r ≡ Ok (outcome ls after) →
@@ -271,7 +272,7 @@ lines_right counts are seen n p (q ∷ qs) ls after is =
     let g = go_on_right (text_read counts seen n p) (λ read. add_line read (lines_read counts (seen_behind seen read) (n + 1) (q ∷ qs))) (outcome ls after) (sym (lines_step counts seen n p (q ∷ qs) (text_before p)) ∙ is) in
     let m = measured_right n p _ g.0 g.1 in
     add_right counts seen n p (q ∷ qs) g.0 (lines_read counts (seen_behind seen g.0) (n + 1) (q ∷ qs)) ls after m.number m.size (told_by counts are seen n p g.0 m.is) g.2
-      (λ vs inner. lines_right counts are (seen_behind seen g.0) (n + 1) q qs vs after inner)
+    (λ vs inner. lines_right counts are (seen_behind seen g.0) (n + 1) q qs vs after inner)
   where
     text_before : (p : List ℕ) → IsText p (q ∷ qs)
     text_before [] = tt

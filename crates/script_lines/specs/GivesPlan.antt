@@ -38,3 +38,8 @@ EndsLine number line None result = result ≡ Err (faults.Bad number (length lin
 abbrev pub ends_script : List ℕ → Option (Bor (List ℕ)) → Bool
 ends_script line None = length line == 0
 ends_script line (Some more) = false
+
+-- this value, unless memory ran out
+abbrev pub IsUnlessMemory : {A : Type 0} → A → Result A ScriptFault → Type 0
+IsUnlessMemory value (Ok found) = found ≡ value
+IsUnlessMemory value (Err fault) = fault ≡ faults.NoMemory

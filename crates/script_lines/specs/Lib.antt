@@ -9,3 +9,5 @@ pub mod Reading
 pub mod GivesPlan
 pub mod LineForms
 pub mod Spelling
+pub mod FirstWrong
+pub mod FirstFault

@@ -1,6 +1,6 @@
 -- Which bytes spell a plan.
 use Rattle.std.specs.Prelude.{ℕ, ◌≡◌, ◌≤◌, Bool, true, false, not, List, [], ◌∷◌, ◌++◌, length, map, filter}
-use Rattle.std.specs.List.{AllByRecursion}
+use Rattle.std.specs.List.{AllByRecursion, flat_map}
 use Rattle.std.specs.Map.{keys_of}
 use Rattle.script_words.specs.declared.limits.Fit.TheVariants.{Fits}
 use Rattle.script_words.specs.Splitting.{parts}
@@ -54,3 +54,13 @@ pub record Spells (bytes : List ℕ) (plan : Plan) : Type 0 where
   pub few : length texts ≤ 65536
   pub short : AllByRecursion (λ (text : List ℕ). length text ≤ 70000) texts
   pub told : filter is_told texts ≡ map line_text (plan_lines plan)
+
+-- the lines of a plan, as they are written without comments
+abbrev pub script_text : Plan → List ℕ
+script_text plan = flat_map (λ line. line_text line ++ 10 ∷ []) (plan_lines plan)
+
+-- the text that is written stays within the limits of texts
+pub record IsSmall (plan : Plan) : Type 0 where
+  pub size : length (script_text plan) ≤ 67108864
+  pub few : length (plan_lines plan) ≤ 65536
+  pub short : AllByRecursion (λ (text : List ℕ). length text ≤ 70000) (map line_text (plan_lines plan))

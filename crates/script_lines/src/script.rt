@@ -1,9 +1,11 @@
-ghost use Rattle.std.specs.Prelude.{◌≡◌, ◌∷◌, [], ◌+◌, ◌-◌, ◌<◌, ◌≤◌, ◌^◌, IfOk, OnOk, length};
+ghost use Rattle.std.specs.Prelude.{◌≡◌, ◌∷◌, [], ◌+◌, ◌-◌, ◌<◌, ◌≤◌, ◌^◌, IfOk, IfErr, OnOk, length};
 ghost use Rattle.script_words.specs.Splitting.{parts, parts_behind};
 ghost use Rattle.script_words.specs.WordList.{spaced_length};
 ghost use Rattle.script_lines.specs.Clients.{seen_after};
 ghost use Rattle.script_lines.specs.Reading.{too_large as fault_of, is_comment as comment, text_read, store_text_read, seen_behind, plan_of, lines_read, store_read, script_read};
-ghost use Rattle.script_lines.specs.GivesPlan.{GivesRead, IsFaultAt, EndsLine, IsMeasured, ends_script};
+ghost use Rattle.script_lines.specs.GivesPlan.{GivesRead, IsUnlessMemory, IsFaultAt, EndsLine, IsMeasured, ends_script};
+ghost use Rattle.script_lines.specs.Spelling.{Spells, IsPlan, IsSmall, script_text};
+ghost use Rattle.script_lines.specs.FirstFault.{IsFirstFault};
 
 use crate::acts::whole_store;
 use crate::clients::{Clients, names_of};
@@ -152,8 +154,8 @@ fn read_lines(alloc: Global, counts: Counts, first: u32, bytes: &[u8]) -> Result
     })
 }
 
-/// Reads a script, or says its first fault.
-pub fn read_script(alloc: Global, bytes: &[u8]) -> Result<Plan, ScriptFault>
+/// The plan or the fault that reading gives.
+fn read_plan(alloc: Global, bytes: &[u8]) -> Result<Plan, ScriptFault>
     ensures { GivesRead result (script_read bytes.now) }
 {
     if bytes.len() > 67_108_864 {
@@ -176,4 +178,23 @@ pub fn read_script(alloc: Global, bytes: &[u8]) -> Result<Plan, ScriptFault>
             return read_lines(alloc, counts, number, rest);
         }
     }
+}
+
+/// Reads a script: comments, a store line and further lines, each ended by a line feed. A word of a command or world line
+/// that the store does not serve yet is a wrong word.
+///
+/// Where the script is not of this form, the first wrong place is answered, and where it passes a limit, that limit: the
+/// script's size comes first, then the lines in order, in each line its number and length and then its words from left to
+/// right. A word that is not of its form is wrong, also where it is over a limit.
+pub fn read_script(alloc: Global, bytes: &[u8]) -> Result<Plan, ScriptFault>
+    ensures exact { GivesRead result (script_read bytes.now) }
+    // The bytes spell the plan, and bytes that spell a plan are read.
+    ensures spelled { IfOk result (Spells bytes.now) }
+    ensures complete { (plan : Plan) → Spells bytes.now plan → IsUnlessMemory plan result }
+    // What is written of a plan is read back.
+    ensures written { (plan : Plan) → IsPlan plan → IsSmall plan → bytes.now ≡ script_text plan → IsUnlessMemory plan result }
+    // Otherwise the fault is the first one.
+    ensures first { IfErr result (IsFirstFault bytes.now) }
+{
+    read_plan(alloc, bytes)
 }

@@ -1,7 +1,7 @@
 use Rattle.std.proofs.Common.{◌≡◌, ◌+◌, ◌≤◌, length}
 use Rattle.script_words.specs.Splitting.{parts}
 use Rattle.script_lines.specs.Reading.{store_read}
-use Rattle.script_lines.proofs.script.read_script.Given as goal
+use Rattle.script_lines.proofs.script.read_plan.Given as goal
 
 abbrev pub invariant-store : goal.invariant-store
 invariant-store l = record {
