@@ -1,0 +1,2 @@
+pub mod PhasesLeft
+pub mod RunsShort
