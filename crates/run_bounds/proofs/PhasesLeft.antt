@@ -1,5 +1,5 @@
 -- how many looks and other transactions a command may still take in a phase; each transaction leaves one less
-use Rattle.std.proofs.Common.{◌≡◌, ℕ, ◌+◌, ◌≤◌, max, Bool, true, false, not, cond, if◌then◌else◌, Option, Some, None, List, [], ◌∷◌, length, refl, arith}
+use Rattle.std.proofs.Common.{◌≡◌, ℕ, ◌+◌, ◌≤◌, Bool, true, false, not, cond, if◌then◌else◌, Option, Some, None, List, [], ◌∷◌, length, refl, arith}
 use Rattle.tect_ids.specs.declared.ids.DirId.{DirId}
 use Rattle.tect_ids.specs.declared.ids.Hold.{Hold}
 use Rattle.tect_ids.specs.declared.ids.Node.{Node}
@@ -16,17 +16,13 @@ use Rattle.tect_ids.specs.declared.answer.Answer.{Answer}
 use Rattle.tect_ids.specs.declared.answer.Answer.TheVariants as answers
 use Rattle.tect_ids.specs.Keys.{name_eq}
 use Rattle.store_rules.specs.declared.names.Replaced.{Replaced}
-use Rattle.store_rules.specs.declared.names.NameReq.TheVariants as names
-use Rattle.store_rules.specs.declared.files.FileReq.TheVariants as files
 use Rattle.store_rules.specs.declared.any.AnyReq.{AnyReq}
-use Rattle.store_rules.specs.declared.any.AnyReq.TheVariants as any
 use Rattle.store_rules.specs.declared.any.AnyReply.{AnyReply}
-use Rattle.store_rules.specs.Names.{key_in}
-use Rattle.store_rules.specs.Views.{as_found, as_listing, as_parent, is_made, is_granted, as_bound, as_unbound, as_swapped}
+use Rattle.store_rules.specs.Views.{as_found, as_listing, is_made, is_granted, as_bound, as_unbound, as_swapped}
 use Rattle.op_names.specs.declared.program.Phase.{Phase}
 use Rattle.op_names.specs.declared.program.Phase.TheVariants.{Walk, Bind, Grant, Swap, Release, End}
 use Rattle.op_names.specs.Paths.{but_last, last_name}
-use Rattle.op_names.specs.Programs.{new_path, own_hold, at_last, grant_ask, release_ask, phase_ask, phase_hear, first_ask, first_phase, walked, looked, checked, entries_heard, made_heard, unbound_heard, source_heard, first_hear, then_release, bound_heard, swapped_heard, refusal}
+use Rattle.op_names.specs.Programs.{new_path, at_last, grant_ask, release_ask, phase_ask, phase_hear, first_ask, first_phase, walked, looked, checked, entries_heard, made_heard, unbound_heard, source_heard, first_hear, then_release, bound_heard, swapped_heard, refusal}
 use Rattle.run_bounds.specs.Bounds.{is_look, most_looks}
 
 -- a look at the last name comes after the walk
@@ -77,18 +73,22 @@ pub record Leaves (c : Command) (next : Phase) (to_look to_do : ℕ) : Type 0 wh
   pub others : others_left next ≤ to_do
 
 module _ (c : Command) (place : Place) where
+  -- a look at the last name
   looked_leaves : (k : Key) (x : AnyReply) (o : Option Node) → Leaves c (looked place k x o) 0 0
   looked_leaves k x None = record { looks = omega arith; others = omega arith }
   looked_leaves k x (Some n) = record { looks = omega arith; others = omega arith }
 
+  -- a check of the directory
   checked_leaves : (d : DirId) (x : AnyReply) (b : Bool) → Leaves c (checked place d x b) 0 0
   checked_leaves d x true = record { looks = omega arith; others = omega arith }
   checked_leaves d x false = record { looks = omega arith; others = omega arith }
 
+  -- a listing
   entries_leaves : (x : AnyReply) (o : Option (List Listed)) → Leaves c (entries_heard place x o) 0 0
   entries_leaves x None = record { looks = omega arith; others = omega arith }
   entries_leaves x (Some items) = record { looks = omega arith; others = omega arith }
 
+  -- a make
   made_leaves : (k : Key) (n : Node) (o : Over) (x : AnyReply) → Leaves c (made_heard place k n o x) 0 3
   made_leaves k n o x =
       elim (is_made x) as (λ b. Leaves c (if b then Bind k n o else End (refusal place k x)) 0 3) [
@@ -96,10 +96,12 @@ module _ (c : Command) (place : Place) where
         | false ↦ record { looks = omega arith; others = omega arith }
       ]
 
+  -- an unbind
   unbound_leaves : (k : Key) (x : AnyReply) (o : Option (Node × Hold)) → Leaves c (unbound_heard place k x o) 0 1
   unbound_leaves k x None = record { looks = omega arith; others = omega arith }
   unbound_leaves k x (Some p) = record { looks = omega arith; others = omega arith }
 
+  -- a rename's look at the old name
   source_leaves : (k : Key) (to : List ℕ) (x : AnyReply) (o : Option Node) → Leaves c (source_heard place k to x o) 0 4
   source_leaves k to x None = record { looks = omega arith; others = omega arith }
   source_leaves k to x (Some n) =
@@ -108,23 +110,28 @@ module _ (c : Command) (place : Place) where
         | false ↦ record { looks = omega arith; others = omega arith }
       ]
 
+  -- a look on the way
   walked_leaves : (k : Key) (ns : List (List ℕ)) (x : AnyReply) (o : Option Node) → Leaves c (walked place k ns x o) (length ns + own_looks c) 4
   walked_leaves k ns x None = record { looks = omega arith; others = omega arith }
   walked_leaves k ns x (Some (nodes.Dir d)) = record { looks = omega arith; others = omega arith }
   walked_leaves k ns x (Some (nodes.File f)) = record { looks = omega arith; others = omega arith }
 
+  -- a grant
   granted_leaves : (k : Key) (n : Node) (x : AnyReply) (b : Bool) → Leaves c (if b then Swap k n else End (refusal place k x)) 0 3
   granted_leaves k n x true = record { looks = omega arith; others = omega arith }
   granted_leaves k n x false = record { looks = omega arith; others = omega arith }
 
+  -- a release
   release_leaves : (old : Option Replaced) (a : Answer) → Leaves c (then_release old a) 0 1
   release_leaves None a = record { looks = omega arith; others = omega arith }
   release_leaves (Some old) a = record { looks = omega arith; others = omega arith }
 
+  -- a bind
   bound_leaves : (op : OpId) (k : Key) (n : Node) (x : AnyReply) (o : Option (Option Replaced)) → Leaves c (bound_heard place op k n x o) 0 1
   bound_leaves op k n x None = record { looks = omega arith; others = omega arith }
   bound_leaves op k n x (Some old) = release_leaves old (answers.Found n)
 
+  -- a swap
   swapped_leaves : (op : OpId) (k : Key) (n : Node) (x : AnyReply) (o : Option (Hold × Option Replaced)) → Leaves c (swapped_heard place op k n x o) 0 2
   swapped_leaves op k n x None = record { looks = omega arith; others = omega arith }
   swapped_leaves op k n x (Some (h, None)) = record { looks = omega arith; others = omega arith }
@@ -136,7 +143,7 @@ module _ (c : Command) (place : Place) where
 by_look : (c : Command) (q : AnyReq) (next : Phase) (looks others : ℕ) → is_look q ≡ true → Leaves c next looks others → Falls c (Some q) next (looks + 1) others
 by_look c q next looks others is l = record { looks = rw is (omega (arith, l.looks)); others = rw is (omega (arith, l.others)) }
 
--- after another transaction, or where nothing is asked
+-- after another transaction
 by_other : (c : Command) (q : AnyReq) (next : Phase) (looks others : ℕ) → is_look q ≡ false → Leaves c next looks others → Falls c (Some q) next looks (others + 1)
 by_other c q next looks others is l = record { looks = rw is (omega (arith, l.looks)); others = rw is (omega (arith, l.others)) }
 
@@ -148,10 +155,12 @@ at_most c asked next looks others looks2 others2 l o f = record { looks = omega 
 by_none : (c : Command) (a : Answer) (looks others : ℕ) → Falls c None (End a) looks others
 by_none c a looks others = record { looks = omega arith; others = omega arith }
 
+-- a grant is no look
 grant_is_no_look : (n : Node) (h : Hold) (k : Key) → is_look (grant_ask n h k) ≡ false
 grant_is_no_look (nodes.Dir d) h k = refl
 grant_is_no_look (nodes.File f) h k = refl
 
+-- a release is no look
 release_is_no_look : (n : Node) (h : Hold) → is_look (release_ask n h) ≡ false
 release_is_no_look (nodes.Dir d) h = refl
 release_is_no_look (nodes.File f) h = refl
