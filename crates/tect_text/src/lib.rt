@@ -5,7 +5,6 @@ mod answers;
 mod dump;
 mod ids;
 mod report;
-
 #[cfg(test)]
 mod tests;
 

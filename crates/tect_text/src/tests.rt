@@ -1,6 +1,6 @@
 use crate::{Limit, ScriptFault, read_script, write_line};
-use std::process::Abort;
 use std::alloc::Global;
+use std::process::Abort;
 use std::test::Fail;
 
 const STORE: &str = "store 1 1 1 3 3\n";

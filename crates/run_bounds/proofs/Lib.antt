@@ -1,0 +1,3 @@
+pub mod PhasesLeft
+pub mod Steps
+pub mod RunsShort

@@ -1,0 +1,61 @@
+-- How many transactions a command may take.
+use Rattle.std.specs.Prelude.{ℕ, ◌+◌, ◌≤◌, max, Bool, true, false, not, ◌&&◌, List, [], length, count_by}
+use Rattle.tect_ids.specs.declared.ids.OpId.{OpId}
+use Rattle.tect_ids.specs.declared.command.Command.{Command}
+use Rattle.tect_ids.specs.declared.command.Command.TheVariants as commands
+use Rattle.tect_ids.specs.Keys.{op_eq}
+use Rattle.store_rules.specs.declared.names.NameReq.TheVariants as names
+use Rattle.store_rules.specs.declared.any.AnyReq.{AnyReq}
+use Rattle.store_rules.specs.declared.any.AnyReq.TheVariants as any
+use Rattle.world_runs.specs.declared.event.Event.{Event}
+use Rattle.world_runs.specs.declared.event.Event.TheVariants.{Began, Acted, Ended, Stopped}
+use Rattle.world_runs.specs.Report.{transactions}
+
+-- whether the request looks up a name, or checks the directory that a path without names is
+abbrev pub is_look : AnyReq → Bool
+is_look (any.Name (names.Look k)) = true
+is_look (any.Name (names.CheckDir d)) = true
+is_look _ = false
+
+-- a look of the op
+abbrev pub is_look_of : OpId → Event → Bool
+is_look_of op (Acted other q x) = op_eq other op && is_look q
+is_look_of op (Began other c) = false
+is_look_of op (Ended other a) = false
+is_look_of op (Stopped other) = false
+
+-- a transaction of the op that is no look
+abbrev pub is_other_of : OpId → Event → Bool
+is_other_of op (Acted other q x) = op_eq other op && not (is_look q)
+is_other_of op (Began other c) = false
+is_other_of op (Ended other a) = false
+is_other_of op (Stopped other) = false
+
+-- how many looks the op took
+abbrev pub looks_of : List Event → OpId → ℕ
+looks_of history op = count_by (is_look_of op) history
+
+-- how many transactions beside its looks the op took
+abbrev pub others_of : List Event → OpId → ℕ
+others_of history op = count_by (is_other_of op) history
+
+-- the path that a command on names walks; of a rename the one of the old name
+abbrev pub first_path : Command → List (List ℕ)
+first_path (commands.Look p) = p
+first_path (commands.List p) = p
+first_path (commands.Create p) = p
+first_path (commands.Mkdir p) = p
+first_path (commands.Delete p) = p
+first_path (commands.Rename p to) = p
+first_path _ = []
+
+-- one look for each name of its path, and one for a path without names
+abbrev pub most_looks : Command → ℕ
+most_looks c = max (length (first_path c)) 1
+
+-- The op's command takes no more looks than its path has names, at most four other transactions, and no transactions
+-- beside these.
+pub record IsShort (history : List Event) (op : OpId) (c : Command) : Type 0 where
+  pub looks : looks_of history op ≤ most_looks c
+  pub others : others_of history op ≤ 4
+  pub all : transactions history op ≤ most_looks c + 4
