@@ -1,16 +1,10 @@
 -- Lists of commands that a script may have.
-use Rattle.std.proofs.Common.{◌≡◌, ℕ, zero, suc, ◌+◌, ◌<◌, ◌≤◌, List, [], ◌∷◌, ◌++◌, length, get_or, take, drop, refl, arith}
+use Rattle.std.proofs.Common.{ℕ, zero, suc, ◌+◌, List, [], ◌∷◌, ◌++◌, take}
 use Rattle.std.specs.List.{AllByRecursion}
 use Rattle.tect_ids.specs.declared.command.Command.{Command}
 use Rattle.tect_ids.specs.declared.command.Command.TheVariants.{Create, Look}
-use Rattle.world_runs.specs.Served.{IsServed}
 use Rattle.tree_runs.specs.Session.{IsPlayed}
 use Rattle.tect_app.specs.Script.{IsScripted}
-
-pub scripted_served : (c : Command) → IsScripted c → IsServed c
-scripted_served (Create p) is = tt
-scripted_served (Look p) is = tt
-scripted_served c is = absurd is
 
 pub scripted_played : (c : Command) → IsScripted c → IsPlayed c
 scripted_played (Create p) is = is.0
@@ -25,11 +19,6 @@ pub all_taken : {X : Type 0} (P : X → Type 0) (n : ℕ) (xs : List X) → AllB
 all_taken P zero xs all = tt
 all_taken P (suc n) [] all = tt
 all_taken P (suc n) (x ∷ xs) all = (all.0, all_taken P n xs all.1)
-
-pub all_at : {X : Type 0} (P : X → Type 0) (xs : List X) (n : ℕ) (d : X) → AllByRecursion P xs → n < length xs → P (get_or xs n d)
-all_at P [] n d all lt = absurd (omega arith)
-all_at P (x ∷ xs) zero d all lt = all.0
-all_at P (x ∷ xs) (suc n) d all lt = all_at P xs n d all.1 (omega arith)
 
 pub all_appended : {X : Type 0} (P : X → Type 0) (xs ys : List X) → AllByRecursion P xs → AllByRecursion P ys → AllByRecursion P (xs ++ ys)
 all_appended P [] ys all more = more

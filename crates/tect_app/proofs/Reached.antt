@@ -1,12 +1,10 @@
 -- How far a replay has come.
-use Rattle.std.proofs.Common.{◌≡◌, ℕ, ◌+◌, ◌<◌, ◌≤◌, ◌^◌, Option, Some, None, List, [], ◌∷◌, ◌++◌, length, get_or, take, drop, length-append, refl, sym, ap, subst, ◌∙◌, append_assoc, arith}
-use Rattle.std.specs.Prelude.{codes, IsSome}
-use Rattle.std.specs.List.{flat_map, AllByRecursion}
-use Rattle.std.specs.Io.KnownBytes.{Appends}
-use Rattle.std.proofs.KnownBytes.{Appends-nil, Appends-trans}
+use Rattle.std.proofs.Common.{◌≡◌, ℕ, ◌+◌, ◌<◌, ◌≤◌, Option, List, [], ◌∷◌, ◌++◌, length, get_or, take, drop, length-append, refl, sym, ap, subst, ◌∙◌, append_assoc, arith}
+use Rattle.std.specs.Prelude.{IsSome}
+use Rattle.std.specs.List.{AllByRecursion}
+use Rattle.std.proofs.KnownBytes.{Appends-nil}
 use Rattle.std.proofs.Math.Seq.{take-length}
 use Rattle.std.proofs.lemmas.List.{take_all, take_more, take-append-drop, append-nil}
-use Rattle.tect_ids.specs.declared.ids.Counts.{Counts}
 use Rattle.tect_ids.specs.declared.ids.OpId.{OpId}
 use Rattle.tect_ids.specs.declared.answer.Answer.{Answer}
 use Rattle.tect_ids.specs.declared.command.Command.{Command}
@@ -20,7 +18,7 @@ use Rattle.world_runs.specs.Moments.{Moment, opening, moment, IsWorldRun}
 use Rattle.world_runs.specs.Follows.{Acts, BeginsAndEnds, Follows, none_busy}
 use Rattle.world_runs.specs.Report.{report, answer_line, transactions}
 use Rattle.sound_runs.proofs.RunsKeep.{sound_at_each_moment}
-use Rattle.tree_runs.specs.Session.{IsPlayed, session_script}
+use Rattle.tree_runs.specs.Session.{session_script}
 use Rattle.tree_runs.proofs.Headlines.{run_headline}
 use Rattle.tree_runs.proofs.Scripts.{session_reported}
 use Rattle.tree_runs.proofs.Histories.{after_all-append, transactions-append}
@@ -30,9 +28,9 @@ use Rattle.tect_app.specs.Script.{counts, client, IsScripted}
 use Rattle.tect_app.specs.Output.{line_text, lines_text, end_text, output_text, tree_lines, IsNotOdd, IsReport}
 use Rattle.tect_app.specs.Headline.{IsCutOutput}
 use Rattle.tect_app.specs.Progress.{IsResting, IsReached, PlaysTo}
-use Rattle.tect_app.proofs.Commands.{all_played, all_taken, all_appended, all_last, scripted_played}
-use Rattle.tect_app.proofs.Sessions.{follows_more, report_more, IsDone, done_moment, IsShort, session_short, session_front, none_odd}
-use Rattle.tect_app.proofs.Fronts.{AppendsPrefix, prefix_whole, prefix_then, prefix_longer}
+use Rattle.tect_app.proofs.Commands.{all_played, all_taken, all_appended, all_last}
+use Rattle.tect_app.proofs.Sessions.{follows_more, report_more, done_moment, IsShort, session_short, session_front, none_odd}
+use Rattle.tect_app.proofs.Fronts.{AppendsPrefix, prefix_longer}
 
 -- ---- the report of the commands that were done
 

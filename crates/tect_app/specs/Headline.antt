@@ -3,7 +3,6 @@
 use Rattle.std.specs.Prelude.{ℕ, ◌≡◌, ◌+◌, ◌≤◌, ◌∷◌, [], ◌⊎◌, List, Option, IfSome, length, take, codes}
 use Rattle.std.specs.Io.KnownBytes.{Appends, Consumes, IsAtEnd}
 use Rattle.tect_ids.specs.declared.command.Command.{Command}
-use Rattle.tect_ids.specs.declared.script.ReportLine.{ReportLine}
 use Rattle.tect_edge.specs.Prefixes.{AppendsProperPrefix}
 use Rattle.tect_app.specs.Script.{IsScript, IsNoScript}
 use Rattle.tect_app.specs.Output.{output_text, tree_lines, IsReport}

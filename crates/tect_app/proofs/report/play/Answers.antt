@@ -1,4 +1,4 @@
-use Rattle.std.proofs.Common.{◌≡◌, ◌≤◌, ◌∷◌, ◌++◌, [], ap, ◌∙◌, rules, arith}
+use Rattle.std.proofs.Common.{◌≡◌, ◌∷◌, ◌++◌, [], ap, ◌∙◌, rules, arith}
 use Rattle.tect_ids.specs.declared.ids.OpId.{OpId}
 use Rattle.world_runs.specs.declared.event.Event.TheVariants.{Began}
 use Rattle.tect_world.specs.Life.{present, grown, next_op}

@@ -1,4 +1,4 @@
-use Rattle.std.proofs.Common.{◌≡◌, ◌+◌, ◌-◌, length, take, drop, length-drop, sym, ◌∙◌, rules, arith}
+use Rattle.std.proofs.Common.{◌≡◌, ◌+◌, ◌-◌, length, take, drop, length-drop, rules, arith}
 use Rattle.std.proofs.lemmas.List.{take_all}
 use Rattle.tect_app.proofs.Lines.{no_name, splits_at, name_fault, path_parts}
 use Rattle.tect_app.proofs.script.read_path.Goals as goal

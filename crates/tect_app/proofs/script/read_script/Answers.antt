@@ -1,7 +1,6 @@
-use Rattle.std.proofs.Common.{◌≡◌, ◌<◌, ◌++◌, ◌∷◌, [], length, length-append, sym, ap, ◌∙◌, append_assoc, rules, arith}
-use Rattle.std.specs.Prelude.{codes}
+use Rattle.std.proofs.Common.{◌≡◌, ◌<◌, ◌++◌, ◌∷◌, [], length, length-append, ap, rules, arith}
 use Rattle.std.proofs.lemmas.Result.{err_from_is_err_and}
-use Rattle.tect_app.proofs.Lines.{commands_text, AreLines, lines_rest, parts_push, named_push, lines_count, script_fault_from}
+use Rattle.tect_app.proofs.Lines.{commands_text, lines_rest, parts_push, named_push, lines_count, script_fault_from}
 use Rattle.tect_app.proofs.script.read_script.Goals as goal
 
 pub returns-in_default-clause-err : goal.returns-in_default-clause-err

@@ -1,4 +1,4 @@
-use Rattle.std.proofs.Common.{◌≡◌, ◌+◌, ◌≤◌, ◌++◌, length, vec_len}
+use Rattle.std.proofs.Common.{◌≡◌, ◌+◌, ◌++◌, length}
 use Rattle.tect_app.proofs.Lines.{commands_text, AreScripted, AreLines}
 use Rattle.tect_app.proofs.script.read_script.Given as goal
 
