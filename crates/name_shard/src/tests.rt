@@ -231,8 +231,17 @@ fn a_dump_shows_each_directory_before_its_entries(rt: HostRuntime) -> Result<(),
     Ok(())
 }
 
+fn digit(number: u32) -> u8 {
+    b'0' + (number % 10) as u8
+}
+
 fn digits(number: u32) -> [u8; 4] {
-    [1000, 100, 10, 1].map(|power| b'0' + (number / power % 10) as u8)
+    [
+        digit(number / 1000),
+        digit(number / 100),
+        digit(number / 10),
+        digit(number),
+    ]
 }
 
 /// A shard in whose root and in whose `HOME` the names of four digits were bound in scattered order.
