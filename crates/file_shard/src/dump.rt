@@ -1,6 +1,6 @@
 ghost use Rattle.std.specs.Prelude.{◌≡◌, IfOk};
 ghost use Rattle.std.specs.FinMap.{len};
-ghost use Rattle.file_shard.specs.Dumps.{file_line, files_dump};
+ghost use Rattle.store_rules.specs.Dumps.{file_line, files_dump};
 
 use crate::shard::FileShard;
 use store_rules::File;

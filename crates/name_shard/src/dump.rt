@@ -1,5 +1,5 @@
 ghost use Rattle.std.specs.Prelude.{◌≡◌, ◌++◌, IfOk, OnOk};
-ghost use Rattle.name_shard.specs.Dumps.{dir_line, dir_lines, entry_line, dir_state, names_dump};
+ghost use Rattle.store_rules.specs.Dumps.{dir_line, dir_lines, entry_line, dir_state, names_dump};
 
 use crate::shard::NameShard;
 use store_rules::{Directory, Entry};

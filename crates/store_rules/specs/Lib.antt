@@ -4,3 +4,4 @@ pub mod Files
 pub mod Store
 pub mod Views
 pub mod Places
+pub mod Dumps

@@ -1,6 +1,6 @@
 use Rattle.std.proofs.Common.{◌≡◌, map}
 use Rattle.ordered_rows.specs.Pairs.{pair_of}
-use Rattle.file_shard.specs.Dumps.{file_line}
+use Rattle.store_rules.specs.Dumps.{file_line}
 use Rattle.file_shard.proofs.shard.FileShard.dump.Given as goal
 
 abbrev pub invariant-loop-file : goal.invariant-loop-file

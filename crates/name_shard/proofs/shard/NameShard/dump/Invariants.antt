@@ -1,7 +1,7 @@
 use Rattle.std.proofs.Common.{◌≡◌, map}
 use Rattle.std.specs.List.{flat_map}
 use Rattle.ordered_rows.specs.Pairs.{pair_of}
-use Rattle.name_shard.specs.Dumps.{dir_lines}
+use Rattle.store_rules.specs.Dumps.{dir_lines}
 use Rattle.name_shard.proofs.shard.NameShard.dump.Given as goal
 
 abbrev pub invariant-loop-dir : goal.invariant-loop-dir

@@ -1,6 +1,6 @@
 use Rattle.std.proofs.Common.{◌≡◌, map, ◌++◌, ◌∷◌}
 use Rattle.ordered_rows.specs.Pairs.{pair_of}
-use Rattle.name_shard.specs.Dumps.{dir_line, entry_line}
+use Rattle.store_rules.specs.Dumps.{dir_line, entry_line}
 use Rattle.name_shard.proofs.shard.NameShard.dump_dir.Given as goal
 
 abbrev pub invariant-loop-key : goal.invariant-loop-key

@@ -1,20 +1,26 @@
--- What a dump of a name shard says: the directories by identifier, each followed by its entries by name.
-use Rattle.std.specs.Prelude.{List, ◌∷◌, map, None, if◌then◌else◌}
+-- What a dump of the store says: the directories by identifier, each followed by its entries by name; then the files by
+-- identifier.
+use Rattle.std.specs.Prelude.{List, ◌∷◌, ◌++◌, map, None, if◌then◌else◌}
 use Rattle.std.specs.List.{flat_map}
 use Rattle.std.specs.FinMap.{entries, len}
 use Rattle.tect_ids.specs.declared.ids.DirId.{DirId}
+use Rattle.tect_ids.specs.declared.ids.FileId.{FileId}
 use Rattle.tect_ids.specs.declared.key.Key.{Key}
 use Rattle.tect_ids.specs.declared.dump.DirState.{DirState}
-use Rattle.tect_ids.specs.declared.dump.DirState.TheVariants as state
+use Rattle.tect_ids.specs.declared.dump.DirState.TheVariants as dir_states
+use Rattle.tect_ids.specs.declared.dump.FileState.TheVariants as file_states
 use Rattle.tect_ids.specs.declared.dump.DumpLine.{DumpLine}
 use Rattle.tect_ids.specs.declared.dump.DumpLine.TheVariants as line
 use Rattle.key_maps.specs.Maps.{within}
 use Rattle.store_rules.specs.declared.names.Directory.{Directory}
 use Rattle.store_rules.specs.declared.names.Entry.{Entry}
+use Rattle.store_rules.specs.declared.files.File.{File}
 use Rattle.store_rules.specs.Names.{Names}
+use Rattle.store_rules.specs.Files.{Files}
+use Rattle.store_rules.specs.Store.{Store}
 
 abbrev pub dir_state : Directory → DirState
-dir_state d = if d.sealed then state.Sealed else state.Open
+dir_state d = if d.sealed then dir_states.Sealed else dir_states.Open
 
 abbrev pub dir_line : Names → DirId × Directory → DumpLine
 dir_line s x = line.Dir x.0 (x.1).parent (dir_state x.1) (len (within s.entries x.0)) (len (x.1).holds) None
@@ -27,3 +33,12 @@ dir_lines s x = dir_line s x ∷ map entry_line (entries (within s.entries x.0))
 
 abbrev pub names_dump : Names → List DumpLine
 names_dump s = flat_map (dir_lines s) (entries s.dirs)
+
+abbrev pub file_line : FileId × File → DumpLine
+file_line x = line.File x.0 file_states.Open (x.1).token 0 (len (x.1).holds)
+
+abbrev pub files_dump : Files → List DumpLine
+files_dump s = map file_line (entries s)
+
+abbrev pub store_dump : Store → List DumpLine
+store_dump s = names_dump s.names ++ files_dump s.files
