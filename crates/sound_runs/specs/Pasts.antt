@@ -2,7 +2,7 @@
 use Rattle.std.specs.Prelude.{List, [], ◌∷◌}
 use Rattle.tect_ids.specs.declared.ids.Counts.{Counts}
 use Rattle.world_runs.specs.declared.event.Event.{Event}
-use Rattle.world_runs.specs.declared.event.Event.TheVariants.{Began, Acted, Ended, Stopped}
+use Rattle.world_runs.specs.declared.event.Event.TheVariants.{Began, Acted, Ended, Stopped, Failed, Dumped}
 use Rattle.world_runs.specs.Moments.{Moment, opening, after, moment}
 use Rattle.store_world.specs.Worlds.{Ghost, World, opening_ghost, ghost_next}
 
@@ -12,6 +12,8 @@ ghost_after m g (Began op c) = g
 ghost_after m g (Acted op q x) = ghost_next m.store g q
 ghost_after m g (Ended op a) = g
 ghost_after m g (Stopped op) = g
+ghost_after m g (Failed op a) = g
+ghost_after m g Dumped = g
 
 -- the past after these events
 abbrev pub ghosts_after : Moment → Ghost → List Event → Ghost

@@ -22,12 +22,23 @@ abbrev pub act_count : Option AnyReq → ℕ
 act_count None = 0
 act_count (Some q) = 1
 
+-- the op's end with that answer: it came to it, or memory was wanting
+abbrev pub EndsWith : OpId → Event → Answer → Type 0
+EndsWith op (Ended other a) x = (other ≡ op) × (a ≡ x)
+EndsWith op (Failed other a) x = (other ≡ op) × (a ≡ x)
+EndsWith op (Began other c) x = ⊥
+EndsWith op (Acted other q r) x = ⊥
+EndsWith op (Stopped other) x = ⊥
+EndsWith op Dumped x = ⊥
+
 -- The op goes on by transactions to its end with that answer.
 pub record RanToEnd (old new : Life) (op : OpId) (answer : Answer) : Type 0 where
   pub acts : List Event
   pub count : ℕ
+  pub end : Event
   pub are_acts : Acts op count acts
-  pub history : new ≡ grown old (acts ++ Ended op answer ∷ [])
+  pub ends : EndsWith op end answer
+  pub history : new ≡ grown old (acts ++ end ∷ [])
 
 -- The op goes on by transactions.
 pub record GoesOn (old new : Life) (op : OpId) : Type 0 where
@@ -35,3 +46,9 @@ pub record GoesOn (old new : Life) (op : OpId) : Type 0 where
   pub count : ℕ
   pub are_acts : Acts op count acts
   pub history : new ≡ grown old acts
+
+-- A step of the op, or its end for want of memory.
+abbrev pub Stepped : Life → Life → OpId → Turned → Type 0
+Stepped old new op turned =
+    ((new ≡ grown old (step_events (present old) op)) × (turned ≡ turned_by (step_answer (present old) op)))
+    ⊎ ((new ≡ grown old (Failed op answers.NoMemory ∷ [])) × (turned ≡ Done answers.NoMemory))

@@ -10,7 +10,7 @@ use Rattle.tect_ids.specs.declared.script.Line.TheVariants as lines
 use Rattle.store_rules.specs.declared.any.AnyReq.{AnyReq}
 use Rattle.store_rules.specs.declared.any.AnyReply.{AnyReply}
 use Rattle.world_runs.specs.declared.event.Event.{Event}
-use Rattle.world_runs.specs.declared.event.Event.TheVariants.{Began, Acted, Ended, Stopped}
+use Rattle.world_runs.specs.declared.event.Event.TheVariants.{Began, Acted, Ended, Stopped, Failed, Dumped}
 
 -- just that many transactions of the op
 abbrev pub Acts : OpId → ℕ → List Event → Type 0
@@ -19,10 +19,21 @@ Acts op n (Acted other q x ∷ es) = (other ≡ op) × ((rest : ℕ) × (n ≡ r
 Acts op n (Began other c ∷ es) = ⊥
 Acts op n (Ended other a ∷ es) = ⊥
 Acts op n (Stopped other ∷ es) = ⊥
+Acts op n (Failed other a ∷ es) = ⊥
+Acts op n (Dumped ∷ es) = ⊥
+
+-- the op comes to its answer, or memory was wanting
+abbrev pub IsEndOf : OpId → Event → Type 0
+IsEndOf op (Ended other a) = other ≡ op
+IsEndOf op (Failed other a) = other ≡ op
+IsEndOf op (Began other c) = ⊥
+IsEndOf op (Acted other q x) = ⊥
+IsEndOf op (Stopped other) = ⊥
+IsEndOf op Dumped = ⊥
 
 -- transactions of the op, that many, and then its end
 abbrev pub EndsAfter : OpId → ℕ → List Event → Type 0
-EndsAfter op n es = (front : List Event) × (a : Answer) × (es ≡ front ++ Ended op a ∷ []) × Acts op n front
+EndsAfter op n es = (front : List Event) × (end : Event) × (es ≡ front ++ end ∷ []) × Acts op n front × IsEndOf op end
 
 -- the op runs to its end
 abbrev pub RunsToEnd : OpId → List Event → Type 0
@@ -62,7 +73,7 @@ FollowsFrom busy [] es = es ≡ []
 FollowsFrom busy (lines.Client client actor act ∷ ls) es =
     (part : List Event) × (rest : List Event) × (next : Option OpId) × (es ≡ part ++ rest) × DoesLine actor (busy actor) act part next
     × FollowsFrom (with_busy busy actor next) ls rest
-FollowsFrom busy (lines.Dump ∷ ls) es = FollowsFrom busy ls es
+FollowsFrom busy (lines.Dump ∷ ls) es = (rest : List Event) × (es ≡ Dumped ∷ rest) × FollowsFrom busy ls rest
 FollowsFrom busy (lines.Store counts ∷ ls) es = ⊥
 FollowsFrom busy (lines.Sweep ∷ ls) es = ⊥
 FollowsFrom busy (lines.Lose disk ∷ ls) es = ⊥

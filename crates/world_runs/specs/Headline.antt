@@ -7,7 +7,7 @@ use Rattle.tect_ids.specs.declared.answer.Answer.TheVariants as answers
 use Rattle.tect_ids.specs.Keys.{op_eq}
 use Rattle.tree_model.specs.Tree.{opening_tree}
 use Rattle.world_runs.specs.declared.event.Event.{Event}
-use Rattle.world_runs.specs.declared.event.Event.TheVariants.{Began, Acted, Ended, Stopped}
+use Rattle.world_runs.specs.declared.event.Event.TheVariants.{Began, Acted, Ended, Stopped, Failed, Dumped}
 use Rattle.world_runs.specs.TreeSteps.{Told, tree_steps, IsTreeRun}
 use Rattle.world_runs.specs.Points.{of_op, Point, LacksName}
 
@@ -16,6 +16,8 @@ begun_by (Began other c) op = if op_eq other op then Some c else None
 begun_by (Acted other q x) op = None
 begun_by (Ended other a) op = None
 begun_by (Stopped other) op = None
+begun_by (Failed other a) op = None
+begun_by Dumped op = None
 
 abbrev pub or_later : Option Command → Option Command → Option Command
 or_later None later = later

@@ -5,4 +5,5 @@ pub mod TreeSteps
 pub mod Points
 pub mod Headline
 pub mod Follows
+pub mod Turns
 pub mod Report

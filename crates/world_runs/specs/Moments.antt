@@ -4,6 +4,7 @@ use Rattle.tect_ids.specs.declared.ids.Counts.{Counts}
 use Rattle.tect_ids.specs.declared.ids.OpId.{OpId}
 use Rattle.tect_ids.specs.declared.command.Command.{Command}
 use Rattle.tect_ids.specs.declared.answer.Answer.{Answer}
+use Rattle.tect_ids.specs.declared.answer.Answer.TheVariants as answers
 use Rattle.tect_ids.specs.Keys.{op_eq}
 use Rattle.store_rules.specs.declared.any.AnyReq.{AnyReq}
 use Rattle.store_rules.specs.declared.any.AnyReply.{AnyReply}
@@ -13,7 +14,7 @@ use Rattle.store_rules.specs.Views.{is_made}
 use Rattle.op_names.specs.declared.program.Program.{Program}
 use Rattle.op_names.specs.Programs.{object_number, phase_ask, phase_hear, phase_answer, started}
 use Rattle.world_runs.specs.declared.event.Event.{Event}
-use Rattle.world_runs.specs.declared.event.Event.TheVariants.{Began, Acted, Ended, Stopped}
+use Rattle.world_runs.specs.declared.event.Event.TheVariants.{Began, Acted, Ended, Stopped, Failed, Dumped}
 use Rattle.world_runs.specs.Served.{IsServed}
 
 -- an actor: how many commands it began, the serial of the next object that it makes, and its running command
@@ -71,12 +72,19 @@ pub record CanBegin (a : Actor) (op : OpId) : Type 0 where
   pub few : op.number < 2 ^ 31
   pub is_actor : (1 ≤ op.actor) × (op.actor ≤ 65)
 
--- what may happen at a moment
+-- the answer of a command that ends for want of memory
+abbrev pub IsLack : Answer → Type 0
+IsLack answers.NoMemory = Unit {0}
+IsLack _ = ⊥
+
+-- What may happen at a moment. Memory may be wanting at any.
 abbrev pub May : Moment → Event → Type 0
 May m (Began op c) = CanBegin (m.actors op.actor) op × IsServed c
 May m (Acted op q x) = (asked m op ≡ Some q) × (x ≡ store_reply m.store q)
 May m (Ended op a) = answered m op ≡ Some a
 May m (Stopped op) = (p : Program) × (running m op ≡ Some p)
+May m (Failed op a) = IsLack a × ((p : Program) × (running m op ≡ Some p))
+May m Dumped = Unit {0}
 
 -- the command goes on at a reply
 abbrev pub heard : Counts → ℕ → AnyReq → AnyReply → Option Program → Option Program
@@ -100,6 +108,8 @@ after m (Began op c) = with_actor m op.actor (begun (m.actors op.actor) op c)
 after m (Acted op q x) = with_actor (record m { store = store_step m.store q }) op.actor (went_on m.counts (m.actors op.actor) q x)
 after m (Ended op a) = with_actor m op.actor (record (m.actors op.actor) { running = None })
 after m (Stopped op) = with_actor m op.actor (record (m.actors op.actor) { running = None; stopped = true })
+after m (Failed op a) = with_actor m op.actor (record (m.actors op.actor) { running = None })
+after m Dumped = m
 
 abbrev pub after_all : Moment → List Event → Moment
 after_all m [] = m

@@ -24,4 +24,11 @@ pub enum Event {
     Stopped {
         op: OpId,
     },
+    /// The op's command ended for want of memory, with what it had done so far.
+    Failed {
+        op: OpId,
+        answer: Answer,
+    },
+    /// The whole store was dumped.
+    Dumped,
 }
