@@ -115,7 +115,7 @@ one_of_both true false = refl
 one_of_both false b = refl
 
 -- the same of an event
-event_splits : (e : Event) (op : OpId) → one_if (is_act_of op e) ≡ one_if (is_look_of op e) + one_if (is_other_of op e)
+pub event_splits : (e : Event) (op : OpId) → one_if (is_act_of op e) ≡ one_if (is_look_of op e) + one_if (is_other_of op e)
 event_splits (Began other c) op = refl
 event_splits (Acted other q x) op = one_of_both (op_eq other op) (is_look q)
 event_splits (Ended other a) op = refl

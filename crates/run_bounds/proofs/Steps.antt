@@ -186,7 +186,7 @@ heard_runs counts serial q x o op p e =
     rw (there, yes) refl
 
 -- the op's own transaction
-own_acts : (m : Moment) (op : OpId) (q : AnyReq) (x : AnyReply) → May m (Acted op q x) → (p : Program) → Runs m op p → GoesOn m (Acted op q x) op p
+pub own_acts : (m : Moment) (op : OpId) (q : AnyReq) (x : AnyReply) → May m (Acted op q x) → (p : Program) → Runs m op p → GoesOn m (Acted op q x) op p
 own_acts m op q x may p r =
     let serial : ℕ = (m.actors op.actor).serial in
     let f : Falls p.command (phase_ask p.op (object_number p.op.actor serial) p.command p.phase) (hears m op q x p).phase (looks_left p.command p.phase) (others_left p.phase) =
