@@ -1,7 +1,6 @@
 -- The fields of an actor are its state, and it runs its last op.
-use Rattle.std.specs.Prelude.{◌≡◌, ℕ}
+use Rattle.std.specs.Prelude.{◌≡◌}
 use Rattle.std.specs.Option.{ForSome}
-use Rattle.world_runs.specs.Moments.{Actor}
 use Rattle.actors.specs.ActorState.{ActorState, op_of}
 use Rattle.actors.specs.declared.actor.Actor.TheInside.{Inside}
 

@@ -1,8 +1,0 @@
-use tect_ids::Answer;
-
-/// Whether a command came to its end.
-#[derive(Drop)]
-pub enum Turned {
-    Going,
-    Done(Answer),
-}
