@@ -1,5 +1,5 @@
 -- each running command can go on to its end, at whatever moment of a run
-use Rattle.std.proofs.Common.{◌≡◌, ◌<◌, ◌≤◌, ◌+◌, ℕ, zero, suc, ◌⊎◌, inl, inr, Bool, true, false, ◌||◌, is_some, if◌then◌else◌, Option, Some, None, List, [], ◌∷◌, ◌++◌, refl, sym, ap, subst, ◌∙◌, arith, take}
+use Rattle.std.proofs.Common.{◌≡◌, ◌≤◌, ◌+◌, ℕ, zero, suc, ◌⊎◌, inl, inr, true, false, ◌||◌, is_some, Option, Some, None, List, [], ◌∷◌, ◌++◌, refl, sym, subst, ◌∙◌, arith, take}
 use Rattle.tect_ids.specs.declared.ids.OpId.{OpId}
 use Rattle.tect_ids.specs.declared.answer.Answer.{Answer}
 use Rattle.tect_ids.specs.Keys.{op_eq}
@@ -9,7 +9,7 @@ use Rattle.store_rules.specs.Store.{store_reply}
 use Rattle.op_names.specs.declared.program.Program.{Program}
 use Rattle.world_runs.specs.declared.event.Event.{Event}
 use Rattle.world_runs.specs.declared.event.Event.TheVariants.{Began, Acted, Ended, Stopped, Failed, Dumped}
-use Rattle.world_runs.specs.Moments.{Moment, May, after, RunFrom, running, asked, answered, program_of}
+use Rattle.world_runs.specs.Moments.{Moment, after, running, asked, answered, program_of}
 use Rattle.world_runs.specs.Follows.{Acts, EndsAfter, NoneFails}
 use Rattle.world_runs.specs.Report.{is_act_of}
 use Rattle.store_world.specs.Worlds.{Ghost}

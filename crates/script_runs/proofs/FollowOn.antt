@@ -1,5 +1,5 @@
 -- a run follows on, and its actors stand by their turns
-use Rattle.std.proofs.Common.{◌≡◌, ◌≢◌, ℕ, ◌+◌, ◌≤◌, List, [], ◌∷◌, ◌++◌, length, Option, refl, sym, ap, subst, ◌∙◌, arith, append_assoc}
+use Rattle.std.proofs.Common.{◌≡◌, ◌≢◌, ℕ, ◌+◌, List, [], ◌∷◌, ◌++◌, length, Option, refl, sym, ap, subst, ◌∙◌, arith, append_assoc}
 use Rattle.tect_ids.specs.declared.ids.Counts.{Counts}
 use Rattle.tect_ids.specs.declared.ids.OpId.{OpId}
 use Rattle.tect_ids.specs.declared.script.Act.{Act}
@@ -7,16 +7,16 @@ use Rattle.tect_ids.specs.declared.script.Line.{Line}
 use Rattle.tect_ids.specs.declared.script.Line.TheVariants as lines
 use Rattle.world_runs.specs.declared.event.Event.{Event}
 use Rattle.world_runs.specs.declared.event.Event.TheVariants.{Dumped}
-use Rattle.world_runs.specs.Moments.{Actor, Moment, opening, after_all, RunFrom, IsWorldRun, moment}
-use Rattle.world_runs.specs.Follows.{DoesLine, Busy, none_busy, with_busy, FollowsFrom, Follows}
-use Rattle.world_runs.specs.Turns.{ClientTurn, Turns, all_idle, with_turn, turn_after, turns_after, TakesAct, InTurnFrom, InTurn}
+use Rattle.world_runs.specs.Moments.{Moment, opening, after_all, RunFrom, moment}
+use Rattle.world_runs.specs.Follows.{DoesLine, Busy, with_busy, FollowsFrom}
+use Rattle.world_runs.specs.Turns.{Turns, all_idle, with_turn, turn_after, turns_after, TakesAct, InTurnFrom}
 use Rattle.store_world.specs.Worlds.{Ghost, opening_ghost}
 use Rattle.sound_runs.specs.Known.{AllSound}
 use Rattle.sound_runs.specs.Pasts.{ghosts_after}
 use Rattle.sound_runs.proofs.MomentsKeep.{opening_all_sound}
 use Rattle.sound_runs.proofs.RunsKeep.{run_keeps}
 use Rattle.tree_runs.proofs.Histories.{after_all-append, run-front, run-rest}
-use Rattle.script_runs.specs.Standing.{busy_at, AtTurn}
+use Rattle.script_runs.specs.Standing.{busy_at}
 use Rattle.script_runs.specs.Laws.{RunFollowsOn, Stands, StandsByTurn}
 use Rattle.script_runs.proofs.Moves.{changed}
 use Rattle.script_runs.proofs.Lines.{IsDone, line_does, busy_after, turn_stands}

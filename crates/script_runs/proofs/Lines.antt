@@ -1,14 +1,14 @@
 -- what the line of an actor changes
-use Rattle.std.proofs.Common.{◌≡◌, ◌≢◌, inl, inr, ℕ, ◌+◌, ◌≤◌, eqb, Bool, true, false, if◌then◌else◌, Option, Some, None, List, [], ◌∷◌, ◌++◌, refl, sym, ap, subst, ◌∙◌, arith}
+use Rattle.std.proofs.Common.{◌≡◌, ◌≢◌, inl, inr, ℕ, ◌+◌, ◌≤◌, true, Option, Some, None, List, [], ◌∷◌, refl, sym, ap, subst, ◌∙◌, arith}
 use Rattle.tect_ids.specs.declared.ids.OpId.{OpId}
 use Rattle.tect_ids.specs.declared.command.Command.{Command}
 use Rattle.tect_ids.specs.declared.script.Act.{Act}
 use Rattle.tect_ids.specs.declared.script.Act.TheVariants as acts
 use Rattle.op_names.specs.declared.program.Program.{Program}
 use Rattle.world_runs.specs.declared.event.Event.{Event}
-use Rattle.world_runs.specs.declared.event.Event.TheVariants.{Began, Acted, Ended, Stopped, Failed, Dumped}
-use Rattle.world_runs.specs.Moments.{Actor, Moment, May, after, after_all, RunFrom}
-use Rattle.world_runs.specs.Follows.{Acts, EndsAfter, RunsToEnd, BeginsAndEnds, DoesLine, Busy, with_busy}
+use Rattle.world_runs.specs.declared.event.Event.TheVariants.{Began, Stopped}
+use Rattle.world_runs.specs.Moments.{Actor, Moment, after, after_all, RunFrom}
+use Rattle.world_runs.specs.Follows.{Acts, EndsAfter, BeginsAndEnds, DoesLine, with_busy}
 use Rattle.world_runs.specs.Turns.{ClientTurn, TakesAct, turn_after}
 use Rattle.world_runs.specs.Turns as turns
 use Rattle.sound_runs.specs.Known.{AllSound, Knows}
@@ -57,7 +57,7 @@ pub record IsDone (m n : Moment) (a : ℕ) (act : Act) (next : Option OpId) : Ty
   pub goes_on : GoesOn act → (n.actors a).stopped ≡ (m.actors a).stopped
   pub busy : busy_at n a ≡ next
 
-keeps_done : (m n : Moment) (a : ℕ) (act : Act) (next : Option OpId) → Keeps m n a next → IsDone m n a act next
+pub keeps_done : (m n : Moment) (a : ℕ) (act : Act) (next : Option OpId) → Keeps m n a next → IsDone m n a act next
 keeps_done m n a act next k = record { others = k.others; number = rw k.number (omega arith); goes_on = λ g. k.stopped; busy = k.busy }
 
 begun_done : (m n : Moment) (a : ℕ) (act : Act) (next : Option OpId) → Moves m n a ((m.actors a).number + 1) (m.actors a).stopped next → IsDone m n a act next

@@ -1,6 +1,5 @@
 -- each script in turn can be run on
-use Rattle.std.proofs.Common.{◌≡◌, ◌<◌, ◌≤◌, ◌+◌, ◌^◌, ℕ, inl, inr, ◌⊎◌, false, Option, Some, None, List, [], ◌∷◌, ◌++◌, length, refl, sym, ap, subst, ◌∙◌, arith, take, length-append}
-use Rattle.tect_ids.specs.declared.ids.Counts.{Counts}
+use Rattle.std.proofs.Common.{◌≡◌, ◌<◌, ◌≤◌, ◌+◌, ◌^◌, ℕ, inl, inr, ◌⊎◌, Option, Some, None, List, [], ◌∷◌, ◌++◌, length, refl, sym, ap, subst, arith, take, length-append}
 use Rattle.tect_ids.specs.declared.ids.OpId.{OpId}
 use Rattle.tect_ids.specs.declared.command.Command.{Command}
 use Rattle.tect_ids.specs.declared.script.Act.{Act}
@@ -11,8 +10,8 @@ use Rattle.op_names.specs.Programs.{started}
 use Rattle.world_runs.specs.declared.event.Event.{Event}
 use Rattle.world_runs.specs.declared.event.Event.TheVariants.{Began, Ended, Stopped, Dumped}
 use Rattle.world_runs.specs.Served.{IsServed}
-use Rattle.world_runs.specs.Moments.{Actor, Moment, May, opening, after, after_all, RunFrom, IsWorldRun, moment, running, program_of, begun}
-use Rattle.world_runs.specs.Follows.{Acts, DoesLine, Busy, with_busy, FollowsFrom, Follows, NoneFails}
+use Rattle.world_runs.specs.Moments.{Moment, May, opening, after, after_all, RunFrom, IsWorldRun, moment, running, program_of, begun}
+use Rattle.world_runs.specs.Follows.{Acts, DoesLine, Busy, FollowsFrom, NoneFails}
 use Rattle.world_runs.specs.Turns.{ClientTurn, Turns, all_idle, with_turn, turn_after, turns_after, TakesAct, InTurnFrom, InTurn}
 use Rattle.world_runs.specs.Turns as turns
 use Rattle.store_world.specs.Worlds.{Ghost, opening_ghost}
@@ -20,14 +19,16 @@ use Rattle.sound_runs.specs.Known.{AllSound}
 use Rattle.sound_runs.specs.Pasts.{ghost_after, ghosts, ghosts_after}
 use Rattle.sound_runs.proofs.MomentsKeep.{event_sound, opening_all_sound}
 use Rattle.sound_runs.proofs.RunsKeep.{run_keeps, front_runs, run_all_sound}
-use Rattle.tree_runs.proofs.Histories.{after_all-append, run-front, run-append, none_fails-append, acts_none_fail}
+use Rattle.tree_runs.proofs.Histories.{run-front, run-append, none_fails-append, acts_none_fail}
 use Rattle.tree_runs.proofs.Ends.{CanEnd}
 use Rattle.script_runs.specs.Standing.{op_of, busy_at, AtTurn}
-use Rattle.script_runs.specs.Laws.{Stands, EachScriptCanBeRunOn}
+use Rattle.script_runs.specs.Smooth.{EndsAtOnce}
+use Rattle.script_runs.specs.Laws.{EachScriptCanBeRunOn}
 use Rattle.script_runs.proofs.Moves.{changed_there}
 use Rattle.script_runs.proofs.Lines.{IsBusy, busy_is, IsDone, line_does, busy_after}
 use Rattle.script_runs.proofs.FollowOn.{AllStand, stand_after, stand_by_turn, opening_stand, run_follows_on}
 use Rattle.script_runs.proofs.CanEnd.{runs_as_its_op, busy_runs, running_ends, to_end, end_follows, end_none_fails, acts_take}
+use Rattle.script_runs.proofs.AtOnce.{at_once-append, end_at_once, take_at_once}
 
 -- ---- a line
 
@@ -38,9 +39,10 @@ record CanDo (m : Moment) (a : ℕ) (busy : Option OpId) (act : Act) : Type 0 wh
   run : RunFrom m events
   does : DoesLine a busy act events next
   none_fails : NoneFails events
+  at_once : EndsAtOnce m events
 
 nothing : (m : Moment) (a : ℕ) (busy next : Option OpId) (act : Act) → DoesLine a busy act [] next → CanDo m a busy act
-nothing m a busy next act does = record { events = []; next = next; run = tt; does = does; none_fails = tt }
+nothing m a busy next act does = record { events = []; next = next; run = tt; does = does; none_fails = tt; at_once = tt }
 
 -- an idle actor
 module _ (m : Moment) (g : Ghost) (s : AllSound m g) (a : ℕ) (c : Command) (from : 1 ≤ a) (upto : a ≤ 64) (served : IsServed c) (stood : AtTurn turns.Idle (m.actors a))
@@ -63,7 +65,7 @@ module _ (m : Moment) (g : Ghost) (s : AllSound m g) (a : ℕ) (c : Command) (fr
   can = running_ends (after m began) (ghost_after m g began) (event_sound m g began s may) op (started op c) runs
 
   can_begin : CanDo m a None (acts.Begin c)
-  can_begin = record { events = began ∷ []; next = Some op; run = (may, tt); does = (op, refl, refl, refl); none_fails = (tt, tt) }
+  can_begin = record { events = began ∷ []; next = Some op; run = (may, tt); does = (op, refl, refl, refl); none_fails = (tt, tt); at_once = (tt, tt) }
 
   can_do : CanDo m a None (acts.Do c)
   can_do = record {
@@ -72,6 +74,7 @@ module _ (m : Moment) (g : Ghost) (s : AllSound m g) (a : ℕ) (c : Command) (fr
     run = (may, can.run);
     does = ((op, to_end (after m began) op can, refl, refl, (can.count, end_follows (after m began) op can)), refl);
     none_fails = (tt, end_none_fails (after m began) op can);
+    at_once = (tt, end_at_once op (after m began) can.count can.front can.answer can.acts can.run);
   }
 
 -- a busy actor
@@ -86,25 +89,26 @@ module _ (m : Moment) (g : Ghost) (s : AllSound m g) (a : ℕ) (op : OpId) (is :
   ends = running_ends m g s op busy.program runs_on
 
   can_run : CanDo m a (Some op) acts.Run
-  can_run = record { events = to_end m op ends; next = None; run = ends.run; does = ((ends.count, end_follows m op ends), refl); none_fails = end_none_fails m op ends }
+  can_run = record { events = to_end m op ends; next = None; run = ends.run; does = ((ends.count, end_follows m op ends), refl); none_fails = end_none_fails m op ends; at_once = end_at_once op m ends.count ends.front ends.answer ends.acts ends.run }
 
   can_stop : CanDo m a (Some op) acts.Stop
-  can_stop = record { events = Stopped op ∷ []; next = None; run = ((busy.program, runs_on), tt); does = (refl, refl); none_fails = (tt, tt) }
+  can_stop = record { events = Stopped op ∷ []; next = None; run = ((busy.program, runs_on), tt); does = (refl, refl); none_fails = (tt, tt); at_once = (tt, tt) }
 
   -- it ends by then, or there are more transactions to come
-  can_step : (n : ℕ) → (ends.count ≤ n) ⊎ (n ≤ ends.count) → CanDo m a (Some op) (acts.Step n)
-  can_step n (inl short) = record { events = to_end m op ends; next = None; run = ends.run; does = inr (ends.count, short, end_follows m op ends, refl); none_fails = end_none_fails m op ends }
+  can_step : (n : ℕ) → (ends.count ≤ n) ⊎ (n + 1 ≤ ends.count) → CanDo m a (Some op) (acts.Step n)
+  can_step n (inl short) = record { events = to_end m op ends; next = None; run = ends.run; does = inr (ends.count, short, end_follows m op ends, refl); none_fails = end_none_fails m op ends; at_once = end_at_once op m ends.count ends.front ends.answer ends.acts ends.run }
   can_step n (inr long) =
-      let these : Acts op n (take n ends.front) = acts_take op n ends.count ends.front long ends.acts in
+      let these : Acts op n (take n ends.front) = acts_take op n ends.count ends.front (omega (arith, long)) ends.acts in
       record {
         events = take n ends.front;
         next = Some op;
         run = front_runs n ends.front m (run-front m ends.front (Ended op ends.answer ∷ []) ends.run);
         does = inl (these, refl);
         none_fails = acts_none_fail op n (take n ends.front) these;
+        at_once = take_at_once op m n ends.count ends.front (Ended op ends.answer ∷ []) long ends.acts ends.run;
       }
 
-either : (n k : ℕ) → (n ≤ k) ⊎ (k ≤ n)
+either : (n k : ℕ) → (n ≤ k) ⊎ (k + 1 ≤ n)
 either n k = grind arith
 
 module _ (m : Moment) (g : Ghost) (s : AllSound m g) (a : ℕ) where
@@ -144,9 +148,10 @@ record CanFollow (m : Moment) (ls : List Line) : Type 0 where
   run : RunFrom m events
   follows : FollowsFrom (busy_at m) ls events
   none_fails : NoneFails events
+  at_once : EndsAtOnce m events
 
 lines_can : (ls : List Line) (m : Moment) (g : Ghost) (turns : Turns) (k : ℕ) → AllSound m g → InTurnFrom turns ls → AllStand m turns k → k + length ls < 2 ^ 31 → CanFollow m ls
-lines_can [] m g turns k s in_turn all few = record { events = []; run = tt; follows = refl; none_fails = tt }
+lines_can [] m g turns k s in_turn all few = record { events = []; run = tt; follows = refl; none_fails = tt; at_once = tt }
 lines_can (lines.Client client a act ∷ ls) m g turns k s in_turn all few =
     let d : CanDo m a (busy_at m a) act = line_can m g s a (turns a) act in_turn.0 in_turn.1 in_turn.2 (all a).stands (omega (arith, (all a).began, few)) in
     let n : Moment = after_all m d.events in
@@ -159,10 +164,11 @@ lines_can (lines.Client client a act ∷ ls) m g turns k s in_turn all few =
       run = run-append m d.events rest.events d.run rest.run;
       follows = (d.events, rest.events, d.next, refl, d.does, subst (λ (b : Busy). FollowsFrom b ls rest.events) (sym (busy_after m n a act d.next done)) rest.follows);
       none_fails = none_fails-append d.events rest.events d.none_fails rest.none_fails;
+      at_once = at_once-append m d.events rest.events d.at_once rest.at_once;
     }
 lines_can (lines.Dump ∷ ls) m g turns k s in_turn all few =
     let rest : CanFollow m ls = lines_can ls m g turns k s in_turn all (omega (arith, few)) in
-    record { events = Dumped ∷ rest.events; run = (tt, rest.run); follows = (rest.events, refl, rest.follows); none_fails = (tt, rest.none_fails) }
+    record { events = Dumped ∷ rest.events; run = (tt, rest.run); follows = (rest.events, refl, rest.follows); none_fails = (tt, rest.none_fails); at_once = (tt, rest.at_once) }
 lines_can (lines.Store counts ∷ ls) m g turns k s in_turn all few = absurd in_turn
 lines_can (lines.Sweep ∷ ls) m g turns k s in_turn all few = absurd in_turn
 lines_can (lines.Lose disk ∷ ls) m g turns k s in_turn all few = absurd in_turn
@@ -193,4 +199,4 @@ each_script_can_be_run_on counts front back history in_turn few run f =
     lines_can back (moment counts history) (ghosts counts history) (turns_after all_idle front) (0 + length front) (run_all_sound counts history run) (turn_back front back all_idle in_turn) all
     (omega (arith, few, length-append front back)) in
     let whole : IsWorldRun counts (history ++ rest.events) = run-append (opening counts) history rest.events run rest.run in
-    (rest.events, whole, run_follows_on counts front back history rest.events whole f rest.follows, rest.none_fails)
+    (rest.events, whole, run_follows_on counts front back history rest.events whole f rest.follows, rest.none_fails, rest.at_once)

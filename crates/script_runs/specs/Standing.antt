@@ -1,5 +1,5 @@
 -- How the actors stand at a moment: the op that each is busy with, and what its turn tells of it.
-use Rattle.std.specs.Prelude.{◌≡◌, ℕ, Bool, false, Option, Some, None}
+use Rattle.std.specs.Prelude.{◌≡◌, false, Option, Some, None}
 use Rattle.tect_ids.specs.declared.ids.OpId.{OpId}
 use Rattle.op_names.specs.declared.program.Program.{Program}
 use Rattle.world_runs.specs.Moments.{Actor, Moment}
