@@ -80,22 +80,47 @@ fn tree(alloc: Global) -> Result<Tree, Fail> {
     Ok(tree)
 }
 
-#[test]
-fn directories_are_made_once(rt: HostRuntime) -> Result<(), Fail> {
-    let mut tree = Tree::start(rt.alloc())?;
-    let make = TreeStep::MakeDir {
+fn make_dir(tree: &mut Tree, text: &str) -> Result<(), Fail> {
+    let step = TreeStep::MakeDir {
         dir: DIR,
         parent: ROOT,
     };
-    let grant = TreeStep::GrantDir { dir: DIR };
-    let check = TreeStep::Check { dir: DIR };
-    told(&mut tree, &grant, "Refused { why: NoDir }")?;
-    told(&mut tree, &make, "Ok { shown: Done }")?;
-    told(&mut tree, &make, "Refused { why: Exists }")?;
-    told(&mut tree, &grant, "Ok { shown: Done }")?;
-    told(
+    told(tree, &step, text)
+}
+
+fn grant_dir(tree: &mut Tree, text: &str) -> Result<(), Fail> {
+    told(tree, &TreeStep::GrantDir { dir: DIR }, text)
+}
+
+fn make_file(tree: &mut Tree, text: &str) -> Result<(), Fail> {
+    let step = TreeStep::MakeFile {
+        file: FILE,
+        token: None,
+    };
+    told(tree, &step, text)
+}
+
+fn grant_file(tree: &mut Tree, text: &str) -> Result<(), Fail> {
+    told(tree, &TreeStep::GrantFile { file: FILE }, text)
+}
+
+fn check(tree: &mut Tree, text: &str) -> Result<(), Fail> {
+    told(tree, &TreeStep::Check { dir: DIR }, text)
+}
+
+fn list(tree: &mut Tree, text: &str) -> Result<(), Fail> {
+    told(tree, &TreeStep::List { dir: ROOT }, text)
+}
+
+#[test]
+fn directories_are_made_once(rt: HostRuntime) -> Result<(), Fail> {
+    let mut tree = Tree::start(rt.alloc())?;
+    grant_dir(&mut tree, "Refused { why: NoDir }")?;
+    make_dir(&mut tree, "Ok { shown: Done }")?;
+    make_dir(&mut tree, "Refused { why: Exists }")?;
+    grant_dir(&mut tree, "Ok { shown: Done }")?;
+    check(
         &mut tree,
-        &check,
         "Ok { shown: Parent { parent: DirId(1), sealed: false } }",
     )
 }
@@ -103,24 +128,17 @@ fn directories_are_made_once(rt: HostRuntime) -> Result<(), Fail> {
 #[test]
 fn files_are_made_once(rt: HostRuntime) -> Result<(), Fail> {
     let mut tree = Tree::start(rt.alloc())?;
-    let make = TreeStep::MakeFile {
-        file: FILE,
-        token: None,
-    };
-    let grant = TreeStep::GrantFile { file: FILE };
-    told(&mut tree, &grant, "Refused { why: NoFile }")?;
-    told(&mut tree, &make, "Ok { shown: Done }")?;
-    told(&mut tree, &make, "Refused { why: Exists }")?;
-    told(&mut tree, &grant, "Ok { shown: Done }")
+    grant_file(&mut tree, "Refused { why: NoFile }")?;
+    make_file(&mut tree, "Ok { shown: Done }")?;
+    make_file(&mut tree, "Refused { why: Exists }")?;
+    grant_file(&mut tree, "Ok { shown: Done }")
 }
 
 #[test]
 fn a_listing_has_the_entries_by_name(rt: HostRuntime) -> Result<(), Fail> {
     let mut tree = tree(rt.alloc())?;
-    let list = TreeStep::List { dir: ROOT };
-    told(
+    list(
         &mut tree,
-        &list,
         "Ok { shown: Entries { sealed: false, items: Items { items: [Listed { name: Name { bytes: [100] }, node: Dir(DirId(4294967297)) }, Listed { name: Name { bytes: [102] }, node: File(FileId(4294967298)) }] } } }",
     )
 }
