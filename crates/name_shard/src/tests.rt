@@ -130,17 +130,20 @@ fn home(alloc: Global) -> Result<NameShard, Fail> {
     Ok(shard)
 }
 
+/// What a new shard says of the root.
+fn begins(alloc: Global, has_root: bool, text: &str) -> Result<(), Fail> {
+    let mut shard = NameShard::new(alloc, has_root)?;
+    told(&mut shard, &NameReq::CheckDir { dir: ROOT }, text)
+}
+
 #[test]
 fn a_shard_begins_with_the_root_or_with_nothing(rt: HostRuntime) -> Result<(), Fail> {
-    let root = NameReq::CheckDir { dir: ROOT };
-    let mut with = NameShard::new(rt.alloc(), true)?;
-    told(
-        &mut with,
-        &root,
+    begins(
+        rt.alloc(),
+        true,
         "DirIs { parent: DirId(0), sealed: false }",
     )?;
-    let mut without = NameShard::new(rt.alloc(), false)?;
-    told(&mut without, &root, "NoDir")
+    begins(rt.alloc(), false, "NoDir")
 }
 
 #[test]
