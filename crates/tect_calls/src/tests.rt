@@ -1,4 +1,5 @@
-ghost use Rattle.std.specs.Prelude.{◌≡◌, IfOk};
+ghost use Rattle.std.specs.Prelude.{◌≡◌, IfOk, IsTrue};
+ghost use Rattle.tect_calls.specs.Machines.{is_of_layer};
 
 use crate::{
     AnyMachine, AnyReply, AnyReq, Asked, Fact, Granted, Made, Memory, Spent, file_grant,
@@ -198,26 +199,47 @@ fn a_request_goes_to_the_shard_of_its_object(rt: HostRuntime) -> Result<(), Fail
     Ok(())
 }
 
+fn is_told(
+    rt: &impl Abort,
+    alloc: Global,
+    machine: &mut AnyMachine,
+    req: &AnyReq,
+    text: &str,
+) -> Result<(), Fail>
+    requires { IsTrue (is_of_layer machine.old req.now) }
+{
+    let reply = machine.step(req)?;
+    let reply = format!(in alloc; "{reply:?}")?;
+    assert_eq!(rt; reply.as_str(), text);
+    Ok(())
+}
+
 #[test]
-fn a_shard_of_any_layer_answers_its_requests(rt: HostRuntime) -> Result<(), Fail> {
+fn a_name_shard_answers_its_requests(rt: HostRuntime) -> Result<(), Fail> {
     let alloc = rt.alloc();
     let mut names = AnyMachine::Name(NameShard::new(alloc, true)?);
     let look = AnyReq::Name(NameReq::Look { key: key(alloc)? });
-    let reply = format!(in alloc; "{:?}", names.step(&look)?)?;
-    assert_eq!(rt; reply.as_str(), "Name(NoName)");
+    is_told(&rt, alloc, &mut names, &look, "Name(NoName)")?;
     assert_eq!(rt; names.dump()?.len(), 1);
+    Ok(())
+}
+
+#[test]
+fn a_file_shard_answers_its_requests(rt: HostRuntime) -> Result<(), Fail> {
+    let alloc = rt.alloc();
     let mut files = AnyMachine::File(FileShard::new(alloc));
-    let make = AnyReq::File(FileReq::MakeFile {
+    assert_eq!(rt; files.dump()?.len(), 0);
+    let release = AnyReq::File(FileReq::Release {
         file: NOTES,
         hold: HOLD,
-        key: key(alloc)?,
-        token: None,
     });
-    assert_eq!(rt; files.dump()?.len(), 0);
-    let reply = format!(in alloc; "{:?}", files.step(&make)?)?;
-    assert_eq!(rt; reply.as_str(), "File(Made)");
-    assert_eq!(rt; files.dump()?.len(), 1);
-    Ok(())
+    is_told(
+        &rt,
+        alloc,
+        &mut files,
+        &release,
+        "File(Released { was: false })",
+    )
 }
 
 #[test]
