@@ -26,79 +26,18 @@ use Rattle.store_rules.specs.Views.{as_parent, as_found, as_listing, is_made, is
 use Rattle.op_names.specs.declared.program.Phase.{Phase}
 use Rattle.op_names.specs.declared.program.Phase.TheVariants.{Walk, Bind, Grant, Swap, Release, End}
 use Rattle.op_names.specs.declared.program.Program.{Program}
-use Rattle.op_names.specs.Paths.{but_last, last_name}
-use Rattle.op_names.specs.Programs.{own_hold, root, at_last, new_path, first_ask, grant_ask, release_ask, phase_ask, first_hear, phase_hear, walked, looked, checked, entries_heard, unbound_heard, source_heard, bound_heard, swapped_heard, then_release, refusal, from_root, first_phase}
+use Rattle.op_names.specs.Paths.{last_name}
+use Rattle.op_names.specs.Programs.{own_hold, at_last, new_path, first_ask, grant_ask, release_ask, phase_ask, first_hear, phase_hear, walked, looked, checked, entries_heard, unbound_heard, source_heard, bound_heard, swapped_heard, then_release, refusal}
 use Rattle.tect_calls.specs.declared.tokens.Fact.{Fact}
 use Rattle.tect_calls.specs.declared.tokens.Fact.TheVariants.{Spent}
 use Rattle.tect_calls.specs.Teaching as teach
 use Rattle.tect_calls.specs.Teaching.{taught, exists_facts, made_facts, granted_facts, replaced_facts, bound_facts, swapped_facts, unbound_facts}
 use Rattle.name_calls.specs.declared.shown.Shown.{Shown}
-use Rattle.name_calls.specs.declared.shown.Shown.TheVariants.{Upper, Own, Lost, Nothing}
-use Rattle.name_calls.specs.Needs.{needed, old_hold, Shows}
-use Rattle.name_calls.specs.Carrying.{first, second, opening, carried}
+use Rattle.name_calls.specs.declared.shown.Shown.TheVariants.{Upper, Own, Lost}
+use Rattle.name_calls.specs.Needs.{needed, old_hold}
+use Rattle.name_calls.specs.Carrying.{first, second, carried}
 
--- where a command begins
-from_root_opens : (op : OpId) (p ns : List (List ℕ)) → opening (from_root p ns) ≡ needed op (from_root p ns)
-from_root_opens op [] ns = refl
-from_root_opens op (n ∷ p) ns = refl
-
-pub opens : (op : OpId) (c : Command) → opening (first_phase c) ≡ needed op (first_phase c)
-opens op (commands.Look p) = refl
-opens op (commands.List p) = refl
-opens op (commands.Create p) = from_root_opens op p (but_last p)
-opens op (commands.Mkdir p) = from_root_opens op p (but_last p)
-opens op (commands.Delete p) = from_root_opens op p (but_last p)
-opens op (commands.Rename p []) = refl
-opens op (commands.Rename p (n ∷ to)) = from_root_opens op p (but_last p)
-opens op _ = refl
-
--- ---- what a phase asks is shown
-
-grant_shown : (n : Node) (h : Hold) (k : Key) → Shows (Upper (nodes.Dir k.dir)) (grant_ask n h k)
-grant_shown (nodes.Dir d) h k = refl
-grant_shown (nodes.File f) h k = refl
-
-release_shown : (n : Node) (h : Hold) (old : Option Hold) → Shows (Lost h old) (release_ask n h)
-release_shown (nodes.Dir d) h old = refl
-release_shown (nodes.File f) h old = refl
-
-first_shown : (op : OpId) (number : ℕ) (d : DirId) (c : Command) → IfSome (first_ask op number d c) (Shows (Upper (nodes.Dir d)))
-first_shown op number d (commands.Look []) = tt
-first_shown op number d (commands.Look (n ∷ p)) = tt
-first_shown op number d (commands.List p) = tt
-first_shown op number d (commands.Create []) = tt
-first_shown op number d (commands.Create (n ∷ p)) = refl
-first_shown op number d (commands.Mkdir []) = tt
-first_shown op number d (commands.Mkdir (n ∷ p)) = refl
-first_shown op number d (commands.Delete []) = tt
-first_shown op number d (commands.Delete (n ∷ p)) = tt
-first_shown op number d (commands.Rename [] to) = tt
-first_shown op number d (commands.Rename (n ∷ p) to) = tt
-first_shown op number d _ = tt
-
-grants_shown : (to : List (List ℕ)) (op : OpId) (k : Key) (n : Node) → IfSome (at_last to (λ t. grant_ask n (own_hold op) (key_in k.dir t))) (Shows (Upper (nodes.Dir k.dir)))
-grants_shown [] op k n = tt
-grants_shown (t ∷ to) op k n = grant_shown n (own_hold op) (key_in k.dir (last_name (t ∷ to)))
-
-swaps_shown : (to : List (List ℕ)) (op : OpId) (k : Key) (n : Node) → IfSome (at_last to (λ t. any.Name (names.Swap k.dir k.name t n (own_hold op)))) (Shows (Own (own_hold op)))
-swaps_shown [] op k n = tt
-swaps_shown (t ∷ to) op k n = refl
-
-phase_shown : (op : OpId) (number : ℕ) (c : Command) (p : Phase) → IfSome (phase_ask op number c p) (Shows (needed op p))
-phase_shown op number c (Walk d []) = first_shown op number d c
-phase_shown op number c (Walk d (n ∷ ns)) = tt
-phase_shown op number c (Bind k n o) = refl
-phase_shown op number c (Grant k n) = grants_shown (new_path c) op k n
-phase_shown op number c (Swap k n) = swaps_shown (new_path c) op k n
-phase_shown op number c (Release n h old a) = release_shown n h (old_hold old)
-phase_shown op number c (End a) = tt
-
-pub asked_shown : (op : OpId) (number : ℕ) (c : Command) (p : Phase) (q : AnyReq) → phase_ask op number c p ≡ Some q → Shows (needed op p) q
-asked_shown op number c p q asks =
-    let P : Option AnyReq → Type 0 = λ o. IfSome o (Shows (needed op p)) in
-    subst P asks (phase_shown op number c p)
-
--- ---- the next phase has what it needs, of what was held and of what was taught
+-- the next phase has what it needs, of what was held and of what was taught
 
 abbrev Carries : OpId → Phase → Shown → List Fact → Type 0
 Carries op next had facts = carried next had (first facts) (second facts) ≡ needed op next

@@ -3,7 +3,6 @@
 use Rattle.std.specs.Prelude.{Option, Some, None, List, [], ◌∷◌}
 use Rattle.tect_ids.specs.declared.ids.Hold.{Hold}
 use Rattle.tect_ids.specs.declared.ids.Node.TheVariants as nodes
-use Rattle.tect_ids.specs.declared.ids.OpId.{OpId}
 use Rattle.op_names.specs.declared.program.Phase.{Phase}
 use Rattle.op_names.specs.declared.program.Phase.TheVariants.{Walk, Bind, Grant, Swap, Release, End}
 use Rattle.op_names.specs.Programs.{root}

@@ -1,7 +1,5 @@
 use Rattle.std.proofs.Common.{rules, ◌≡◌, Some}
 use Rattle.op_names.specs.Programs.{phase_ask}
-use Rattle.tect_calls.specs.Teaching.{taught}
-use Rattle.name_calls.specs.Carrying.{first, second}
 use Rattle.name_calls.proofs.Tokens.{carries_on}
 use Rattle.name_calls.proofs.running.Running.hear.Goals as goal
 
