@@ -1,13 +1,21 @@
 //! Scripts, answers and dump lines as text.
 #![tactic(auto)]
 
+#[cfg(test)]
+mod answer_tests;
 mod answers;
 mod dump;
 mod ids;
-mod report;
 #[cfg(test)]
-mod tests;
+mod limit_tests;
+#[cfg(test)]
+mod line_tests;
+#[cfg(test)]
+mod reading_tests;
+mod report;
 
 pub use report::{write_answer, write_dump};
-pub use script_lines::{ScriptFault, read_script, write_line};
+pub use script_forms::ScriptFault;
+pub use script_lines::write_line;
+pub use script_reader::read_script;
 pub use script_words::Limit;
