@@ -8,7 +8,7 @@ use Rattle.tect_ids.specs.Keys.{op_eq}
 use Rattle.op_names.specs.declared.program.Program.{Program}
 use Rattle.op_names.specs.Programs.{started, first_phase}
 use Rattle.world_runs.specs.declared.event.Event.{Event}
-use Rattle.world_runs.specs.declared.event.Event.TheVariants.{Began, Acted, Ended, Stopped}
+use Rattle.world_runs.specs.declared.event.Event.TheVariants.{Began, Acted, Ended, Stopped, Failed, Dumped}
 use Rattle.world_runs.specs.Moments.{Moment, RunFrom, IsWorldRun, opening, after}
 use Rattle.world_runs.specs.Headline.{or_later, command_of}
 use Rattle.world_runs.specs.Report.{is_act_of, transactions}
@@ -115,11 +115,13 @@ one_of_both true false = refl
 one_of_both false b = refl
 
 -- the same of an event
-event_splits : (e : Event) (op : OpId) → one_if (is_act_of op e) ≡ one_if (is_look_of op e) + one_if (is_other_of op e)
+pub event_splits : (e : Event) (op : OpId) → one_if (is_act_of op e) ≡ one_if (is_look_of op e) + one_if (is_other_of op e)
 event_splits (Began other c) op = refl
 event_splits (Acted other q x) op = one_of_both (op_eq other op) (is_look q)
 event_splits (Ended other a) op = refl
 event_splits (Stopped other) op = refl
+event_splits (Failed other a) op = refl
+event_splits Dumped op = refl
 
 -- the same of a history
 transactions_split : (es : List Event) (op : OpId) → transactions es op ≡ looks_of es op + others_of es op

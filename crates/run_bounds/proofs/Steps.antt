@@ -12,7 +12,7 @@ use Rattle.store_rules.specs.Places.{request_place}
 use Rattle.op_names.specs.declared.program.Program.{Program}
 use Rattle.op_names.specs.Programs.{object_number, phase_ask, phase_hear, started}
 use Rattle.world_runs.specs.declared.event.Event.{Event}
-use Rattle.world_runs.specs.declared.event.Event.TheVariants.{Began, Acted, Ended, Stopped}
+use Rattle.world_runs.specs.declared.event.Event.TheVariants.{Began, Acted, Ended, Stopped, Failed, Dumped}
 use Rattle.world_runs.specs.Moments.{Moment, Actor, May, after, program_of, running, program_ask, program_answer, begun, went_on, heard}
 use Rattle.world_runs.specs.Headline.{begun_by}
 use Rattle.sound_runs.proofs.MomentsKeep.{RunsAs, runs_as}
@@ -40,12 +40,19 @@ pub record IsAhead (m : Moment) (op : OpId) : Type 0 where
 
 -- ---- the op of an event
 
--- whose event it is
+-- a dump is of no op
+abbrev pub HasOp : Event → Type 0
+HasOp Dumped = ⊥
+HasOp _ = Unit {0}
+
+-- whose event it is, where it has an op
 abbrev pub op_of : Event → OpId
 op_of (Began op c) = op
 op_of (Acted op q x) = op
 op_of (Ended op a) = op
 op_of (Stopped op) = op
+op_of (Failed op a) = op
+op_of Dumped = record { actor = 0; number = 0 }
 
 -- the event is no transaction of the op
 pub record IsNone (op : OpId) (e : Event) : Type 0 where
@@ -58,6 +65,8 @@ other_none op (Began other c) t = record { looks = refl; others = refl }
 other_none op (Acted other q x) t = record { looks = rw t refl; others = rw t refl }
 other_none op (Ended other a) t = record { looks = refl; others = refl }
 other_none op (Stopped other) t = record { looks = refl; others = refl }
+other_none op (Failed other a) t = record { looks = refl; others = refl }
+other_none op Dumped t = record { looks = refl; others = refl }
 
 -- an op is itself
 same_op : (a b : OpId) → a ≡ b → op_eq a b ≡ true
@@ -105,6 +114,10 @@ other_keeps m (Ended other a) may op t =
 other_keeps m (Stopped other) may op t =
     actor_cases (λ st. program_of st.running op ≡ running m op) m.actors other.actor (record (m.actors other.actor) { running = None; stopped = true }) op.actor
     (λ same. sym (runs_alone m other op may.0 may.1 t same)) (λ d. refl)
+other_keeps m (Failed other a) may op t =
+    actor_cases (λ st. program_of st.running op ≡ running m op) m.actors other.actor (record (m.actors other.actor) { running = None }) op.actor
+    (λ same. sym (runs_alone m other op (may.1).0 (may.1).1 t same)) (λ d. refl)
+other_keeps m Dumped may op t = refl
 
 -- the actor itself after its event
 own_actor : (P : Actor → Type 0) (actors : ℕ → Actor) (a : ℕ) (state : Actor) → P state → P (if eqb a a then state else actors a)
@@ -113,31 +126,38 @@ own_actor P actors a state h = actor_cases P actors a state a (λ e. h) (λ d. a
 -- ---- an op that is past
 
 -- an op that is past has no event of its own
-own_not_past : (m : Moment) (e : Event) → May m e → IsPast m (op_of e) → ⊥
-own_not_past m (Began op c) may past = omega (arith, (may.0).next, past.old)
-own_not_past m (Acted op q x) may past =
+own_not_past : (m : Moment) (e : Event) → HasOp e → May m e → IsPast m (op_of e) → ⊥
+own_not_past m (Began op c) has may past = omega (arith, (may.0).next, past.old)
+own_not_past m (Acted op q x) has may past =
     let r : (p : Program) × (running m op ≡ Some p) = asks_runs (m.actors op.actor).serial (running m op) q may.0 in
     let k : None ≡ Some r.0 = sym past.idle ∙ r.1 in cc
-own_not_past m (Ended op a) may past =
+own_not_past m (Ended op a) has may past =
     let r : (p : Program) × (running m op ≡ Some p) = answers_runs (running m op) a may in
     let k : None ≡ Some r.0 = sym past.idle ∙ r.1 in cc
-own_not_past m (Stopped op) may past = let k : None ≡ Some may.0 = sym past.idle ∙ may.1 in cc
+own_not_past m (Stopped op) has may past = let k : None ≡ Some may.0 = sym past.idle ∙ may.1 in cc
+own_not_past m (Failed op a) has may past = let k : None ≡ Some (may.1).0 = sym past.idle ∙ (may.1).1 in cc
+own_not_past m Dumped has may past = has
 
 -- the op stays past, and the event is none of its transactions
 pub record Rests (m : Moment) (e : Event) (op : OpId) : Type 0 where
   pub past : IsPast (after m e) op
   pub none : IsNone op e
 
--- so it is after each event
-pub past_step : (m : Moment) (e : Event) → May m e → (op : OpId) → IsPast m op → Rests m e op
-past_step m e may op past =
+-- so it is after each event of an op
+op_past_step : (m : Moment) (e : Event) → HasOp e → May m e → (op : OpId) → IsPast m op → Rests m e op
+op_past_step m e has may op past =
     elim (op_eq_cases (op_of e) op) [
-      | inl (t, same) ↦ absurd (own_not_past m e may (subst (λ (o : OpId). IsPast m o) (sym same) past))
+      | inl (t, same) ↦ absurd (own_not_past m e has may (subst (λ (o : OpId). IsPast m o) (sym same) past))
       | inr (t, differs) ↦ record {
         past = record { old = omega (arith, past.old, numbers_grow m e may op.actor); idle = other_keeps m e may op t ∙ past.idle };
         none = other_none op e t;
       }
     ]
+
+-- and after any event
+pub past_step : (m : Moment) (e : Event) → May m e → (op : OpId) → IsPast m op → Rests m e op
+past_step m Dumped may op past = record { past = past; none = record { looks = refl; others = refl } }
+past_step m e may op past = op_past_step m e tt may op past
 
 -- ---- an op that runs
 
@@ -166,7 +186,7 @@ heard_runs counts serial q x o op p e =
     rw (there, yes) refl
 
 -- the op's own transaction
-own_acts : (m : Moment) (op : OpId) (q : AnyReq) (x : AnyReply) → May m (Acted op q x) → (p : Program) → Runs m op p → GoesOn m (Acted op q x) op p
+pub own_acts : (m : Moment) (op : OpId) (q : AnyReq) (x : AnyReply) → May m (Acted op q x) → (p : Program) → Runs m op p → GoesOn m (Acted op q x) op p
 own_acts m op q x may p r =
     let serial : ℕ = (m.actors op.actor).serial in
     let f : Falls p.command (phase_ask p.op (object_number p.op.actor serial) p.command p.phase) (hears m op q x p).phase (looks_left p.command p.phase) (others_left p.phase) =
@@ -184,31 +204,39 @@ own_acts m op q x may p r =
     }
 
 -- the op's own event
-own_step : (m : Moment) (e : Event) → May m e → (p : Program) → Runs m (op_of e) p → Steps m e (op_of e) p
-own_step m (Began op c) may p r =
+own_step : (m : Moment) (e : Event) → HasOp e → May m e → (p : Program) → Runs m (op_of e) p → Steps m e (op_of e) p
+own_step m (Began op c) has may p r =
     let none : running m op ≡ None = rw (may.0).idle refl in
     let k : None ≡ Some p = sym none ∙ r.is in absurd (cc)
-own_step m (Acted op q x) may p r = inl (own_acts m op q x may p r)
-own_step m (Ended op a) may p r = inr record {
+own_step m (Acted op q x) has may p r = inl (own_acts m op q x may p r)
+own_step m (Ended op a) has may p r = inr record {
   past = record {
     old = own_actor (λ st. op.number ≤ st.number) m.actors op.actor (record (m.actors op.actor) { running = None }) r.old;
     idle = own_actor (λ st. program_of st.running op ≡ None) m.actors op.actor (record (m.actors op.actor) { running = None }) refl;
   };
   none = record { looks = refl; others = refl };
 }
-own_step m (Stopped op) may p r = inr record {
+own_step m (Stopped op) has may p r = inr record {
   past = record {
     old = own_actor (λ st. op.number ≤ st.number) m.actors op.actor (record (m.actors op.actor) { running = None; stopped = true }) r.old;
     idle = own_actor (λ st. program_of st.running op ≡ None) m.actors op.actor (record (m.actors op.actor) { running = None; stopped = true }) refl;
   };
   none = record { looks = refl; others = refl };
 }
+own_step m (Failed op a) has may p r = inr record {
+  past = record {
+    old = own_actor (λ st. op.number ≤ st.number) m.actors op.actor (record (m.actors op.actor) { running = None }) r.old;
+    idle = own_actor (λ st. program_of st.running op ≡ None) m.actors op.actor (record (m.actors op.actor) { running = None }) refl;
+  };
+  none = record { looks = refl; others = refl };
+}
+own_step m Dumped has may p r = absurd has
 
--- any event
-pub running_step : (m : Moment) (e : Event) → May m e → (op : OpId) (p : Program) → Runs m op p → Steps m e op p
-running_step m e may op p r =
+-- any event of an op
+op_running_step : (m : Moment) (e : Event) → HasOp e → May m e → (op : OpId) (p : Program) → Runs m op p → Steps m e op p
+op_running_step m e has may op p r =
     elim (op_eq_cases (op_of e) op) [
-      | inl (t, same) ↦ subst (λ (o : OpId). Steps m e o p) same (own_step m e may p (subst (λ (o : OpId). Runs m o p) (sym same) r))
+      | inl (t, same) ↦ subst (λ (o : OpId). Steps m e o p) same (own_step m e has may p (subst (λ (o : OpId). Runs m o p) (sym same) r))
       | inr (t, differs) ↦
           let none : IsNone op e = other_none op e t in
           inl record {
@@ -218,6 +246,11 @@ running_step m e may op p r =
             others = rw none.others (omega arith);
           }
     ]
+
+-- any event
+pub running_step : (m : Moment) (e : Event) → May m e → (op : OpId) (p : Program) → Runs m op p → Steps m e op p
+running_step m Dumped may op p r = inl record { next = p; runs = r; looks = omega arith; others = omega arith }
+running_step m e may op p r = op_running_step m e tt may op p r
 
 -- ---- an op that has not begun
 
@@ -235,8 +268,8 @@ pub record Waits (m : Moment) (e : Event) (op : OpId) : Type 0 where
   pub none : IsNone op e
 
 -- the op's own event is its begin
-own_begins : (m : Moment) (e : Event) → May m e → IsAhead m (op_of e) → Begins m e (op_of e)
-own_begins m (Began op c) may ahead =
+own_begins : (m : Moment) (e : Event) → HasOp e → May m e → IsAhead m (op_of e) → Begins m e (op_of e)
+own_begins m (Began op c) has may ahead =
     let own : op_eq op op ≡ true = same_op op op refl in
     record {
       command = c;
@@ -247,13 +280,15 @@ own_begins m (Began op c) may ahead =
       };
       none = record { looks = refl; others = refl };
     }
-own_begins m (Acted op q x) may ahead =
+own_begins m (Acted op q x) has may ahead =
     let r : (p : Program) × (running m op ≡ Some p) = asks_runs (m.actors op.actor).serial (running m op) q may.0 in
     let k : None ≡ Some r.0 = sym ahead.idle ∙ r.1 in absurd (cc)
-own_begins m (Ended op a) may ahead =
+own_begins m (Ended op a) has may ahead =
     let r : (p : Program) × (running m op ≡ Some p) = answers_runs (running m op) a may in
     let k : None ≡ Some r.0 = sym ahead.idle ∙ r.1 in absurd (cc)
-own_begins m (Stopped op) may ahead = let k : None ≡ Some may.0 = sym ahead.idle ∙ may.1 in absurd (cc)
+own_begins m (Stopped op) has may ahead = let k : None ≡ Some may.0 = sym ahead.idle ∙ may.1 in absurd (cc)
+own_begins m (Failed op a) has may ahead = let k : None ≡ Some (may.1).0 = sym ahead.idle ∙ (may.1).1 in absurd (cc)
+own_begins m Dumped has may ahead = absurd has
 
 -- two ops of one actor have two numbers
 numbers_differ : (a b : OpId) → op_eq a b ≡ false → a.actor ≡ b.actor → a.number ≢ b.number
@@ -274,6 +309,9 @@ still_new m (Ended other a) may op t new =
     actor_cases (λ st. st.number < op.number) m.actors other.actor (record (m.actors other.actor) { running = None }) op.actor (λ same. rw (sym same) new) (λ d. new)
 still_new m (Stopped other) may op t new =
     actor_cases (λ st. st.number < op.number) m.actors other.actor (record (m.actors other.actor) { running = None; stopped = true }) op.actor (λ same. rw (sym same) new) (λ d. new)
+still_new m (Failed other a) may op t new =
+    actor_cases (λ st. st.number < op.number) m.actors other.actor (record (m.actors other.actor) { running = None }) op.actor (λ same. rw (sym same) new) (λ d. new)
+still_new m Dumped may op t new = new
 
 -- another op's event is not its begin
 other_begins : (op : OpId) (e : Event) → op_eq (op_of e) op ≡ false → begun_by e op ≡ None
@@ -281,15 +319,22 @@ other_begins op (Began other c) t = rw t refl
 other_begins op (Acted other q x) t = refl
 other_begins op (Ended other a) t = refl
 other_begins op (Stopped other) t = refl
+other_begins op (Failed other a) t = refl
+other_begins op Dumped t = refl
 
--- any event
-pub ahead_step : (m : Moment) (e : Event) → May m e → (op : OpId) → IsAhead m op → Begins m e op ⊎ Waits m e op
-ahead_step m e may op ahead =
+-- any event of an op
+op_ahead_step : (m : Moment) (e : Event) → HasOp e → May m e → (op : OpId) → IsAhead m op → Begins m e op ⊎ Waits m e op
+op_ahead_step m e has may op ahead =
     elim (op_eq_cases (op_of e) op) [
-      | inl (t, same) ↦ inl (subst (λ (o : OpId). Begins m e o) same (own_begins m e may (subst (λ (o : OpId). IsAhead m o) (sym same) ahead)))
+      | inl (t, same) ↦ inl (subst (λ (o : OpId). Begins m e o) same (own_begins m e has may (subst (λ (o : OpId). IsAhead m o) (sym same) ahead)))
       | inr (t, differs) ↦ inr record {
         begins = other_begins op e t;
         ahead = record { new = still_new m e may op t ahead.new; idle = other_keeps m e may op t ∙ ahead.idle };
         none = other_none op e t;
       }
     ]
+
+-- any event
+pub ahead_step : (m : Moment) (e : Event) → May m e → (op : OpId) → IsAhead m op → Begins m e op ⊎ Waits m e op
+ahead_step m Dumped may op ahead = inr record { begins = refl; ahead = ahead; none = record { looks = refl; others = refl } }
+ahead_step m e may op ahead = op_ahead_step m e tt may op ahead

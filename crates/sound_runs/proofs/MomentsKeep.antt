@@ -15,7 +15,7 @@ use Rattle.store_rules.specs.Store.{store_reply}
 use Rattle.op_names.specs.declared.program.Program.{Program}
 use Rattle.op_names.specs.Programs.{root, object_number, own_hold, phase_ask, phase_hear, first_phase}
 use Rattle.world_runs.specs.declared.event.Event.{Event}
-use Rattle.world_runs.specs.declared.event.Event.TheVariants.{Began, Acted, Ended, Stopped}
+use Rattle.world_runs.specs.declared.event.Event.TheVariants.{Began, Acted, Ended, Stopped, Failed, Dumped}
 use Rattle.world_runs.specs.Served.{IsServed}
 use Rattle.world_runs.specs.Moments.{Actor, Moment, CanBegin, May, after, begun, went_on, next_serial, running, asked, program_of, program_ask, opening, with_actor}
 use Rattle.store_world.specs.Worlds.{World, Ghost, next, ghost_next, opening_ghost}
@@ -253,6 +253,8 @@ event_sound m g (Began op c) s can = began_sound m g s op c can.0 can.1
 event_sound m g (Acted op q x) s can = acts_sound m g op q x s can
 event_sound m g (Ended op a) s can = rest_sound m g s op.actor (m.actors op.actor).stopped
 event_sound m g (Stopped op) s can = rest_sound m g s op.actor true
+event_sound m g (Failed op a) s can = rest_sound m g s op.actor (m.actors op.actor).stopped
+event_sound m g Dumped s can = s
 
 -- it is so before anything was done
 pub opening_all_sound : (counts : Counts) → AllSound (opening counts) opening_ghost

@@ -40,7 +40,7 @@ use Rattle.op_names.specs.declared.program.Phase.TheVariants.{Walk, Bind, Releas
 use Rattle.op_names.specs.declared.program.Program.{Program}
 use Rattle.op_names.specs.Programs.{object_number, own_hold, phase_ask, phase_hear, phase_answer, release_ask, then_release, bound_heard, looked, refusal}
 use Rattle.world_runs.specs.declared.event.Event.{Event}
-use Rattle.world_runs.specs.declared.event.Event.TheVariants.{Began, Acted, Ended, Stopped}
+use Rattle.world_runs.specs.declared.event.Event.TheVariants.{Began, Acted, Ended, Stopped, Failed, Dumped}
 use Rattle.world_runs.specs.Moments.{Moment, May, after, after_all, RunFrom, running, asked, answered, next_serial}
 use Rattle.world_runs.specs.TreeSteps.{told_of, told_as, tree_steps, tree_step, says, tree_after, IsTreeRun}
 use Rattle.world_runs.specs.Points.{refused_answer, done_answer}
@@ -143,6 +143,8 @@ module _ (m : Moment) (t : Tree) (op : OpId) (c : Command) (own : ℕ) (at : Pha
     step_goes p left no_end more (Began o d ∷ es) n a acts run = absurd acts
     step_goes p left no_end more (Ended o d ∷ es) n a acts run = absurd acts
     step_goes p left no_end more (Stopped o ∷ es) n a acts run = absurd acts
+    step_goes p left no_end more (Failed o d ∷ es) n a acts run = absurd acts
+    step_goes p left no_end more (Dumped ∷ es) n a acts run = absurd acts
 
 -- what stands so, in other words
 pub stands_as : (m : Moment) (t u : Tree) (op : OpId) (c : Command) (own new : ℕ) (at to : Phase) → Stands m t op c own at → t ≡ u → own ≡ new → at ≡ to → Stands m u op c new to
@@ -162,6 +164,8 @@ end_goes m t op c own b p st tree serial answer (Acted o q x ∷ es) n a acts ru
 end_goes m t op c own b p st tree serial answer (Began o d ∷ es) n a acts run = absurd acts
 end_goes m t op c own b p st tree serial answer (Ended o d ∷ es) n a acts run = absurd acts
 end_goes m t op c own b p st tree serial answer (Stopped o ∷ es) n a acts run = absurd acts
+end_goes m t op c own b p st tree serial answer (Failed o d ∷ es) n a acts run = absurd acts
+end_goes m t op c own b p st tree serial answer (Dumped ∷ es) n a acts run = absurd acts
 
 -- a release is no step
 module _ (m : Moment) (t : Tree) (op : OpId) (c : Command) (own : ℕ) (b : Answer) (p : Played) (tree : t ≡ p.tree) (serial : own ≡ p.serial) (answer : b ≡ p.answer) where

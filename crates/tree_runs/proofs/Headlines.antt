@@ -21,7 +21,7 @@ use Rattle.op_names.specs.Paths.{but_last}
 use Rattle.op_names.specs.Programs.{root, way, object_number, phase_hear, phase_answer, first_phase, from_root}
 use Rattle.world_runs.specs.Served.{IsServed}
 use Rattle.world_runs.specs.declared.event.Event.{Event}
-use Rattle.world_runs.specs.declared.event.Event.TheVariants.{Began, Acted, Ended, Stopped}
+use Rattle.world_runs.specs.declared.event.Event.TheVariants.{Began, Acted, Ended, Stopped, Failed, Dumped}
 use Rattle.world_runs.specs.Moments.{Actor, Moment, opening, May, CanBegin, after, after_all, RunFrom, IsWorldRun, asked, program_answer, program_of, heard, with_actor}
 use Rattle.world_runs.specs.TreeSteps.{Told, told_of, tree_steps, tree_step, says, tree_after, IsTreeRun}
 use Rattle.world_runs.specs.Points.{of_op, Walked, LacksName}
@@ -92,6 +92,15 @@ module _ (h : List Event) (m : Moment) (t : AllTold h m) (e : Event) (no_step : 
     where
       old : (op : OpId) → op.actor ≡ a → state.number < op.number → (m.actors op.actor).number < op.number
       old op p late = rw (p, ← number) late
+
+  -- nothing changes
+  stays : ((op : OpId) → begun_by e op ≡ None) → Tracks m (tree_after opening_tree (tree_steps (h ++ e ∷ []))) → AllTold (h ++ e ∷ []) m
+  stays no_begin tracks = record {
+    tracks = tracks;
+    tells = quiet_tells;
+    unbegun = λ op late. command_more h e op ∙ rw (t.unbegun op late) (no_begin op);
+    unasked = quiet_unasked;
+  }
 
 -- ---- a command begins
 
@@ -240,6 +249,8 @@ event_told h m (Began op c) t may = begun_told h m t op c may.0 may.1
 event_told h m (Acted op q x) t may = subst (λ (y : AnyReply). AllTold (h ++ Acted op q y ∷ []) (after m (Acted op q y))) (sym may.1) (acted_told h m t op q may.0)
 event_told h m (Ended op a) t may = rests h m t (Ended op a) refl op.actor _ refl refl (λ o. refl) (tracked_more h m (Ended op a) t.tracks may)
 event_told h m (Stopped op) t may = rests h m t (Stopped op) refl op.actor _ refl refl (λ o. refl) (tracked_more h m (Stopped op) t.tracks may)
+event_told h m (Failed op a) t may = rests h m t (Failed op a) refl op.actor _ refl refl (λ o. refl) (tracked_more h m (Failed op a) t.tracks may)
+event_told h m Dumped t may = stays h m t Dumped refl (λ o. refl) (tracked_more h m Dumped t.tracks may)
 
 run_told : (h : List Event) (m : Moment) (es : List Event) → AllTold h m → RunFrom m es → AllTold (h ++ es) (after_all m es)
 run_told h m [] t run = rw append-nil t

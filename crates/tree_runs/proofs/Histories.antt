@@ -2,15 +2,17 @@
 use Rattle.std.proofs.Common.{◌≡◌, ◌<◌, ◌≤◌, ◌+◌, ℕ, Bool, true, false, cond, Some, List, [], ◌∷◌, ◌++◌, refl, sym, ap, ◌∙◌, arith, append_assoc}
 use Rattle.std.proofs.lemmas.List.{append-nil}
 use Rattle.std.proofs.lemmas.List.Sums.{sum_by-append}
+use Rattle.tect_ids.specs.declared.ids.Counts.{Counts}
 use Rattle.tect_ids.specs.declared.ids.OpId.{OpId}
 use Rattle.tect_ids.specs.Keys.{op_eq}
 use Rattle.tect_ids.proofs.KeyTests.{op_eq_cases}
 use Rattle.store_rules.specs.declared.any.AnyReq.{AnyReq}
 use Rattle.tree_model.specs.Tree.{Tree}
 use Rattle.world_runs.specs.declared.event.Event.{Event}
-use Rattle.world_runs.specs.declared.event.Event.TheVariants.{Began, Acted, Ended, Stopped}
+use Rattle.world_runs.specs.declared.event.Event.TheVariants.{Began, Acted, Ended, Stopped, Failed, Dumped}
 use Rattle.world_runs.specs.Moments.{Moment, May, after, after_all, RunFrom, asked}
 use Rattle.world_runs.specs.TreeSteps.{told_of, tree_steps, tree_after}
+use Rattle.world_runs.specs.Follows.{Acts, NoneFails}
 use Rattle.world_runs.specs.Report.{is_act_of, transactions, report_after, lines_at}
 use Rattle.tree_runs.proofs.Tracks.{Tracks, Knows, actor_cases}
 use Rattle.tree_runs.proofs.Runs.{Asks, asks_of, event_tracked}
@@ -37,15 +39,40 @@ pub tree_steps-append : (es fs : List Event) → tree_steps (es ++ fs) ≡ tree_
 tree_steps-append [] fs = refl
 tree_steps-append (e ∷ es) fs = ap (λ l. told_of e ++ l) (tree_steps-append es fs) ∙ sym (append_assoc (told_of e) (tree_steps es) (tree_steps fs))
 
-pub report-append : (clients : List (List ℕ)) (before es fs : List Event) → report_after clients before (es ++ fs) ≡ report_after clients before es ++ report_after clients (before ++ es) fs
-report-append clients before [] fs = ap (λ l. report_after clients l fs) (sym (append-nil before))
-report-append clients before (e ∷ es) fs =
-    ap (λ l. lines_at clients before e ++ l) (report-append clients (before ++ e ∷ []) es fs)
-    ∙ sym (append_assoc (lines_at clients before e) (report_after clients (before ++ e ∷ []) es) (report_after clients ((before ++ e ∷ []) ++ es) fs))
-    ∙ ap (λ l. report_after clients before (e ∷ es) ++ report_after clients l fs) (append_assoc before (e ∷ []) es)
+pub report-append : (counts : Counts) (clients : List (List ℕ)) (before es fs : List Event)
+    → report_after counts clients before (es ++ fs) ≡ report_after counts clients before es ++ report_after counts clients (before ++ es) fs
+report-append counts clients before [] fs = ap (λ l. report_after counts clients l fs) (sym (append-nil before))
+report-append counts clients before (e ∷ es) fs =
+    ap (λ l. lines_at counts clients before e ++ l) (report-append counts clients (before ++ e ∷ []) es fs)
+    ∙ sym (append_assoc (lines_at counts clients before e) (report_after counts clients (before ++ e ∷ []) es) (report_after counts clients ((before ++ e ∷ []) ++ es) fs))
+    ∙ ap (λ l. report_after counts clients before (e ∷ es) ++ report_after counts clients l fs) (append_assoc before (e ∷ []) es)
 
 pub transactions-append : (es fs : List Event) (op : OpId) → transactions (es ++ fs) op ≡ transactions es op + transactions fs op
 transactions-append es fs op = sum_by-append (λ e. cond (is_act_of op e) 1 0) es fs
+
+-- ---- none fails
+
+pub none_fails-front : (es fs : List Event) → NoneFails (es ++ fs) → NoneFails es
+none_fails-front [] fs none = tt
+none_fails-front (e ∷ es) fs none = (none.0, none_fails-front es fs none.1)
+
+pub none_fails-rest : (es fs : List Event) → NoneFails (es ++ fs) → NoneFails fs
+none_fails-rest [] fs none = none
+none_fails-rest (e ∷ es) fs none = none_fails-rest es fs none.1
+
+pub none_fails-append : (es fs : List Event) → NoneFails es → NoneFails fs → NoneFails (es ++ fs)
+none_fails-append [] fs none more = more
+none_fails-append (e ∷ es) fs none more = (none.0, none_fails-append es fs none.1 more)
+
+-- no transaction fails
+pub acts_none_fail : (op : OpId) (n : ℕ) (es : List Event) → Acts op n es → NoneFails es
+acts_none_fail op n [] acts = tt
+acts_none_fail op n (Acted o q x ∷ es) acts = (tt, acts_none_fail op (acts.1).0 es (acts.1).2)
+acts_none_fail op n (Began o c ∷ es) acts = absurd acts
+acts_none_fail op n (Ended o a ∷ es) acts = absurd acts
+acts_none_fail op n (Stopped o ∷ es) acts = absurd acts
+acts_none_fail op n (Failed o a ∷ es) acts = absurd acts
+acts_none_fail op n (Dumped ∷ es) acts = absurd acts
 
 -- ---- an op that did not begin has no transaction
 
@@ -69,6 +96,8 @@ numbers_grow m (Began op c) may a = actor_cases (λ st. (m.actors a).number ≤ 
 numbers_grow m (Acted op q x) may a = actor_cases (λ st. (m.actors a).number ≤ st.number) m.actors op.actor _ a (λ e. rw e (omega arith)) (λ d. omega arith)
 numbers_grow m (Ended op x) may a = actor_cases (λ st. (m.actors a).number ≤ st.number) m.actors op.actor _ a (λ e. rw e (omega arith)) (λ d. omega arith)
 numbers_grow m (Stopped op) may a = actor_cases (λ st. (m.actors a).number ≤ st.number) m.actors op.actor _ a (λ e. rw e (omega arith)) (λ d. omega arith)
+numbers_grow m (Failed op x) may a = actor_cases (λ st. (m.actors a).number ≤ st.number) m.actors op.actor _ a (λ e. rw e (omega arith)) (λ d. omega arith)
+numbers_grow m Dumped may a = omega arith
 
 not_act : (m : Moment) (t : Tree) (e : Event) → Tracks m t → May m e → (op : OpId) → (m.actors op.actor).number < op.number → is_act_of op e ≡ false
 not_act m t (Acted other q x) tracks may op late = differs (op_eq other op) refl
@@ -83,6 +112,8 @@ not_act m t (Acted other q x) tracks may op late = differs (op_eq other op) refl
 not_act m t (Began other c) tracks may op late = refl
 not_act m t (Ended other x) tracks may op late = refl
 not_act m t (Stopped other) tracks may op late = refl
+not_act m t (Failed other x) tracks may op late = refl
+not_act m t Dumped tracks may op late = refl
 
 pub quiet_more : (m : Moment) (t : Tree) (before : List Event) (e : Event) → Tracks m t → Quiet m before → May m e → Quiet (after m e) (before ++ e ∷ [])
 quiet_more m t before e tracks quiet may op late =

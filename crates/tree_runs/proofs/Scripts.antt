@@ -15,16 +15,16 @@ use Rattle.store_rules.specs.Names.{key_in}
 use Rattle.tree_model.specs.Tree.{Tree, opening_tree}
 use Rattle.op_names.specs.Programs.{root, object_number, first_phase}
 use Rattle.world_runs.specs.declared.event.Event.{Event}
-use Rattle.world_runs.specs.declared.event.Event.TheVariants.{Began, Acted, Ended, Stopped}
+use Rattle.world_runs.specs.declared.event.Event.TheVariants.{Began, Acted, Ended, Stopped, Failed, Dumped}
 use Rattle.world_runs.specs.Moments.{Moment, opening, CanBegin, after, after_all, RunFrom, IsWorldRun}
 use Rattle.world_runs.specs.TreeSteps.{tree_steps, tree_after}
 use Rattle.world_runs.specs.Report.{transactions, report, report_after, answer_line, client_name}
-use Rattle.world_runs.specs.Follows.{Acts, EndsAfter, BeginsAndEnds, DoesLine, Busy, none_busy, with_busy, FollowsFrom, Follows}
+use Rattle.world_runs.specs.Follows.{Acts, IsEndOf, EndsAfter, BeginsAndEnds, DoesLine, Busy, none_busy, with_busy, FollowsFrom, Follows, NoneFails}
 use Rattle.tree_runs.specs.Session.{Played, played, played_line, IsPlayed, session_lines, session_script}
 use Rattle.tree_runs.specs.Session as session
 use Rattle.tree_runs.proofs.Tracks.{Tracks, opening_tracks, actor_cases}
 use Rattle.tree_runs.proofs.Runs.{event_tracked, run_tracked}
-use Rattle.tree_runs.proofs.Histories.{after_all-append, run-front, run-rest, tree_steps-append, report-append, transactions-append, Quiet, quiet_run}
+use Rattle.tree_runs.proofs.Histories.{after_all-append, run-front, run-rest, tree_steps-append, report-append, transactions-append, none_fails-front, none_fails-rest, Quiet, quiet_run}
 use Rattle.tree_runs.proofs.Comes.{Stands, Comes, Goes, look_goes, create_goes}
 
 -- ---- transactions alone
@@ -37,14 +37,18 @@ acts_numbers m op n (Acted o q x ∷ es) a acts =
 acts_numbers m op n (Began o c ∷ es) a acts = absurd acts
 acts_numbers m op n (Ended o c ∷ es) a acts = absurd acts
 acts_numbers m op n (Stopped o ∷ es) a acts = absurd acts
+acts_numbers m op n (Failed o c ∷ es) a acts = absurd acts
+acts_numbers m op n (Dumped ∷ es) a acts = absurd acts
 
 -- they make no line
-acts_no_lines : (clients : List (List ℕ)) (before : List Event) (op : OpId) (n : ℕ) (es : List Event) → Acts op n es → report_after clients before es ≡ []
-acts_no_lines clients before op n [] acts = refl
-acts_no_lines clients before op n (Acted o q x ∷ es) acts = acts_no_lines clients (before ++ Acted o q x ∷ []) op (acts.1).0 es (acts.1).2
-acts_no_lines clients before op n (Began o c ∷ es) acts = absurd acts
-acts_no_lines clients before op n (Ended o c ∷ es) acts = absurd acts
-acts_no_lines clients before op n (Stopped o ∷ es) acts = absurd acts
+acts_no_lines : (counts : Counts) (clients : List (List ℕ)) (before : List Event) (op : OpId) (n : ℕ) (es : List Event) → Acts op n es → report_after counts clients before es ≡ []
+acts_no_lines counts clients before op n [] acts = refl
+acts_no_lines counts clients before op n (Acted o q x ∷ es) acts = acts_no_lines counts clients (before ++ Acted o q x ∷ []) op (acts.1).0 es (acts.1).2
+acts_no_lines counts clients before op n (Began o c ∷ es) acts = absurd acts
+acts_no_lines counts clients before op n (Ended o c ∷ es) acts = absurd acts
+acts_no_lines counts clients before op n (Stopped o ∷ es) acts = absurd acts
+acts_no_lines counts clients before op n (Failed o c ∷ es) acts = absurd acts
+acts_no_lines counts clients before op n (Dumped ∷ es) acts = absurd acts
 
 -- and they are so many
 acts_count : (op : OpId) (n : ℕ) (es : List Event) → Acts op n es → transactions es op ≡ n
@@ -57,6 +61,8 @@ acts_count op n (Acted o q x ∷ es) acts =
 acts_count op n (Began o c ∷ es) acts = absurd acts
 acts_count op n (Ended o c ∷ es) acts = absurd acts
 acts_count op n (Stopped o ∷ es) acts = absurd acts
+acts_count op n (Failed o c ∷ es) acts = absurd acts
+acts_count op n (Dumped ∷ es) acts = absurd acts
 
 -- ---- a command
 
@@ -77,7 +83,7 @@ record Rests (m : Moment) (t : Tree) (before : List Event) (own number : ℕ) : 
   count : (m.actors 1).number ≡ number
 
 -- the events of a line
-module _ (clients : List (List ℕ)) (m : Moment) (t : Tree) (before : List Event) (own number : ℕ) (rests : Rests m t before own number)
+module _ (counts : Counts) (clients : List (List ℕ)) (m : Moment) (t : Tree) (before : List Event) (own number : ℕ) (rests : Rests m t before own number)
     (op : OpId) (c : Command) (one : op.actor ≡ 1) (is : IsPlayed c) (front : List Event) (n : ℕ) (a : Answer) (acts : Acts op n front)
     (run : RunFrom m (Began op c ∷ front ++ Ended op a ∷ [])) where
   -- what the tree plays
@@ -129,8 +135,8 @@ module _ (clients : List (List ℕ)) (m : Moment) (t : Tree) (before : List Even
   line_now : answer_line clients (begun_before ++ front) op a ≡ played_line clients (number + 1) p
   line_now i = lines.Client (client_name clients (one i)) (number_now i) ((count_now ∙ comes.count) i) (comes.answer i)
 
-  line : report_after clients before part ≡ played_line clients (number + 1) p ∷ []
-  line = report-append clients begun_before front (Ended op a ∷ []) ∙ rw (acts_no_lines clients begun_before op n front acts, line_now) refl
+  line : report_after counts clients before part ≡ played_line clients (number + 1) p ∷ []
+  line = report-append counts clients begun_before front (Ended op a ∷ []) ∙ rw (acts_no_lines counts clients begun_before op n front acts, line_now) refl
 
   -- the moment after it
   tree_now : tree_after t (tree_steps part) ≡ p.tree
@@ -162,16 +168,16 @@ module _ (clients : List (List ℕ)) (m : Moment) (t : Tree) (before : List Even
 -- ---- a session
 
 -- the lines of the commands are those of the tree, from each moment between two commands
-abbrev LinesAgree : List (List ℕ) → List ℕ → List Command → Type 0
-LinesAgree clients client cs =
+abbrev LinesAgree : Counts → List (List ℕ) → List ℕ → List Command → Type 0
+LinesAgree counts clients client cs =
     (m : Moment) (t : Tree) (before es : List Event) (own number : ℕ) (busy : Busy) → Rests m t before own number → busy 1 ≡ None → AllByRecursion IsPlayed cs
-    → RunFrom m es → FollowsFrom busy (session_script client cs) es → report_after clients before es ≡ session_lines clients t own number cs
+    → RunFrom m es → NoneFails es → FollowsFrom busy (session_script client cs) es → report_after counts clients before es ≡ session_lines clients t own number cs
 
-module _ (clients : List (List ℕ)) (client : List ℕ) (c : Command) (cs : List Command) (others : LinesAgree clients client cs) (m : Moment) (t : Tree) (before es : List Event) (own number : ℕ)
-    (busy : Busy) (rests : Rests m t before own number) (all : AllByRecursion IsPlayed (c ∷ cs)) (run : RunFrom m es) where
+module _ (counts : Counts) (clients : List (List ℕ)) (client : List ℕ) (c : Command) (cs : List Command) (others : LinesAgree counts clients client cs) (m : Moment) (t : Tree) (before es : List Event) (own number : ℕ)
+    (busy : Busy) (rests : Rests m t before own number) (all : AllByRecursion IsPlayed (c ∷ cs)) (run : RunFrom m es) (none : NoneFails es) where
   -- the lines from here on are those of the tree
   abbrev Agrees : Type 0
-  Agrees = report_after clients before es ≡ session_lines clients t own number (c ∷ cs)
+  Agrees = report_after counts clients before es ≡ session_lines clients t own number (c ∷ cs)
 
   first_agrees : (op : OpId) (front rest : List Event) (n : ℕ) (a : Answer) (next : Option OpId) → op.actor ≡ 1 → Acts op n front → es ≡ (Began op c ∷ front ++ Ended op a ∷ []) ++ rest → next ≡ None
       → FollowsFrom (with_busy busy 1 next) (session_script client cs) rest → Agrees
@@ -181,27 +187,38 @@ module _ (clients : List (List ℕ)) (client : List ℕ) (c : Command) (cs : Lis
       let whole : RunFrom m (part ++ rest) = rw parts at run in
       let mine : RunFrom m part = run-front m part rest whole in
       let next_rests : Rests (after_all m part) p.tree (before ++ part) p.serial (number + 1) =
-      rests_after clients m t before own number rests op c one all.0 front n a acts mine in
-      let tail : report_after clients (before ++ part) rest ≡ session_lines clients p.tree p.serial (number + 1) cs =
-      others (after_all m part) p.tree (before ++ part) rest p.serial (number + 1) (with_busy busy 1 next) next_rests free all.1 (run-rest m part rest whole) more in
-      ap (report_after clients before) parts ∙ report-append clients before part rest ∙ rw (line clients m t before own number rests op c one all.0 front n a acts mine, tail) refl
+      rests_after counts clients m t before own number rests op c one all.0 front n a acts mine in
+      let tail : report_after counts clients (before ++ part) rest ≡ session_lines clients p.tree p.serial (number + 1) cs =
+      others (after_all m part) p.tree (before ++ part) rest p.serial (number + 1) (with_busy busy 1 next) next_rests free all.1 (run-rest m part rest whole) (none_fails-rest part rest (rw parts at none)) more in
+      ap (report_after counts clients before) parts ∙ report-append counts clients before part rest ∙ rw (line counts clients m t before own number rests op c one all.0 front n a acts mine, tail) refl
+
+  end_agrees : (op : OpId) (front rest : List Event) (n : ℕ) (end : Event) (next : Option OpId) → op.actor ≡ 1 → Acts op n front → IsEndOf op end → es ≡ (Began op c ∷ front ++ end ∷ []) ++ rest → next ≡ None
+      → FollowsFrom (with_busy busy 1 next) (session_script client cs) rest → Agrees
+  end_agrees op front rest n (Ended o a) next one acts is parts free more = first_agrees op front rest n a next one acts (rw is at parts) free more
+  end_agrees op front rest n (Failed o a) next one acts is parts free more =
+      let fails : NoneFails (Failed o a ∷ []) = none_fails-rest (Began op c ∷ front) (Failed o a ∷ []) (none_fails-front (Began op c ∷ front ++ Failed o a ∷ []) rest (rw parts at none)) in
+      absurd fails.0
+  end_agrees op front rest n (Began o d) next one acts is parts free more = absurd is
+  end_agrees op front rest n (Acted o q x) next one acts is parts free more = absurd is
+  end_agrees op front rest n (Stopped o) next one acts is parts free more = absurd is
+  end_agrees op front rest n Dumped next one acts is parts free more = absurd is
 
   line_agrees : (part rest : List Event) (next : Option OpId) → es ≡ part ++ rest → DoesLine 1 None (acts.Do c) part next → FollowsFrom (with_busy busy 1 next) (session_script client cs) rest → Agrees
   line_agrees part rest next parts d more =
       let b : BeginsAndEnds 1 c part = d.0 in
       let e : EndsAfter b.0 (b.4).0 b.1 = (b.4).1 in
-      let is : part ≡ Began b.0 c ∷ e.0 ++ Ended b.0 e.1 ∷ [] = b.3 ∙ ap (λ l. Began b.0 c ∷ l) e.2 in
-      first_agrees b.0 e.0 rest (b.4).0 e.1 next b.2 e.3 (parts ∙ ap (λ l. l ++ rest) is) d.1 more
+      let is : part ≡ Began b.0 c ∷ e.0 ++ e.1 ∷ [] = b.3 ∙ ap (λ l. Began b.0 c ∷ l) e.2 in
+      end_agrees b.0 e.0 rest (b.4).0 e.1 next b.2 e.3 e.4 (parts ∙ ap (λ l. l ++ rest) is) d.1 more
 
-lines_agree : (clients : List (List ℕ)) (client : List ℕ) (cs : List Command) → LinesAgree clients client cs
-lines_agree clients client [] m t before es own number busy rests idle all run follows = rw follows refl
-lines_agree clients client (c ∷ cs) m t before es own number busy rests idle all run follows =
-    line_agrees clients client c cs (lines_agree clients client cs) m t before es own number busy rests all run follows.0 follows.1 follows.2 follows.3 (rw idle at follows.4) follows.5
+lines_agree : (counts : Counts) (clients : List (List ℕ)) (client : List ℕ) (cs : List Command) → LinesAgree counts clients client cs
+lines_agree counts clients client [] m t before es own number busy rests idle all run none follows = rw follows refl
+lines_agree counts clients client (c ∷ cs) m t before es own number busy rests idle all run none follows =
+    line_agrees counts clients client c cs (lines_agree counts clients client cs) m t before es own number busy rests all run none follows.0 follows.1 follows.2 follows.3 (rw idle at follows.4) follows.5
 
 opening_rests : (counts : Counts) → Rests (opening counts) opening_tree [] 1 0
 opening_rests counts = record { tracks = opening_tracks counts; quiet = λ op late. refl; serial = refl; count = refl }
 
 pub session_reported : (counts : Counts) (clients : List (List ℕ)) (client : List ℕ) (cs : List Command) (history : List Event) → AllByRecursion IsPlayed cs
-    → IsWorldRun counts history → Follows (session_script client cs) history → report clients history ≡ session_lines clients opening_tree 1 0 cs
-session_reported counts clients client cs history all run follows =
-    lines_agree clients client cs (opening counts) opening_tree [] history 1 0 none_busy (opening_rests counts) refl all run follows
+    → IsWorldRun counts history → NoneFails history → Follows (session_script client cs) history → report counts clients history ≡ session_lines clients opening_tree 1 0 cs
+session_reported counts clients client cs history all run none follows =
+    lines_agree counts clients client cs (opening counts) opening_tree [] history 1 0 none_busy (opening_rests counts) refl all run none follows

@@ -5,7 +5,7 @@
 ghost use Rattle.std.specs.Prelude.{◌≡◌, ◌<◌, ◌^◌, ℕ, List, length};
 ghost use Rattle.std.specs.List.{AllByRecursion};
 ghost use Rattle.tect_ids.specs.declared.command.Command.{Command};
-ghost use Rattle.world_runs.specs.Follows.{Follows};
+ghost use Rattle.world_runs.specs.Follows.{Follows, NoneFails};
 ghost use Rattle.world_runs.specs.Headline.{Headline};
 ghost use Rattle.world_runs.specs.Report.{report};
 ghost use Rattle.world_runs.specs.Served.{IsServed};
@@ -33,9 +33,9 @@ pub fn every_run_follows_the_tree()
 {}
 
 /// A run of the world that follows a script of one client, whose commands are done one after another, is reported by the
-/// very lines that the tree alone gives.
+/// very lines that the tree alone gives, where no command fails for want of memory.
 pub fn report_is_session()
-    ensures { (counts : Counts) (clients : List (List ℕ)) (client : List ℕ) (commands : List Command) (history : List Event) → AllByRecursion IsPlayed commands → IsWorldRun counts history → Follows (session_script client commands) history → report clients history ≡ session_lines clients opening_tree 1 0 commands }
+    ensures { (counts : Counts) (clients : List (List ℕ)) (client : List ℕ) (commands : List Command) (history : List Event) → AllByRecursion IsPlayed commands → IsWorldRun counts history → NoneFails history → Follows (session_script client commands) history → report counts clients history ≡ session_lines clients opening_tree 1 0 commands }
 {}
 
 /// In every run of the world, whatever its actors ask in whatever order, each answer is the one that the tree gives at the
@@ -44,7 +44,8 @@ pub fn each_answer_is_the_trees()
     ensures { (counts : Counts) (events : List Event) → IsWorldRun counts events → Headline events }
 {}
 
-/// Each script of one client, whose commands are served and done one after another, is followed by some run of the world.
+/// Each script of one client, whose commands are served and done one after another, is followed by some run of the world in
+/// which none fails.
 pub fn each_session_can_be_run()
-    ensures { (counts : Counts) (client : List ℕ) (commands : List Command) → AllByRecursion IsServed commands → length commands < 2 ^ 31 → (history : List Event) × IsWorldRun counts history × Follows (session_script client commands) history }
+    ensures { (counts : Counts) (client : List ℕ) (commands : List Command) → AllByRecursion IsServed commands → length commands < 2 ^ 31 → (history : List Event) × IsWorldRun counts history × NoneFails history × Follows (session_script client commands) history }
 {}

@@ -1,5 +1,6 @@
 -- When a history follows a script, line by line.
 use Rattle.std.specs.Prelude.{◌≡◌, ℕ, ◌+◌, ◌<◌, ◌≤◌, Bool, eqb, if◌then◌else◌, Option, Some, None, List, [], ◌∷◌, ◌++◌, length, ◌⊎◌}
+use Rattle.std.specs.List.{AllByRecursion}
 use Rattle.tect_ids.specs.declared.ids.OpId.{OpId}
 use Rattle.tect_ids.specs.declared.command.Command.{Command}
 use Rattle.tect_ids.specs.declared.answer.Answer.{Answer}
@@ -80,3 +81,12 @@ FollowsFrom busy (lines.Lose disk ∷ ls) es = ⊥
 
 abbrev pub Follows : List Line → List Event → Type 0
 Follows ls es = FollowsFrom none_busy ls es
+
+-- the event is no failure for want of memory
+abbrev pub FindsMemory : Event → Type 0
+FindsMemory (Failed op a) = ⊥
+FindsMemory _ = Unit {0}
+
+-- no op of the history fails
+abbrev pub NoneFails : List Event → Type 0
+NoneFails = AllByRecursion FindsMemory

@@ -37,6 +37,15 @@ all_idle actor = Idle
 abbrev pub with_turn : Turns → ℕ → ClientTurn → Turns
 with_turn turns actor turn other = if eqb other actor then turn else turns other
 
+-- the turns after the lines
+abbrev pub turns_after : Turns → List Line → Turns
+turns_after turns [] = turns
+turns_after turns (lines.Client client actor act ∷ ls) = turns_after (with_turn turns actor (turn_after act)) ls
+turns_after turns (lines.Dump ∷ ls) = turns_after turns ls
+turns_after turns (lines.Store counts ∷ ls) = turns_after turns ls
+turns_after turns (lines.Sweep ∷ ls) = turns_after turns ls
+turns_after turns (lines.Lose disk ∷ ls) = turns_after turns ls
+
 -- each line is in turn, and of one of 64 clients
 abbrev pub InTurnFrom : Turns → List Line → Type 0
 InTurnFrom turns [] = Unit {0}

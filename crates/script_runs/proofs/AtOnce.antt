@@ -1,0 +1,106 @@
+-- events after which each op that has come to its answer has ended
+use Rattle.std.proofs.Common.{◌≡◌, ◌≤◌, ◌+◌, ℕ, zero, suc, Option, Some, None, List, [], ◌∷◌, ◌++◌, refl, sym, subst, arith, take}
+use Rattle.tect_ids.specs.declared.ids.OpId.{OpId}
+use Rattle.tect_ids.specs.declared.command.Command.{Command}
+use Rattle.tect_ids.specs.declared.answer.Answer.{Answer}
+use Rattle.store_rules.specs.declared.any.AnyReq.{AnyReq}
+use Rattle.op_names.specs.declared.program.Phase.{Phase}
+use Rattle.op_names.specs.declared.program.Phase.TheVariants.{Walk, Bind, Grant, Swap, Release, End}
+use Rattle.op_names.specs.declared.program.Program.{Program}
+use Rattle.op_names.specs.Programs.{object_number, phase_ask, phase_answer}
+use Rattle.world_runs.specs.declared.event.Event.{Event}
+use Rattle.world_runs.specs.declared.event.Event.TheVariants.{Began, Acted, Ended, Stopped, Failed, Dumped}
+use Rattle.world_runs.specs.Moments.{Moment, after, after_all, RunFrom, running, asked, answered, program_ask, program_answer}
+use Rattle.world_runs.specs.Follows.{Acts}
+use Rattle.script_runs.specs.Smooth.{EndIsNext, IsPrompt, EndsAtOnce}
+
+-- ---- who asks has no answer
+
+phase_not_both : (op : OpId) (i : ℕ) (c : Command) (at : Phase) (q : AnyReq) (a : Answer) → phase_ask op i c at ≡ Some q → phase_answer at ≡ Some a → ⊥
+phase_not_both op i c (End b) q a asks says = let k : None ≡ Some q = asks in cc
+phase_not_both op i c (Walk d ns) q a asks says = let k : None ≡ Some a = says in cc
+phase_not_both op i c (Bind k n o) q a asks says = let k : None ≡ Some a = says in cc
+phase_not_both op i c (Grant k n) q a asks says = let k : None ≡ Some a = says in cc
+phase_not_both op i c (Swap k n) q a asks says = let k : None ≡ Some a = says in cc
+phase_not_both op i c (Release n h old b) q a asks says = let k : None ≡ Some a = says in cc
+
+program_not_both : (serial : ℕ) (o : Option Program) (q : AnyReq) (a : Answer) → program_ask serial o ≡ Some q → program_answer o ≡ Some a → ⊥
+program_not_both serial None q a asks says = let k : None ≡ Some q = asks in cc
+program_not_both serial (Some p) q a asks says = phase_not_both p.op (object_number p.op.actor serial) p.command p.phase q a asks says
+
+pub not_both : (m : Moment) (op : OpId) (q : AnyReq) (a : Answer) → asked m op ≡ Some q → answered m op ≡ Some a → ⊥
+not_both m op q a asks says = program_not_both (m.actors op.actor).serial (running m op) q a asks says
+
+-- an op whose transaction comes next has no answer
+pub acts_unanswered : (m : Moment) (op : OpId) (n : ℕ) (es more : List Event) (a : Answer) → 1 ≤ n → Acts op n es → RunFrom m (es ++ more) → answered m op ≡ Some a → ⊥
+acts_unanswered m op n [] more a some acts run says = omega (arith, some, acts)
+acts_unanswered m op n (Acted o q x ∷ es) more a some acts run says = not_both m op q a (rw acts.0 at (run.0).0) says
+acts_unanswered m op n (Began o c ∷ es) more a some acts run says = acts
+acts_unanswered m op n (Ended o b ∷ es) more a some acts run says = acts
+acts_unanswered m op n (Stopped o ∷ es) more a some acts run says = acts
+acts_unanswered m op n (Failed o b ∷ es) more a some acts run says = acts
+acts_unanswered m op n (Dumped ∷ es) more a some acts run says = acts
+
+-- ---- more events
+
+end_still_next : (op : OpId) (es fs : List Event) → EndIsNext op es → EndIsNext op (es ++ fs)
+end_still_next op [] fs next = absurd next
+end_still_next op (e ∷ es) fs next = next
+
+prompt_still : (m : Moment) (e : Event) (es fs : List Event) → IsPrompt m e es → IsPrompt m e (es ++ fs)
+prompt_still m (Acted op q x) es fs prompt = λ a says. end_still_next op es fs (prompt a says)
+prompt_still m (Began op c) es fs prompt = tt
+prompt_still m (Ended op a) es fs prompt = tt
+prompt_still m (Stopped op) es fs prompt = tt
+prompt_still m (Failed op a) es fs prompt = tt
+prompt_still m Dumped es fs prompt = tt
+
+pub at_once-append : (m : Moment) (es fs : List Event) → EndsAtOnce m es → EndsAtOnce (after_all m es) fs → EndsAtOnce m (es ++ fs)
+at_once-append m [] fs first then = then
+at_once-append m (e ∷ es) fs first then = (prompt_still (after m e) e es fs first.0, at_once-append (after m e) es fs first.1 then)
+
+pub at_once-rest : (m : Moment) (es fs : List Event) → EndsAtOnce m (es ++ fs) → EndsAtOnce (after_all m es) fs
+at_once-rest m [] fs all = all
+at_once-rest m (e ∷ es) fs all = at_once-rest (after m e) es fs all.1
+
+-- ---- the events of one op
+
+module _ (op : OpId) where
+  -- transactions of the op up to its end
+  ends_next : (m : Moment) (n : ℕ) (es : List Event) (a b : Answer) → Acts op n es → RunFrom m (es ++ Ended op a ∷ []) → answered m op ≡ Some b → EndIsNext op (es ++ Ended op a ∷ [])
+  ends_next m n [] a b acts run says = refl
+  ends_next m n (Acted o q x ∷ es) a b acts run says = absurd (not_both m op q b (rw acts.0 at (run.0).0) says)
+  ends_next m n (Began o c ∷ es) a b acts run says = absurd acts
+  ends_next m n (Ended o d ∷ es) a b acts run says = absurd acts
+  ends_next m n (Stopped o ∷ es) a b acts run says = absurd acts
+  ends_next m n (Failed o d ∷ es) a b acts run says = absurd acts
+  ends_next m n (Dumped ∷ es) a b acts run says = absurd acts
+
+  pub end_at_once : (m : Moment) (n : ℕ) (es : List Event) (a : Answer) → Acts op n es → RunFrom m (es ++ Ended op a ∷ []) → EndsAtOnce m (es ++ Ended op a ∷ [])
+  end_at_once m n [] a acts run = (tt, tt)
+  end_at_once m count (Acted o q x ∷ es) a acts run =
+      let n : Moment = after m (Acted o q x) in (
+        λ b says. subst (λ (z : OpId). EndIsNext z (es ++ Ended op a ∷ [])) (sym acts.0)
+            (ends_next n (acts.1).0 es a b (acts.1).2 run.1 (subst (λ (z : OpId). answered n z ≡ Some b) acts.0 says)),
+        end_at_once n (acts.1).0 es a (acts.1).2 run.1,
+      )
+  end_at_once m n (Began o c ∷ es) a acts run = absurd acts
+  end_at_once m n (Ended o d ∷ es) a acts run = absurd acts
+  end_at_once m n (Stopped o ∷ es) a acts run = absurd acts
+  end_at_once m n (Failed o d ∷ es) a acts run = absurd acts
+  end_at_once m n (Dumped ∷ es) a acts run = absurd acts
+
+  -- fewer than its transactions
+  pub take_at_once : (m : Moment) (k n : ℕ) (es more : List Event) → k + 1 ≤ n → Acts op n es → RunFrom m (es ++ more) → EndsAtOnce m (take k es)
+  take_at_once m zero n es more few acts run = tt
+  take_at_once m (suc k) n [] more few acts run = tt
+  take_at_once m (suc k) count (Acted o q x ∷ es) more few acts run =
+      let rest : ℕ = (acts.1).0 in
+      let later : k + 1 ≤ rest = omega (arith, few, (acts.1).1) in
+      let n : Moment = after m (Acted o q x) in
+      (λ a says. absurd (acts_unanswered n op rest es more a (omega (arith, later)) (acts.1).2 run.1 (subst (λ (z : OpId). answered n z ≡ Some a) acts.0 says)), take_at_once n k rest es more later (acts.1).2 run.1)
+  take_at_once m (suc k) n (Began o c ∷ es) more few acts run = absurd acts
+  take_at_once m (suc k) n (Ended o d ∷ es) more few acts run = absurd acts
+  take_at_once m (suc k) n (Stopped o ∷ es) more few acts run = absurd acts
+  take_at_once m (suc k) n (Failed o d ∷ es) more few acts run = absurd acts
+  take_at_once m (suc k) n (Dumped ∷ es) more few acts run = absurd acts

@@ -1,0 +1,117 @@
+-- each running command can go on to its end, at whatever moment of a run
+use Rattle.std.proofs.Common.{◌≡◌, ◌≤◌, ◌+◌, ℕ, zero, suc, ◌⊎◌, inl, inr, true, false, ◌||◌, is_some, Option, Some, None, List, [], ◌∷◌, ◌++◌, refl, sym, subst, ◌∙◌, arith, take}
+use Rattle.tect_ids.specs.declared.ids.OpId.{OpId}
+use Rattle.tect_ids.specs.declared.answer.Answer.{Answer}
+use Rattle.tect_ids.specs.Keys.{op_eq}
+use Rattle.tect_ids.proofs.KeyTests.{op_eq_cases}
+use Rattle.store_rules.specs.declared.any.AnyReq.{AnyReq}
+use Rattle.store_rules.specs.Store.{store_reply}
+use Rattle.op_names.specs.declared.program.Program.{Program}
+use Rattle.world_runs.specs.declared.event.Event.{Event}
+use Rattle.world_runs.specs.declared.event.Event.TheVariants.{Began, Acted, Ended, Stopped, Failed, Dumped}
+use Rattle.world_runs.specs.Moments.{Moment, after, running, asked, answered, program_of}
+use Rattle.world_runs.specs.Follows.{Acts, EndsAfter, NoneFails}
+use Rattle.world_runs.specs.Report.{is_act_of}
+use Rattle.store_world.specs.Worlds.{Ghost}
+use Rattle.sound_runs.specs.Known.{AllSound, Knows}
+use Rattle.sound_runs.specs.Pasts.{ghost_after, world_of}
+use Rattle.sound_runs.proofs.MomentsKeep.{RunsAs, event_sound}
+use Rattle.sound_runs.proofs.RunsKeep.{knows_of, running_is_of, running_does}
+use Rattle.tree_runs.proofs.Histories.{acts_none_fail, none_fails-append}
+use Rattle.tree_runs.proofs.Ends.{CanEnd}
+use Rattle.run_bounds.specs.Bounds.{is_look_of, is_other_of}
+use Rattle.run_bounds.proofs.PhasesLeft.{looks_left, others_left, one_if}
+use Rattle.run_bounds.proofs.Steps.{Runs, GoesOn, own_acts}
+use Rattle.run_bounds.proofs.RunsShort.{event_splits}
+use Rattle.script_runs.proofs.Lines.{IsBusy}
+
+-- at most how many transactions are to come
+abbrev pub left : Program → ℕ
+left p = looks_left p.command p.phase + others_left p.phase
+
+itself : (op : OpId) → op_eq op op ≡ true
+itself op = grind (arith, op_eq_cases op op)
+
+-- the program runs as its op
+pub runs_as_its_op : (o : Option Program) (p : Program) (op : OpId) → o ≡ Some p → p.op ≡ op → program_of o op ≡ Some p
+runs_as_its_op o p op is its = let yes : op_eq p.op op ≡ true = rw its (itself op) in rw (is, yes) refl
+
+pub busy_runs : (m : Moment) (a : ℕ) (op : OpId) → (b : IsBusy m a op) → running m op ≡ Some b.program
+busy_runs m a op b = runs_as_its_op (m.actors op.actor).running b.program op (rw b.own b.runs) b.its
+
+-- a transaction leaves one less
+falls : (m : Moment) (op : OpId) (q : AnyReq) (p : Program) (g : GoesOn m (Acted op q (store_reply m.store q)) op p) → left g.next + 1 ≤ left p
+falls m op q p g =
+    let e : Event = Acted op q (store_reply m.store q) in
+    let one : 1 ≡ one_if (is_look_of op e) + one_if (is_other_of op e) = let own : one_if (is_act_of op e) ≡ 1 = rw (itself op) refl in sym own ∙ event_splits e op in
+    omega (arith, one, g.looks, g.others)
+
+-- the op's number is one that its actor came to
+pub runs_old : (m : Moment) (g : Ghost) → AllSound m g → (op : OpId) (p : Program) → running m op ≡ Some p → Runs m op p
+runs_old m g s op p is =
+    let r : RunsAs (m.actors op.actor).running op p = running_is_of m op p is in
+    let k : Knows (world_of m g) op.actor (m.actors op.actor).serial (m.actors op.actor).number p = knows_of m g s op.actor p r.is in
+    let last : op.number ≡ (m.actors op.actor).number = subst (λ (o : OpId). o.number ≡ (m.actors op.actor).number) r.same k.last in
+    record { old = omega (arith, last); is = is }
+
+end_now : (m : Moment) (op : OpId) (a : Answer) → answered m op ≡ Some a → CanEnd m op
+end_now m op a is = record { front = []; count = 0; answer = a; acts = refl; run = (is, tt) }
+
+act_then : (m : Moment) (op : OpId) (q : AnyReq) → asked m op ≡ Some q → CanEnd (after m (Acted op q (store_reply m.store q))) op → CanEnd m op
+act_then m op q asks e = record {
+  front = Acted op q (store_reply m.store q) ∷ e.front;
+  count = e.count + 1;
+  answer = e.answer;
+  acts = (refl, (e.count, refl, e.acts));
+  run = ((asks, refl), e.run);
+}
+
+-- the op's own transaction
+goes_on : (m : Moment) (g : Ghost) → AllSound m g → (op : OpId) (p : Program) → running m op ≡ Some p → (q : AnyReq) → asked m op ≡ Some q → GoesOn m (Acted op q (store_reply m.store q)) op p
+goes_on m g s op p is q asks = own_acts m op q (store_reply m.store q) (asks, refl) p (runs_old m g s op p is)
+
+-- it asks, or has its answer
+asks_or_says : (o : Option AnyReq) (x : Option Answer) → (is_some o || is_some x) ≡ true → ((q : AnyReq) × (o ≡ Some q)) ⊎ ((a : Answer) × (x ≡ Some a))
+asks_or_says (Some q) x does = inl (q, refl)
+asks_or_says None (Some a) does = inr (a, refl)
+asks_or_says None None does = absurd (let k : false ≡ true = does in cc)
+
+-- with so many transactions left, or fewer
+pub ends_within : (bound : ℕ) (m : Moment) (g : Ghost) → AllSound m g → (op : OpId) (p : Program) → running m op ≡ Some p → left p ≤ bound → CanEnd m op
+ends_within zero m g s op p is few =
+    elim (asks_or_says (asked m op) (answered m op) (running_does m g s op p is)) [
+      | inl ask ↦ absurd (omega (arith, falls m op ask.0 p (goes_on m g s op p is ask.0 ask.1), few))
+      | inr say ↦ end_now m op say.0 say.1
+    ]
+ends_within (suc bound) m g s op p is few =
+    elim (asks_or_says (asked m op) (answered m op) (running_does m g s op p is)) [
+      | inl ask ↦
+          let e : Event = Acted op ask.0 (store_reply m.store ask.0) in
+          let on : GoesOn m e op p = goes_on m g s op p is ask.0 ask.1 in
+          act_then m op ask.0 ask.1 (ends_within bound (after m e) (ghost_after m g e) (event_sound m g e s (ask.1, refl)) op on.next (on.runs).is (omega (arith, falls m op ask.0 p on, few)))
+      | inr say ↦ end_now m op say.0 say.1
+    ]
+
+pub running_ends : (m : Moment) (g : Ghost) → AllSound m g → (op : OpId) (p : Program) → running m op ≡ Some p → CanEnd m op
+running_ends m g s op p is = ends_within (left p) m g s op p is (omega arith)
+
+-- the events to its end
+abbrev pub to_end : (m : Moment) (op : OpId) → CanEnd m op → List Event
+to_end m op e = e.front ++ Ended op e.answer ∷ []
+
+pub end_follows : (m : Moment) (op : OpId) (e : CanEnd m op) → EndsAfter op e.count (to_end m op e)
+end_follows m op e = (e.front, Ended op e.answer, refl, e.acts, refl)
+
+pub end_none_fails : (m : Moment) (op : OpId) (e : CanEnd m op) → NoneFails (to_end m op e)
+end_none_fails m op e = none_fails-append e.front (Ended op e.answer ∷ []) (acts_none_fail op e.count e.front e.acts) (tt, tt)
+
+-- the first of its transactions
+pub acts_take : (op : OpId) (n count : ℕ) (es : List Event) → n ≤ count → Acts op count es → Acts op n (take n es)
+acts_take op zero count es few acts = refl
+acts_take op (suc n) count [] few acts = absurd (omega (arith, few, acts))
+acts_take op (suc n) count (Acted o q x ∷ es) few acts = (acts.0, (n, omega arith, acts_take op n (acts.1).0 es (omega (arith, few, (acts.1).1)) (acts.1).2))
+acts_take op (suc n) count (Began o c ∷ es) few acts = absurd acts
+acts_take op (suc n) count (Ended o a ∷ es) few acts = absurd acts
+acts_take op (suc n) count (Stopped o ∷ es) few acts = absurd acts
+acts_take op (suc n) count (Failed o a ∷ es) few acts = absurd acts
+acts_take op (suc n) count (Dumped ∷ es) few acts = absurd acts

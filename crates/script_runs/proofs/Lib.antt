@@ -1,0 +1,9 @@
+pub mod Moves
+pub mod Lines
+pub mod FollowOn
+pub mod CanEnd
+pub mod AtOnce
+pub mod RunOn
+pub mod SameEnds
+pub mod Settles
+pub mod Fixed

@@ -1,0 +1,42 @@
+-- What is so of the runs that follow a script.
+use Rattle.std.specs.Prelude.{◌≡◌, ℕ, ◌<◌, ◌≤◌, ◌^◌, List, ◌++◌, length}
+use Rattle.tect_ids.specs.declared.ids.Counts.{Counts}
+use Rattle.tect_ids.specs.declared.script.Line.{Line}
+use Rattle.world_runs.specs.declared.event.Event.{Event}
+use Rattle.world_runs.specs.Moments.{Actor, IsWorldRun, moment}
+use Rattle.world_runs.specs.Follows.{FollowsFrom, Follows, NoneFails}
+use Rattle.world_runs.specs.Turns.{ClientTurn, all_idle, turns_after, InTurn}
+use Rattle.script_runs.specs.Standing.{busy_at, AtTurn}
+use Rattle.script_runs.specs.Smooth.{EndsAtOnce, IsSmoothRun, AllStepOn}
+
+-- what follows the next lines from the ops that are busy by then follows on
+abbrev pub RunFollowsOn : Type 0
+RunFollowsOn =
+    (counts : Counts) (front back : List Line) (history more : List Event) → IsWorldRun counts (history ++ more) → Follows front history
+    → FollowsFrom (busy_at (moment counts history)) back more → Follows (front ++ back) (history ++ more)
+
+-- the actor stands as its turn tells, and began at most one command for each line
+pub record Stands (turn : ClientTurn) (lines : ℕ) (a : Actor) : Type 0 where
+  pub stands : AtTurn turn a
+  pub began : a.number ≤ lines
+
+-- so does each actor after a run that follows a script in turn
+abbrev pub StandsByTurn : Type 0
+StandsByTurn =
+    (counts : Counts) (lines : List Line) (history : List Event) → InTurn lines → IsWorldRun counts history → Follows lines history
+    → (actor : ℕ) → Stands (turns_after all_idle lines actor) (length lines) ((moment counts history).actors actor)
+
+-- A run that follows the front of a script in turn can go on to follow the whole, and no command fails and each ends at once
+-- from there on.
+abbrev pub EachScriptCanBeRunOn : Type 0
+EachScriptCanBeRunOn =
+    (counts : Counts) (front back : List Line) (history : List Event) → InTurn (front ++ back) → length (front ++ back) < 2 ^ 31
+    → IsWorldRun counts history → Follows front history
+    → (more : List Event) × IsWorldRun counts (history ++ more) × Follows (front ++ back) (history ++ more) × NoneFails more
+    × EndsAtOnce (moment counts history) more
+
+-- the script fixes its smooth run
+abbrev pub ScriptFixesRun : Type 0
+ScriptFixesRun =
+    (counts : Counts) (lines : List Line) (one other : List Event) → AllStepOn lines → IsSmoothRun counts one → IsSmoothRun counts other → Follows lines one
+    → Follows lines other → one ≡ other

@@ -1,0 +1,31 @@
+//! Laws of scripts and runs of the world: how a run follows a script on, that each script in turn can be run from any moment
+//! at which it stands, and what a script fixes of its runs. Nothing here is called: each function's contract is a law.
+#![tactic(auto)]
+
+ghost use Rattle.script_runs.specs.Laws.{RunFollowsOn, StandsByTurn, EachScriptCanBeRunOn, ScriptFixesRun};
+
+/// Where a run of the world follows some lines, and what comes after follows further lines from the ops that are then busy,
+/// the whole follows all lines.
+pub fn run_follows_on()
+    ensures { RunFollowsOn }
+{}
+
+/// Where a run of the world follows a script in turn, each actor stands as its turn tells: an idle one has no running command
+/// and may go on, a busy one may go on, and one that is gone has no running command. None began more commands than the script
+/// has lines.
+pub fn stands_by_turn()
+    ensures { StandsByTurn }
+{}
+
+/// A run of the world that follows the front of a script in turn can go on to follow the whole script, and on the way
+/// no command fails and each ends at once when it has come to its answer. So each script in turn can be run.
+pub fn each_script_can_be_run_on()
+    ensures { EachScriptCanBeRunOn }
+{}
+
+/// Two runs of the world that follow one script are the same, where no command fails, each ends at once when it has come to its
+/// answer by a transaction, and each step of the script is of one transaction or more. A script fixes the rest: whose
+/// transactions come when, and all replies and answers.
+pub fn script_fixes_run()
+    ensures { ScriptFixesRun }
+{}
