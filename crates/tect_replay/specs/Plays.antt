@@ -15,10 +15,11 @@ use Rattle.world_runs.specs.Served.{IsServed}
 use Rattle.world_runs.specs.Moments.{Actor, IsWorldRun}
 use Rattle.world_runs.specs.Follows.{Acts, DoesLine, FollowsFrom}
 use Rattle.world_runs.specs.Report.{report_after}
-use Rattle.script_runs.specs.Busy.{busy_at}
+use Rattle.script_runs.specs.Standing.{busy_at}
+use Rattle.script_runs.specs.Smooth.{EndsAtOnce}
 use Rattle.tect_world.specs.Life.{Life, present, grown, last_op}
 use Rattle.tect_world.specs.Steps.{RanToEnd, GoesOn}
-use Rattle.tect_replay.specs.Replays.{IsShallow, IsShallowAct}
+use Rattle.tect_replay.specs.Replays.{IsShallow}
 use Rattle.tect_replay.specs.declared.lines.Shown.{Shown}
 use Rattle.tect_replay.specs.declared.lines.Shown.TheVariants as shown
 
@@ -50,9 +51,9 @@ CanPlay clients w (lines.Client client actor act) = (1 ≤ actor) × (actor ≤ 
 CanPlay clients w lines.Dump = Unit {0}
 CanPlay clients w line = ⊥
 
--- at most that many transactions: all of them, or fewer and the end with an answer
+-- at most that many transactions: all of them, by which there is no answer yet, or fewer and the end with an answer
 abbrev pub StepsUpTo : ℕ → Life → Life → OpId → Option Answer → Type 0
-StepsUpTo n old new op None = (es : List Event) × Acts op n es × (new ≡ grown old es)
+StepsUpTo n old new op None = (es : List Event) × Acts op n es × (new ≡ grown old es) × EndsAtOnce (present old) es
 StepsUpTo n old new op (Some a) = (ran : RanToEnd old new op a) × (ran.count ≤ n)
 
 -- what a played line has to show
@@ -68,6 +69,7 @@ pub record PlaysAct (clients : List (List ℕ)) (actor : ℕ) (act : Act) (old n
   pub grew : new ≡ grown old part
   pub run : IsWorldRun new.counts new.history
   pub does : DoesLine actor (busy_at (present old) actor) act part next
+  pub at_once : EndsAtOnce (present old) part
   pub shallow : AllShallow part
   pub shows : report_after old.counts clients old.history part ≡ ls
 
@@ -77,5 +79,6 @@ pub record PlaysLine (clients : List (List ℕ)) (line : Line) (old new : Life) 
   pub grew : new ≡ grown old part
   pub run : IsWorldRun new.counts new.history
   pub follows : FollowsFrom (busy_at (present old)) (line ∷ []) part
+  pub at_once : EndsAtOnce (present old) part
   pub shallow : AllShallow part
   pub shows : report_after old.counts clients old.history part ≡ ls

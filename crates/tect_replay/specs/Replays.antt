@@ -17,13 +17,14 @@ use Rattle.tect_ids.specs.Places.{HasPlaces}
 use Rattle.tect_edge.specs.Prefixes.{AppendsProperPrefix}
 use Rattle.tree_model.specs.Tree.{opening_tree}
 use Rattle.world_runs.specs.declared.event.Event.{Event}
-use Rattle.world_runs.specs.Moments.{IsWorldRun, AtEachMoment}
+use Rattle.world_runs.specs.Moments.{opening, IsWorldRun, AtEachMoment}
 use Rattle.world_runs.specs.Sound.{IsSound}
 use Rattle.world_runs.specs.Headline.{Headline, command_of}
 use Rattle.world_runs.specs.Follows.{Follows, NoneFails}
 use Rattle.world_runs.specs.Turns.{InTurn}
 use Rattle.tree_runs.specs.Session.{IsPlayed, session_lines, session_script}
 use Rattle.run_bounds.specs.Bounds.{IsShort, first_path}
+use Rattle.script_runs.specs.Smooth.{EndsAtOnce, IsSmoothRun}
 use Rattle.tect_replay.specs.Output.{plan_report, output_text}
 
 -- ---- the plans
@@ -32,14 +33,16 @@ use Rattle.tect_replay.specs.Output.{plan_report, output_text}
 abbrev pub IsShallow : Command → Type 0
 IsShallow c = length (first_path c) ≤ 256
 
-abbrev pub IsShallowAct : Act → Type 0
-IsShallowAct (acts.Do c) = IsShallow c
-IsShallowAct (acts.Begin c) = IsShallow c
-IsShallowAct act = Unit {0}
+-- a command that begins is shallow, and a step is of one transaction or more
+abbrev pub IsBounded : Act → Type 0
+IsBounded (acts.Do c) = IsShallow c
+IsBounded (acts.Begin c) = IsShallow c
+IsBounded (acts.Step n) = 1 ≤ n
+IsBounded act = Unit {0}
 
--- the line is of one of so many clients, and its command is shallow
+-- the line is of one of so many clients, and what it asks is bounded
 abbrev pub IsWithin : ℕ → Line → Type 0
-IsWithin clients (lines.Client client actor act) = (actor ≤ clients) × IsShallowAct act
+IsWithin clients (lines.Client client actor act) = (actor ≤ clients) × IsBounded act
 IsWithin clients line = Unit {0}
 
 pub record IsReplayable (plan : Plan) : Type 0 where
@@ -61,17 +64,18 @@ IsToldByTree plan history =
     (client : List ℕ) (cs : List Command) → plan.lines ≡ session_script client cs → AllByRecursion IsPlayed cs → NoneFails history
     → plan_report plan history ≡ session_lines plan.clients opening_tree 1 0 cs
 
--- of the runs that follow the script, it is the only one in which no command fails for want of memory
+-- Of the runs that follow the script, in which no command fails for want of memory and each ends as soon as it has its
+-- answer, it is the only one.
 abbrev pub IsOnlyRun : Plan → List Event → Type 0
-IsOnlyRun plan history =
-    NoneFails history → (other : List Event) → IsWorldRun plan.counts other → Follows plan.lines other → NoneFails other → other ≡ history
+IsOnlyRun plan history = NoneFails history → (other : List Event) → IsSmoothRun plan.counts other → Follows plan.lines other → other ≡ history
 
--- The history is one that the world has under the script: a run of the world that follows the script's lines, sound at
--- each moment, each of whose answers is the one that the tree gives at the command's point. Each command takes few
--- transactions.
+-- The history is one that the world has under the script: a run of the world that follows the script's lines, in which
+-- each command ends as soon as it has its answer; sound at each moment; and each answer is the one that the tree gives at the
+-- command's point. Each command takes few transactions.
 pub record IsHistoryOf (plan : Plan) (history : List Event) : Type 0 where
   pub run : IsWorldRun plan.counts history
   pub follows : Follows plan.lines history
+  pub at_once : EndsAtOnce (opening plan.counts) history
   pub sound : AtEachMoment IsSound plan.counts history
   pub answers : Headline history
   pub none_odd : AllByRecursion IsNotOdd (plan_report plan history)

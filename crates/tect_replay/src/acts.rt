@@ -42,9 +42,7 @@ fn answered(
     requires shallow { AllShallow world.now.history }
     ensures { IfOk result (λ shown. shown_lines shown ≡ line_of clients.now world.now.history (last_op (present world.now) actor) answer ∷ []) }
 {
-    Ok(Shown::Answer(answer_line(
-        alloc, clients, world, actor, answer,
-    )?))
+    Ok(Shown::Answer(answer_line(alloc, clients, world, actor, answer)?))
 }
 
 fn do_command(
@@ -80,12 +78,15 @@ fn begin_command(
 /// At most that many transactions of the actor's command.
 fn steps(world: &mut World, actor: u32, count: u32) -> Result<Option<Answer>, NoMemory>
     requires actor { (1 ≤ actor) × (actor ≤ 64) }
+    requires run { IsWorldRun world.old.counts world.old.history }
     requires running { IsSome ((present world.old).actors actor).running }
     ensures steps { IfOk result (StepsUpTo count world.old world.new (last_op (present world.old) actor)) }
+    ensures run { IsWorldRun world.new.counts world.new.history }
 {
-    'steps: for _ in 0..count {
-        if let Turned::Done(answer) = world.step(actor)? {
-            return Ok(Some(answer));
+    'steps: for _step in 0..count {
+        match world.step(actor)? {
+            Turned::Going => {}
+            Turned::Done(answer) => return Ok(Some(answer)),
         }
     }
     Ok(None)
@@ -111,12 +112,7 @@ fn step_on(
     }
 }
 
-fn run_on(
-    alloc: Global,
-    clients: &[Name],
-    world: &mut World,
-    actor: u32,
-) -> Result<Shown, NoMemory>
+fn run_on(alloc: Global, clients: &[Name], world: &mut World, actor: u32) -> Result<Shown, NoMemory>
     requires actor { (1 ≤ actor) × (actor ≤ 64) × (actor ≤ length clients.now) }
     requires shallow { AllShallow world.old.history }
     ensures { IfOk result (λ shown. PlaysAct clients.now actor Act.Run world.old world.new (shown_lines shown)) }
@@ -128,12 +124,7 @@ fn run_on(
     answered(alloc, clients, world, actor, answer)
 }
 
-fn stop(
-    alloc: Global,
-    clients: &[Name],
-    world: &mut World,
-    actor: u32,
-) -> Result<Shown, NoMemory>
+fn stop(alloc: Global, clients: &[Name], world: &mut World, actor: u32) -> Result<Shown, NoMemory>
     requires actor { (1 ≤ actor) × (actor ≤ 64) × (actor ≤ length clients.now) }
     requires shallow { AllShallow world.old.history }
     ensures { IfOk result (λ shown. PlaysAct clients.now actor Act.Stop world.old world.new (shown_lines shown)) }

@@ -23,7 +23,8 @@ pub fn replay<K: Sink>(alloc: Global, plan: &Plan, sink: &mut K) -> Result<(), R
 {
     let mut world = World::start(alloc, plan.counts)?;
     let mut buffer = Vec::new(alloc);
-    'lines: for line in plan.lines.as_slice() {
+    let lines = plan.lines.as_slice();
+    'lines: for line in lines {
         let shown = play_line(alloc, plan.clients.as_slice(), &mut world, line)?;
         write_shown(&shown, &mut buffer, sink)?;
     }
