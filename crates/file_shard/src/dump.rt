@@ -1,5 +1,5 @@
-ghost use Rattle.std.specs.Prelude.{◌≡◌, IfOk};
-ghost use Rattle.std.specs.FinMap.{len};
+ghost use Rattle.std.specs.Prelude.{◌≡◌, IfOk, option_map};
+ghost use Rattle.std.specs.FinMap.{len, get, keys};
 ghost use Rattle.store_rules.specs.Dumps.{file_line, files_dump};
 
 use crate::shard::FileShard;
@@ -16,6 +16,27 @@ impl FileShard {
             lines.push(file_line(*file, row)?)?;
         }
         Ok(lines)
+    }
+
+    /// The files that the shard has, in the order of their identifiers.
+    pub fn files(&self) -> Result<Vec<FileId>, NoMemory>
+        ensures { IfOk result (λ files. files.items ≡ keys self.now) }
+    {
+        let mut files = Vec::with_capacity(self.alloc, self.files.len())?;
+        for (file, _row) in self.files.iter() {
+            files.push(*file)?;
+        }
+        Ok(files)
+    }
+
+    /// The line that a dump shows of one file. None where the shard does not have it.
+    pub fn dump_one(&self, file: FileId) -> Result<Option<DumpLine>, NoMemory>
+        ensures { IfOk result (λ line. line ≡ option_map (λ row. file_line (file, row)) (get self.now file)) }
+    {
+        match self.files.get(file) {
+            None => Ok(None),
+            Some(row) => Ok(Some(file_line(file, row)?)),
+        }
     }
 }
 

@@ -1,4 +1,5 @@
 pub mod Codes
+pub mod DirDumps
 pub mod Limits
 pub mod Memory
 pub mod Outcomes

@@ -1,5 +1,7 @@
 ghost use Rattle.std.specs.Prelude.{◌≡◌, ◌++◌, IfOk, OnOk};
+ghost use Rattle.std.specs.FinMap.{keys};
 ghost use Rattle.store_rules.specs.Dumps.{dir_line, dir_lines, entry_line, dir_state, names_dump};
+ghost use Rattle.name_shard.specs.DirDumps.{dir_dump};
 
 use crate::shard::NameShard;
 use store_rules::{Directory, Entry};
@@ -13,6 +15,29 @@ impl NameShard {
         let mut lines = Vec::new(self.alloc);
         for (dir, directory) in self.dirs.iter() {
             self.dump_dir(&mut lines, *dir, directory)?;
+        }
+        Ok(lines)
+    }
+
+    /// The directories that the shard has, in the order of their identifiers.
+    pub fn dirs(&self) -> Result<Vec<DirId>, NoMemory>
+        ensures { IfOk result (λ dirs. dirs.items ≡ keys self.now.dirs) }
+    {
+        let mut dirs = Vec::with_capacity(self.alloc, self.dirs.len())?;
+        for (dir, _directory) in self.dirs.iter() {
+            dirs.push(*dir)?;
+        }
+        Ok(dirs)
+    }
+
+    /// The lines that a dump shows of one directory: its own and those of its entries, by name. None where the shard does
+    /// not have it.
+    pub fn dump_one(&self, dir: DirId) -> Result<Vec<DumpLine>, NoMemory>
+        ensures { IfOk result (λ lines. lines.items ≡ dir_dump self.now dir) }
+    {
+        let mut lines = Vec::new(self.alloc);
+        if let Some(directory) = self.dirs.get(dir) {
+            self.dump_dir(&mut lines, dir, directory)?;
         }
         Ok(lines)
     }

@@ -1,16 +1,2 @@
 pub mod FormReads
-pub mod FormLaws
-pub mod WordLaws
-pub mod VerbLaws
-pub mod CommandLaws
-pub mod ActLaws
-pub mod GrammarLaws
-pub mod Visible
-pub mod ScriptLaws
-pub mod PlanLaws
-pub mod HonestLaws
-pub mod WrongLaws
-pub mod FaultLaws
-pub mod WrittenLaws
-pub mod PublicLaws
-pub mod LineByLine
+pub mod ClientNames

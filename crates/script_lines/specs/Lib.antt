@@ -1,13 +1,1 @@
-pub mod LineText
-pub mod Form
-pub mod Served
-pub mod Verbs
-pub mod Grammar
 pub mod Taken
-pub mod Clients
-pub mod Reading
-pub mod GivesPlan
-pub mod LineForms
-pub mod Spelling
-pub mod FirstWrong
-pub mod FirstFault

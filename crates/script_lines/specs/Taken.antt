@@ -1,12 +1,12 @@
 -- What a reading function took from the words of a line, as the forms say it.
-use Rattle.std.specs.Prelude.{ℕ, ◌≡◌, true, List, [], ◌∷◌, Result, Ok, Err, Option, Some, None, ◌⊎◌}
+use Rattle.std.specs.Prelude.{ℕ, ◌≡◌, List, [], ◌∷◌, Result, Ok, Err, Option, Some, None, ◌⊎◌}
 use Rattle.std.specs.Borrow.{Bor}
 use Rattle.script_words.specs.declared.limits.Fit.{Fit}
 use Rattle.script_words.specs.declared.limits.Fit.TheVariants.{Fits, Over, Unfit}
 use Rattle.script_words.specs.WordList.{spaced_length}
 use Rattle.script_lines.specs.declared.faults.LineFault.{LineFault}
 use Rattle.script_lines.specs.declared.faults.LineFault.TheVariants as faults
-use Rattle.script_lines.specs.Form.{Form, Outcome, Got, Wrong, Large, read}
+use Rattle.script_forms.specs.Form.{Outcome, Got, Wrong, Large}
 
 -- want of memory may come anywhere
 abbrev pub Gives : {A : Type 0} → Result A LineFault → List (List ℕ) → Outcome A → Type 0

@@ -1,14 +1,14 @@
 ghost use Rattle.std.specs.Prelude.{◌≡◌, [], true};
 ghost use Rattle.script_words.specs.Splitting.{parts};
 ghost use Rattle.script_words.specs.WordList.{words_left};
-ghost use Rattle.script_lines.specs.Form.{read, ended};
-ghost use Rattle.script_lines.specs.Grammar.{act_behind as act_form_behind, steps_form, act_form, world_behind, store_form};
+ghost use Rattle.script_forms.specs.Form.{read, ended};
+ghost use Rattle.script_forms.specs.Grammar.{act_behind as act_form_behind, steps_form, act_form, world_behind, store_form};
 ghost use Rattle.script_lines.specs.Taken.{Gives};
 
 use crate::commands::{any_command, command};
 use crate::faults::LineFault;
 use crate::takes::{take_act_word, take_count, take_end, take_number, take_text};
-use crate::verbs::{ActWord, Verb, WorldVerb};
+use script_forms::{ActWord, Verb, WorldVerb};
 use script_words::{Limit, Words, read_number};
 use std::alloc::Global;
 use tect_ids::{Act, Counts, DiskId, Line};

@@ -1,23 +1,12 @@
-ghost use Rattle.std.specs.Prelude.{◌≡◌, ◌+◌, ◌<◌, ◌≤◌, not, is_some, false, ◌++◌, ◌∷◌, [], take, IfOk, OnOk, length};
+ghost use Rattle.std.specs.Prelude.{◌≡◌, ◌+◌, ◌<◌, ◌≤◌, is_some, false, ◌++◌, ◌∷◌, [], take, IfOk, OnOk, length};
 ghost use Rattle.std.specs.Map.{lookup, keys_of};
 ghost use Rattle.indexmap.specs.IndexMap.{insert_entry, index_map_len};
-ghost use Rattle.script_lines.specs.Clients.{same_name, state_of as client_state, takes_word as takes, state_after as after, client_number, is_one_too_many as one_too_many, goes_on as going};
+ghost use Rattle.script_forms.specs.Clients.{same_name, state_of as client_state, client_number, is_one_too_many as one_too_many};
 
-use crate::verbs::is;
 use indexmap::IndexMap;
+use script_forms::ClientState;
 use std::alloc::Global;
-use tect_ids::{Act, Items, Name, NoMemory};
-
-/// What the lines of a script so far leave a client at.
-#[derive(Clone, Copy, Debug, PartialEq, Eq)]
-pub enum ClientState {
-    /// It may begin a command.
-    Idle,
-    /// Its command may go on.
-    Busy,
-    /// It was stopped.
-    Gone,
-}
+use tect_ids::{Items, Name, NoMemory};
 
 /// The clients in first-seen order.
 pub type Clients = IndexMap<Name, ClientState>;
@@ -29,36 +18,6 @@ pub fn state_of(clients: &Clients, name: &Name) -> ClientState
     match clients.get(name) {
         Some(state) => *state,
         None => ClientState::Idle,
-    }
-}
-
-fn goes_on(word: &[u8]) -> bool
-    ensures { result ≡ going word.now }
-{
-    is(word, "step") || is(word, "run") || is(word, "stop")
-}
-
-/// Whether a client in that state may have that word behind its name.
-pub fn takes_word(state: ClientState, word: &[u8]) -> bool
-    ensures { result ≡ takes state word.now }
-{
-    match state {
-        ClientState::Idle => !goes_on(word),
-        ClientState::Busy => goes_on(word),
-        ClientState::Gone => false,
-    }
-}
-
-/// The state in which an act leaves its client.
-pub fn state_after(act: &Act) -> ClientState
-    ensures { result ≡ after act.now }
-{
-    match act {
-        Act::Do(_) => ClientState::Idle,
-        Act::Begin(_) => ClientState::Busy,
-        Act::Step(_) => ClientState::Busy,
-        Act::Run => ClientState::Idle,
-        Act::Stop => ClientState::Gone,
     }
 }
 

@@ -1,12 +1,12 @@
 ghost use Rattle.std.specs.Prelude.{◌≡◌, true};
 ghost use Rattle.script_words.specs.WordList.{words_left};
-ghost use Rattle.script_lines.specs.Form.{read};
-ghost use Rattle.script_lines.specs.Grammar.{places_of as places, path_form, rename_form, move_form, append_form, sweep_form, repair_form, command_form, any_command};
+ghost use Rattle.script_forms.specs.Form.{read};
+ghost use Rattle.script_forms.specs.Grammar.{places_of as places, path_form, rename_form, move_form, append_form, sweep_form, repair_form, command_form, any_command};
 ghost use Rattle.script_lines.specs.Taken.{Gives};
 
 use crate::faults::LineFault;
 use crate::takes::{take_hex, take_layer, take_number, take_path, take_sibling, take_verb};
-use crate::verbs::{PathVerb, Verb, path_command};
+use script_forms::{PathVerb, Verb, path_command};
 use script_words::{Words, read_hex, read_number, read_path};
 use std::alloc::Global;
 use tect_ids::{Command, Counts, DiskId, Layer};

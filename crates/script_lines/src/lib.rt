@@ -1,4 +1,4 @@
-//! The lines of a script: how they are spelled, and how a script is read.
+//! The lines of a script, one by one: how each is read, and how it is written.
 #![tactic(auto)]
 
 mod acts;
@@ -6,11 +6,11 @@ mod clients;
 mod commands;
 mod faults;
 mod lines;
-mod script;
 mod spelling;
 mod takes;
-mod verbs;
 
-pub use faults::ScriptFault;
-pub use script::read_script;
+pub use acts::whole_store;
+pub use clients::{Clients, names_of};
+pub use faults::LineFault;
+pub use lines::read_line;
 pub use spelling::write_line;

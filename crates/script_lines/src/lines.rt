@@ -2,15 +2,15 @@ ghost use Rattle.std.specs.Prelude.{◌≡◌, ◌∷◌, [], ◌+◌, ◌-◌, 
 ghost use Rattle.script_words.specs.Splitting.{parts, parts_behind};
 ghost use Rattle.script_words.specs.WordForm.{is_client_name as client_name};
 ghost use Rattle.script_words.specs.WordList.{words_left, spaced_length};
-ghost use Rattle.script_lines.specs.Clients.{seen_after};
-ghost use Rattle.script_lines.specs.Verbs.{served_world as served};
-ghost use Rattle.script_lines.specs.Reading.{out_of_state, client_read, world_read, line_read};
+ghost use Rattle.script_forms.specs.Clients.{seen_after};
+ghost use Rattle.script_forms.specs.Verbs.{served_world as served};
+ghost use Rattle.script_forms.specs.Reading.{out_of_state, client_read, world_read, line_read};
 ghost use Rattle.script_lines.specs.Taken.{Gives};
 
 use crate::acts::{whole_act, whole_world};
-use crate::clients::{Clients, is_one_too_many, note, state_after, state_of, takes_word};
+use crate::clients::{Clients, is_one_too_many, note, state_of};
 use crate::faults::LineFault;
-use crate::verbs::served_world;
+use script_forms::{served_world, state_after, takes_word};
 use script_words::{Limit, Words, is_client_name};
 use std::alloc::Global;
 use tect_ids::{Counts, Line, Name, NoMemory};

@@ -1,7 +1,7 @@
 ghost use Rattle.std.specs.Prelude.{◌≡◌, ◌++◌, [], ◌∷◌, OnOk, OnErr, codes};
 ghost use Rattle.std.specs.Fmt.{decimal};
 ghost use Rattle.script_words.specs.WordText.{path_text, hex_text, layer_word as layer_text};
-ghost use Rattle.script_lines.specs.LineText.{behind, command_words, act_words, counts_words, line_words, line_text};
+ghost use Rattle.script_forms.specs.LineText.{behind, command_words, act_words, counts_words, line_words, line_text};
 
 use script_words::{layer_word, push_hex, push_path};
 use std::alloc::Global;

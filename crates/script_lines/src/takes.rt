@@ -2,11 +2,11 @@ ghost use Rattle.std.specs.Prelude.{◌≡◌, ◌∷◌, [], IfOk};
 ghost use Rattle.script_words.specs.WordForm.{path_fit, sibling_fit, hex_fit, number_fit, count_fit, layer_of as layer};
 ghost use Rattle.script_words.specs.WordList.{words_left, spaced_length};
 ghost use Rattle.script_lines.specs.Taken.{TakesWord, TakesChoice, TakesEnd, IsJudged};
-ghost use Rattle.script_lines.specs.Verbs.{served_verb as verb, act_word_of as act_word};
-ghost use Rattle.script_lines.specs.Grammar.{text_fit};
+ghost use Rattle.script_forms.specs.Verbs.{served_verb as verb, act_word_of as act_word};
+ghost use Rattle.script_forms.specs.Grammar.{text_fit};
 
 use crate::faults::LineFault;
-use crate::verbs::{ActWord, Verb, act_word_of, is, served_verb};
+use script_forms::{ActWord, Verb, act_word_of, is_text, served_verb};
 use script_words::{
     Fit, Limit, Words, count_fit, hex_fit, layer_of, number_fit, path_fit, sibling_fit,
 };
@@ -128,7 +128,7 @@ pub fn take_text<'a>(words: &mut Words<'a>, text: &str) -> Result<&'a [u8], Line
     match words.next() {
         None => Err(LineFault::Wrong { left }),
         Some(word) => {
-            if is(word, text) {
+            if is_text(word, text) {
                 Ok(word)
             } else {
                 Err(LineFault::Wrong { left })

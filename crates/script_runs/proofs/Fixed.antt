@@ -14,9 +14,9 @@ use Rattle.store_world.specs.Worlds.{opening_ghost}
 use Rattle.sound_runs.proofs.MomentsKeep.{opening_all_sound}
 use Rattle.tree_runs.proofs.Histories.{run-front, run-rest, none_fails-front, none_fails-rest}
 use Rattle.script_runs.specs.Standing.{busy_at}
-use Rattle.script_runs.specs.Laws.{ScriptFixesRun}
+use Rattle.script_runs.specs.Laws.{ScriptFixesRun, ScriptWithoutStepsFixesRun}
 use Rattle.script_runs.proofs.SameEnds.{ends_answer, answers_same, acts_same, acts_not_ends}
-use Rattle.script_runs.proofs.Settles.{IsSettled, Settles, follows_settled}
+use Rattle.script_runs.proofs.Settles.{IsSettled, Settles, follows_settled, settled_without_steps}
 
 -- ---- a line
 
@@ -124,3 +124,9 @@ script_fixes_run counts ls one other steps smooth also first second =
     let settled : Settles (opening counts) ls one = follows_settled ls steps (opening counts) opening_ghost one (opening_all_sound counts) smooth.run smooth.at_once first in
     let as_well : Settles (opening counts) ls other = follows_settled ls steps (opening counts) opening_ghost other (opening_all_sound counts) also.run also.at_once second in
     lines_fixed ls (opening counts) one other smooth.run also.run smooth.none_fails also.none_fails settled as_well
+
+pub script_without_steps_fixes_run : ScriptWithoutStepsFixesRun
+script_without_steps_fixes_run counts ls one other aside run also none clean first second =
+    let settled : Settles (opening counts) ls one = settled_without_steps ls aside (opening counts) opening_ghost one (opening_all_sound counts) run first in
+    let as_well : Settles (opening counts) ls other = settled_without_steps ls aside (opening counts) opening_ghost other (opening_all_sound counts) also second in
+    lines_fixed ls (opening counts) one other run also none clean settled as_well

@@ -17,7 +17,7 @@ use Rattle.sound_runs.specs.Pasts.{ghosts_after}
 use Rattle.sound_runs.proofs.RunsKeep.{run_keeps}
 use Rattle.tree_runs.proofs.Histories.{after_all-append, run-front, run-rest}
 use Rattle.script_runs.specs.Standing.{busy_at}
-use Rattle.script_runs.specs.Smooth.{EndIsNext, EndsAtOnce, StepsOn, AllStepOn}
+use Rattle.script_runs.specs.Smooth.{EndIsNext, EndsAtOnce, StepsOn, AllStepOn, IsNoStep, NoneSteps}
 use Rattle.script_runs.proofs.Moves.{changed, Keeps, end_moves}
 use Rattle.script_runs.proofs.Lines.{busy_is, IsDone, keeps_done, line_does, busy_after}
 use Rattle.script_runs.proofs.AtOnce.{at_once-rest}
@@ -326,3 +326,37 @@ follows_settled (lines.Dump ∷ ls) some m g es s run all f =
 follows_settled (lines.Store counts ∷ ls) some m g es s run all f = absurd f
 follows_settled (lines.Sweep ∷ ls) some m g es s run all f = absurd f
 follows_settled (lines.Lose disk ∷ ls) some m g es s run all f = absurd f
+
+-- ---- a script without steps
+
+settled_aside : (n : Moment) (client : List ℕ) (a : ℕ) (act : Act) (next : Option OpId) → IsNoStep (lines.Client client a act) → IsSettled n act next
+settled_aside n client a (acts.Step k) next aside = absurd aside
+settled_aside n client a (acts.Do c) next aside = tt
+settled_aside n client a (acts.Begin c) next aside = tt
+settled_aside n client a acts.Run next aside = tt
+settled_aside n client a acts.Stop next aside = tt
+
+pub settled_without_steps : (ls : List Line) → NoneSteps ls → (m : Moment) (g : Ghost) (es : List Event) → AllSound m g → RunFrom m es → FollowsFrom (busy_at m) ls es → Settles m ls es
+settled_without_steps [] aside m g es s run f = f
+settled_without_steps (lines.Client client a act ∷ ls) aside m g es s run f =
+    let part : List Event = f.0 in
+    let rest : List Event = f.1 in
+    let whole : RunFrom m (part ++ rest) = rw f.3 at run in
+    let mine : RunFrom m part = run-front m part rest whole in
+    let n : Moment = after_all m part in
+    let done : IsDone m n a act f.2 = line_does m g s a act part f.2 mine f.4 in
+    let on : FollowsFrom (busy_at n) ls rest = subst (λ (b : Busy). FollowsFrom b ls rest) (busy_after m n a act f.2 done) f.5 in (
+      part,
+      rest,
+      f.2,
+      f.3,
+      f.4,
+      settled_aside n client a act f.2 aside.0,
+      settled_without_steps ls aside.1 n (ghosts_after m g part) rest (run_keeps part m g s mine) (run-rest m part rest whole) on,
+    )
+settled_without_steps (lines.Dump ∷ ls) aside m g es s run f =
+    let whole : RunFrom m (Dumped ∷ f.0) = rw f.1 at run in
+    (f.0, f.1, settled_without_steps ls aside.1 m g f.0 s whole.1 f.2)
+settled_without_steps (lines.Store counts ∷ ls) aside m g es s run f = absurd f
+settled_without_steps (lines.Sweep ∷ ls) aside m g es s run f = absurd f
+settled_without_steps (lines.Lose disk ∷ ls) aside m g es s run f = absurd f

@@ -7,7 +7,7 @@ use Rattle.world_runs.specs.Moments.{Actor, IsWorldRun, moment}
 use Rattle.world_runs.specs.Follows.{FollowsFrom, Follows, NoneFails}
 use Rattle.world_runs.specs.Turns.{ClientTurn, all_idle, turns_after, InTurn}
 use Rattle.script_runs.specs.Standing.{busy_at, AtTurn}
-use Rattle.script_runs.specs.Smooth.{EndsAtOnce, IsSmoothRun, AllStepOn}
+use Rattle.script_runs.specs.Smooth.{EndsAtOnce, IsSmoothRun, AllStepOn, NoneSteps}
 
 -- what follows the next lines from the ops that are busy by then follows on
 abbrev pub RunFollowsOn : Type 0
@@ -40,3 +40,9 @@ abbrev pub ScriptFixesRun : Type 0
 ScriptFixesRun =
     (counts : Counts) (lines : List Line) (one other : List Event) → AllStepOn lines → IsSmoothRun counts one → IsSmoothRun counts other → Follows lines one
     → Follows lines other → one ≡ other
+
+-- and, where it has no steps, its one run in which no command fails
+abbrev pub ScriptWithoutStepsFixesRun : Type 0
+ScriptWithoutStepsFixesRun =
+    (counts : Counts) (lines : List Line) (one other : List Event) → NoneSteps lines → IsWorldRun counts one → IsWorldRun counts other → NoneFails one → NoneFails other
+    → Follows lines one → Follows lines other → one ≡ other

@@ -41,3 +41,11 @@ StepsOn _ = Unit {0}
 
 abbrev pub AllStepOn : List Line → Type 0
 AllStepOn = AllByRecursion StepsOn
+
+-- the line is no step
+abbrev pub IsNoStep : Line → Type 0
+IsNoStep (lines.Client client actor (acts.Step n)) = ⊥
+IsNoStep _ = Unit {0}
+
+abbrev pub NoneSteps : List Line → Type 0
+NoneSteps = AllByRecursion IsNoStep

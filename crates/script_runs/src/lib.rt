@@ -2,7 +2,7 @@
 //! at which it stands, and what a script fixes of its runs. Nothing here is called: each function's contract is a law.
 #![tactic(auto)]
 
-ghost use Rattle.script_runs.specs.Laws.{RunFollowsOn, StandsByTurn, EachScriptCanBeRunOn, ScriptFixesRun};
+ghost use Rattle.script_runs.specs.Laws.{RunFollowsOn, StandsByTurn, EachScriptCanBeRunOn, ScriptFixesRun, ScriptWithoutStepsFixesRun};
 
 /// Where a run of the world follows some lines, and what comes after follows further lines from the ops that are then busy,
 /// the whole follows all lines.
@@ -25,7 +25,8 @@ pub fn each_script_can_be_run_on()
 
 /// Two runs of the world that follow one script are the same, where no command fails, each ends at once when it has come to its
 /// answer by a transaction, and each step of the script is of one transaction or more. A script fixes the rest: whose
-/// transactions come when, and all replies and answers.
+/// transactions come when, and all replies and answers. Where it has no steps, it is enough that no command fails.
 pub fn script_fixes_run()
-    ensures { ScriptFixesRun }
+    ensures smooth { ScriptFixesRun }
+    ensures no_steps { ScriptWithoutStepsFixesRun }
 {}

@@ -41,7 +41,7 @@ module _ (here : DirId → Bool) (s w : Names) (is : KeepsNames here s w) where
   own_entry k own = grind (arith, is.entries k)
 
   -- a directory that is here has the same entries
-  same_within : (d : DirId) → here d ≡ true → within s.entries d ≡ within w.entries d
+  pub same_within : (d : DirId) → here d ≡ true → within s.entries d ≡ within w.entries d
   same_within d own = same_map key_cmp_total key_antisymmetric _ _ (λ q. grind (arith, maps, is.entries q))
 
   -- what a bind answers by what stands at its name

@@ -9,5 +9,7 @@ mod report;
 mod tests;
 
 pub use report::{write_answer, write_dump};
-pub use script_lines::{ScriptFault, read_script, write_line};
+pub use script_forms::ScriptFault;
+pub use script_lines::write_line;
+pub use script_reader::read_script;
 pub use script_words::Limit;

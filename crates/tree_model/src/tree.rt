@@ -16,7 +16,7 @@ const ENTRY_LIMIT: u64 = 65_536;
 /// The tree: its directories, entries and files, and which of them were ever made.
 #[derive(Drop)]
 pub struct Tree {
-    alloc: Global,
+    pub(crate) alloc: Global,
     dirs: DirMap<TreeDir>,
     entries: EntryTable<Node>,
     files: FileMap<TreeFile>,

@@ -1,7 +1,7 @@
 use Rattle.std.proofs.lemmas.Result.{err_from_is_err_and}
 use Rattle.script_words.specs.WordList.{words_left}
 use Rattle.tect_ids.specs.declared.script.Act.TheVariants.{Begin}
-use Rattle.script_lines.specs.Grammar.{any_command}
+use Rattle.script_forms.specs.Grammar.{any_command}
 use Rattle.script_lines.proofs.FormReads.{mapped_ok, mapped_err}
 use Rattle.script_lines.proofs.acts.begin_command.Goals as goal
 

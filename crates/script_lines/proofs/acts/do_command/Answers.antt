@@ -1,7 +1,7 @@
 use Rattle.std.proofs.lemmas.Result.{err_from_is_err_and}
 use Rattle.script_words.specs.WordList.{words_left}
 use Rattle.tect_ids.specs.declared.script.Act.TheVariants.{Do}
-use Rattle.script_lines.specs.Grammar.{command_form}
+use Rattle.script_forms.specs.Grammar.{command_form}
 use Rattle.script_lines.proofs.FormReads.{mapped_ok, mapped_err}
 use Rattle.script_lines.proofs.acts.do_command.Goals as goal
 

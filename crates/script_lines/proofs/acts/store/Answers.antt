@@ -1,4 +1,4 @@
-use Rattle.std.proofs.Common.{◌≡◌, refl, sym}
+use Rattle.std.proofs.Common.{refl}
 use Rattle.std.proofs.Common.{arith}
 use Rattle.script_words.specs.declared.limits.Limit.TheVariants.{Shards, Disks, Copies}
 use Rattle.script_lines.proofs.FormReads.{count_number}

@@ -1,6 +1,5 @@
-use Rattle.std.proofs.Common.{sym, take}
-use Rattle.std.specs.Map.{keys_of}
-use Rattle.script_lines.proofs.LineByLine.{keys_more, copied}
+use Rattle.std.proofs.Common.{sym}
+use Rattle.script_lines.proofs.ClientNames.{keys_more, copied}
 use Rattle.script_lines.proofs.clients.name_at.Goals as goal
 
 pub returns-in-Some : goal.returns-in-Some

@@ -1,7 +1,7 @@
 use Rattle.std.proofs.Common.{◌≡◌, true, false, ◌∷◌, ◌∙◌, refl, sym}
 use Rattle.script_words.specs.WordList.{words_left}
-use Rattle.script_lines.specs.Reading.{out_of_state}
-use Rattle.script_lines.specs.Clients.{is_one_too_many}
+use Rattle.script_forms.specs.Reading.{out_of_state}
+use Rattle.script_forms.specs.Clients.{is_one_too_many}
 use Rattle.script_lines.proofs.lines.client_line.Goals as goal
 
 pub returns-then-is_out_of_state-clause-line : goal.returns-then-is_out_of_state-clause-line

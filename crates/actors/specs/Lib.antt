@@ -1,0 +1,3 @@
+pub mod ActorState
+pub mod Inside
+pub mod Turns

@@ -1,0 +1,5 @@
+pub mod Rows
+pub mod Together
+pub mod Stepped
+pub mod Sorted
+pub mod Dumped

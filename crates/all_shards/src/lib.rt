@@ -1,0 +1,9 @@
+//! All shards of the store on one thread: each request is done at the shard of its directory or file.
+#![tactic(auto)]
+
+mod dump;
+mod opening;
+mod requests;
+mod shards;
+
+pub use shards::Shards;

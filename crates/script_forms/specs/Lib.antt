@@ -1,0 +1,11 @@
+pub mod LineText
+pub mod Form
+pub mod Served
+pub mod Verbs
+pub mod Grammar
+pub mod Clients
+pub mod Reading
+pub mod LineForms
+pub mod Spelling
+pub mod FirstWrong
+pub mod FirstFault

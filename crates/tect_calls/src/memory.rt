@@ -1,0 +1,69 @@
+ghost use Rattle.std.specs.Prelude.{◌≡◌, ◌+◌, ◌^◌, ◌<◌, IfOk};
+ghost use Rattle.tect_ids.specs.Places.{HasPlaces};
+ghost use Rattle.tect_calls.specs.Knowing.{IsActor, next_number};
+
+use std::alloc::Global;
+use std::marker::Model;
+use tect_ids::{Counts, NoMemory};
+
+/// What an actor knows between its commands: so far its number, the serial of the next object that it makes, and how many
+/// shards there are.
+#[derive(Drop)]
+pub struct Memory {
+    alloc: Global,
+    actor: u32,
+    serial: u32,
+    counts: Counts,
+}
+
+impl Model for Memory {
+    ghost use Rattle.tect_calls.specs.Knowing.{Known, IsActor};
+
+    ghost Value = { Known };
+
+    ghost view = { λ m. record { actor = m.actor; serial = m.serial; counts = m.counts } };
+
+    ghost invariant = { λ m. IsActor m.actor };
+}
+
+impl Memory {
+    /// What an actor knows at the start: it has made nothing. Actors are numbered from 1 to 65.
+    pub fn start(alloc: Global, actor: u32, counts: Counts) -> Result<Memory, NoMemory>
+        requires { IsActor actor }
+        ensures { IfOk result (λ memory. memory ≡ record { actor = actor; serial = 1; counts = counts }) }
+    {
+        Ok(Memory {
+            alloc,
+            actor,
+            serial: 1,
+            counts,
+        })
+    }
+
+    /// The number of the next object that the actor makes. It takes no memory.
+    pub fn number_of_next(&self) -> u64
+        ensures { result ≡ next_number self.now }
+    {
+        u64::from(self.actor) * (1 << 32) + u64::from(self.serial)
+    }
+
+    /// The next object was made: the one after it has the next serial. It takes no memory.
+    pub fn take_serial(&mut self)
+        requires { self.old.serial + 1 < 2 ^ 32 }
+        ensures { self.new ≡ record self.old { serial = self.old.serial + 1 } }
+    {
+        self.serial += 1;
+    }
+
+    /// How many shards each layer has. It takes no memory.
+    pub fn counts(&self) -> Counts
+        ensures { result ≡ self.now.counts }
+    {
+        self.counts
+    }
+
+    /// Where the actor's commands take their memory.
+    pub fn allocator(&self) -> Global {
+        self.alloc
+    }
+}

@@ -1,0 +1,63 @@
+#!/usr/bin/env python3
+"""Random scripts of many clients on few names, each replayed by the program and by the model of tree_of_scripts.py.
+
+random_scripts.py [SCRIPTS [SEED]] (1,000 and 1 if left out): prints the first script on which they differ, and ends with 1.
+"""
+import os
+import random
+import subprocess
+import sys
+
+from tree_of_scripts import replay
+
+PROGRAM = os.path.join(os.path.dirname(os.path.abspath(__file__)), "..", "tect")
+
+
+def path(choose):
+    return "/" + "/".join(choose.choice("abc") for _ in range(choose.choice([1, 1, 1, 2, 2, 3, 0])))
+
+
+def command(choose):
+    verb = choose.choice(["look", "list", "create", "create", "mkdir", "delete", "rename", "rename"])
+    if verb != "rename":
+        return f"{verb} {path(choose)}"
+    old = path(choose)
+    folder = old[: old.rindex("/") + 1]
+    return f"rename {old} {folder}{choose.choice('abc') if old != '/' else ''}"
+
+
+def script(choose):
+    """A script in turn: a client that began goes on by step, run or stop; one that stopped has no further line."""
+    counts = [choose.randrange(1, 5) for _ in range(3)]
+    lines = ["store %d %d %d 3 3" % tuple(counts)]
+    states = {f"c{i}": "idle" for i in range(1, choose.randrange(2, 5))}
+    for _ in range(choose.randrange(1, 60)):
+        live = [client for client in states if states[client] != "gone"]
+        if choose.randrange(12) == 0 or not live:
+            lines.append("dump")
+            continue
+        client = choose.choice(live)
+        if states[client] == "idle":
+            began = choose.randrange(2) == 0
+            lines.append(f"{client} {'begin ' if began else ''}{command(choose)}")
+            states[client] = "busy" if began else "idle"
+        else:
+            end = choose.choice(["step", "step", "step", "step", "run", "run", "stop"])
+            lines.append(f"{client} {end}" + (f" {choose.randrange(1, 4)}" if end == "step" else ""))
+            states[client] = {"step": "busy", "run": "idle", "stop": "gone"}[end]
+    return "".join(line + "\n" for line in lines + ["dump"])
+
+
+def main():
+    count, seed = [int(word) for word in sys.argv[1:]] + [1000, 1][len(sys.argv) - 1 :]
+    choose = random.Random(seed)
+    for _ in range(count):
+        text = script(choose)
+        ran = subprocess.run([PROGRAM, "replay"], input=text.encode(), capture_output=True)
+        if ran.returncode != 0 or ran.stdout.decode() != replay(text):
+            print(text, "status", ran.returncode, ran.stdout.decode(), "the model:", replay(text), sep="\n")
+            sys.exit(1)
+    print(f"{count} scripts: the program and the model agree")
+
+
+main()

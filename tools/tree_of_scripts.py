@@ -1,0 +1,272 @@
+"""A small model of the store in Python, written apart from the program: what a replay of a script writes.
+
+Shards are not modelled: whatever their number, the store is one. A command is a generator that yields once before each of its
+transactions, so that a script may stop it between any two.
+"""
+
+ROOT = 1
+
+
+class Store:
+    def __init__(self):
+        self.parents = {ROOT: 0}
+        self.entries = {ROOT: {}}
+        self.dir_holds = {ROOT: set()}
+        self.file_holds = {}
+
+    def holds(self, node):
+        kind, number = node
+        table = self.dir_holds if kind == "dir" else self.file_holds
+        return table.get(number)
+
+    def look(self, folder, name):
+        """The node and the hold of an entry, or the answer of a refusal."""
+        if folder not in self.entries:
+            return None, "no-dir"
+        if name not in self.entries[folder]:
+            return None, "no-name"
+        return self.entries[folder][name], None
+
+    def grant(self, node, hold):
+        holds = self.holds(node)
+        if holds is None:
+            return "no-dir" if node[0] == "dir" else "no-file"
+        holds.add(hold)
+        return None
+
+    def release(self, node, hold):
+        holds = self.holds(node)
+        if holds is not None:
+            holds.discard(hold)
+
+    def dump(self):
+        for folder in sorted(self.parents):
+            entries = self.entries[folder]
+            yield f"dir {folder} parent {self.parents[folder]} open entries {len(entries)} holds {len(self.dir_holds[folder])}"
+            for name in sorted(entries):
+                (kind, number), _ = entries[name]
+                yield f"entry {folder} {name} {kind} {number}"
+        for number in sorted(self.file_holds):
+            yield f"file {number} open token none blocks 0 holds {len(self.file_holds[number])}"
+
+
+class Client:
+    def __init__(self, number):
+        self.number = number
+        self.serial = 1
+        self.begun = 0
+        self.running = None
+        self.steps = 0
+
+    def take_number(self):
+        taken = self.number * 2**32 + self.serial
+        self.serial += 1
+        return taken
+
+
+def names_of(path):
+    return [] if path == "/" else path[1:].split("/")
+
+
+def walk(store, names):
+    """Looks each name up, and comes to the last one's directory, or to a refusal."""
+    folder = ROOT
+    for name in names:
+        yield
+        found, refusal = store.look(folder, name)
+        if refusal:
+            return None, refusal
+        (kind, number), _ = found
+        if kind == "file":
+            return None, "not-dir"
+        folder = number
+    return folder, None
+
+
+def look(store, client, hold, path):
+    names = names_of(path)
+    folder, refusal = yield from walk(store, names[:-1])
+    if refusal:
+        return refusal
+    yield
+    if not names:
+        return f"ok dir {ROOT}"
+    found, refusal = store.look(folder, names[-1])
+    return refusal or "ok %s %d" % found[0]
+
+
+def list_entries(store, client, hold, path):
+    folder, refusal = yield from walk(store, names_of(path))
+    if refusal:
+        return refusal
+    yield
+    entries = store.entries[folder]
+    return f"ok {len(entries)}" + "".join(f" {name} {entries[name][0][0]} {entries[name][0][1]}" for name in sorted(entries))
+
+
+def make(store, client, hold, path, kind):
+    names = names_of(path)
+    if not names:
+        return "no-name"
+    folder, refusal = yield from walk(store, names[:-1])
+    if refusal:
+        return refusal
+    yield
+    number = client.take_number()
+    if kind == "dir":
+        store.parents[number] = folder
+        store.entries[number] = {}
+        store.dir_holds[number] = {hold}
+    else:
+        store.file_holds[number] = {hold}
+    node = (kind, number)
+    yield
+    old = store.entries[folder].get(names[-1])
+    if old is None or (kind == "file" and old[0][0] == "file"):
+        store.entries[folder][names[-1]] = (node, hold)
+        if old:
+            yield
+            store.release(*old)
+        return f"ok {kind} {number}"
+    yield
+    store.release(node, hold)
+    return "is-dir" if kind == "file" else "exists"
+
+
+def create(store, client, hold, path):
+    return (yield from make(store, client, hold, path, "file"))
+
+
+def mkdir(store, client, hold, path):
+    return (yield from make(store, client, hold, path, "dir"))
+
+
+def delete(store, client, hold, path):
+    names = names_of(path)
+    if not names:
+        return "no-name"
+    folder, refusal = yield from walk(store, names[:-1])
+    if refusal:
+        return refusal
+    yield
+    found, refusal = store.look(folder, names[-1])
+    if refusal:
+        return refusal
+    if found[0][0] == "dir":
+        return "is-dir"
+    del store.entries[folder][names[-1]]
+    yield
+    store.release(*found)
+    return "ok"
+
+
+def rename(store, client, hold, path, to):
+    names, new = names_of(path), names_of(to)
+    if not names or not new:
+        return "no-name"
+    folder, refusal = yield from walk(store, names[:-1])
+    if refusal:
+        return refusal
+    yield
+    found, refusal = store.look(folder, names[-1])
+    if refusal:
+        return refusal
+    node = found[0]
+    if names[-1] == new[-1]:
+        return "ok"
+    yield
+    refusal = store.grant(node, hold)
+    if refusal:
+        return refusal
+    yield
+    entries = store.entries[folder]
+    now = entries.get(names[-1])
+    over = entries.get(new[-1])
+    if now is None or now[0] != node:
+        refusal = f"changed {folder} {names[-1]} now " + ("none" if now is None else "%s %d" % now[0])
+    elif over is not None:
+        refusal = over_refusal(node, over[0])
+    if refusal:
+        yield
+        store.release(node, hold)
+        return refusal
+    del entries[names[-1]]
+    entries[new[-1]] = (node, hold)
+    yield
+    store.release(node, now[1])
+    if over is not None:
+        yield
+        store.release(*over)
+    return "ok"
+
+
+def over_refusal(node, over):
+    """A file replaces a file; nothing else replaces, and nothing replaces a directory."""
+    if over[0] == "dir":
+        return "is-dir"
+    return "exists" if node[0] == "dir" else None
+
+
+COMMANDS = {"look": look, "list": list_entries, "create": create, "mkdir": mkdir, "delete": delete, "rename": rename}
+
+
+class Replay:
+    def __init__(self):
+        self.store = Store()
+        self.clients = {}
+        self.lines = []
+
+    def begin(self, client, words):
+        client.begun += 1
+        client.steps = 0
+        hold = (client.number, client.begun)
+        client.running = COMMANDS[words[0]](self.store, client, hold, *words[1:])
+        client.reached = None
+        self.go(client)
+
+    def go(self, client):
+        """Up to the next transaction, or to the answer."""
+        try:
+            next(client.running)
+        except StopIteration as end:
+            client.reached = end.value
+
+    def step(self, name, client, most):
+        while client.running is not None and most != 0:
+            if client.reached is None:
+                client.steps += 1
+                self.go(client)
+            if client.reached is not None:
+                self.lines.append(f"{name} {client.begun} {client.steps} {client.reached}")
+                client.running = None
+            most -= 1
+
+    def line(self, line):
+        if line.startswith(("#", "store ")):
+            return
+        if line == "dump":
+            self.lines.extend(self.store.dump())
+            return
+        name, verb, *rest = line.split(" ")
+        client = self.clients.setdefault(name, Client(len(self.clients) + 1))
+        if verb == "begin":
+            self.begin(client, rest)
+        elif verb == "step":
+            self.step(name, client, int(rest[0]))
+        elif verb == "run":
+            self.step(name, client, -1)
+        elif verb == "stop":
+            if client.running is not None:
+                self.lines.append(f"{name} {client.begun} {client.steps} stopped")
+                client.running = None
+        else:
+            self.begin(client, [verb, *rest])
+            self.step(name, client, -1)
+
+
+def replay(script):
+    """What the program writes for a script that has no fault."""
+    run = Replay()
+    for line in script.splitlines():
+        run.line(line)
+    return "".join(line + "\n" for line in run.lines + ["end"])
