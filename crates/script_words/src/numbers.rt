@@ -1,4 +1,4 @@
-ghost use Rattle.std.specs.Prelude.{◌≡◌, ◌-◌, ◌≤◌, ◌<◌, ◌^◌, min, IsTrue, length};
+ghost use Rattle.std.specs.Prelude.{◌≡◌, ◌-◌, ◌≤◌, ◌<◌, ◌^◌, min, IsTrue, false, length};
 ghost use Rattle.std.specs.List.{list_all};
 ghost use Rattle.script_words.specs.WordForm.{is_digit, is_numeral, number_of, number_fit, count_fit};
 
@@ -71,7 +71,8 @@ pub fn count_fit(limit: Limit, most: u32, word: &[u8]) -> Fit
 
 /// The number that the word writes, or the greatest of 32 bits where it is above that; 0 for another word.
 pub fn read_number(word: &[u8]) -> u32
-    ensures { IsTrue (is_numeral word.now) → result ≡ min (number_of word.now) (2 ^ 32 - 1) }
+    ensures numeral { IsTrue (is_numeral word.now) → result ≡ min (number_of word.now) (2 ^ 32 - 1) }
+    ensures other { is_numeral word.now ≡ false → result ≡ 0 }
 {
     if !is_numeral(word) {
         return 0;

@@ -1,4 +1,5 @@
-ghost use Rattle.std.specs.Prelude.{◌≡◌, ◌<◌, ◌++◌, OnOk};
+ghost use Rattle.std.specs.Prelude.{◌≡◌, ◌<◌, ◌++◌, OnOk, OnErr};
+ghost use Rattle.std.specs.Io.{StartsWith};
 ghost use Rattle.script_words.specs.WordText.{hex_digit, hex_text, layer_word as layer_text, path_text};
 
 use tect_ids::{Layer, NoMemory, Path};
@@ -14,9 +15,23 @@ fn hex_digit(value: u8) -> u8
     }
 }
 
-/// Adds two lower-case digits for each byte.
+/// Adds two lower-case digits for each byte. For want of memory the text stays as it was.
 pub fn push_hex(text: &mut Vec<u8>, bytes: &[u8]) -> Result<(), NoMemory>
-    ensures { OnOk result (text.new.items ≡ text.old.items ++ hex_text bytes.now) }
+    ensures ok { OnOk result (text.new.items ≡ text.old.items ++ hex_text bytes.now) }
+    ensures err { OnErr result (text.new.items ≡ text.old.items) }
+{
+    let length = text.len();
+    if add_hex(text, bytes).is_err() {
+        text.truncate(length);
+        return Err(NoMemory);
+    }
+    Ok(())
+}
+
+/// Adds the digits, or for want of memory some of them.
+fn add_hex(text: &mut Vec<u8>, bytes: &[u8]) -> Result<(), NoMemory>
+    ensures ok { OnOk result (text.new.items ≡ text.old.items ++ hex_text bytes.now) }
+    ensures err { OnErr result (StartsWith text.new.items text.old.items) }
 {
     for byte in bytes {
         text.push(hex_digit(*byte / 16))?;
@@ -25,9 +40,23 @@ pub fn push_hex(text: &mut Vec<u8>, bytes: &[u8]) -> Result<(), NoMemory>
     Ok(())
 }
 
-/// Adds a slash before each name of the path, and one slash for the root.
+/// Adds a slash before each name of the path, and one slash for the root. For want of memory the text stays as it was.
 pub fn push_path(text: &mut Vec<u8>, path: &Path) -> Result<(), NoMemory>
-    ensures { OnOk result (text.new.items ≡ text.old.items ++ path_text path.now) }
+    ensures ok { OnOk result (text.new.items ≡ text.old.items ++ path_text path.now) }
+    ensures err { OnErr result (text.new.items ≡ text.old.items) }
+{
+    let length = text.len();
+    if add_path(text, path).is_err() {
+        text.truncate(length);
+        return Err(NoMemory);
+    }
+    Ok(())
+}
+
+/// Adds the names, or for want of memory some of them.
+fn add_path(text: &mut Vec<u8>, path: &Path) -> Result<(), NoMemory>
+    ensures ok { OnOk result (text.new.items ≡ text.old.items ++ path_text path.now) }
+    ensures err { OnErr result (StartsWith text.new.items text.old.items) }
 {
     let names = path.as_slice();
     if names.is_empty() {

@@ -1,7 +1,7 @@
 -- what the dump of a store shows in which one shard stands
 use Rattle.std.proofs.Common.{◌≡◌, List, [], ◌∷◌, ◌++◌, map, length, append-nil, refl, sym, ap, ◌∙◌, arith}
 use Rattle.std.specs.List.{flat_map}
-use Rattle.std.specs.FinMap.{FinMap, empty, entries, len, len-entries, len-empty}
+use Rattle.std.specs.FinMap.{empty, entries, len-entries, len-empty}
 use Rattle.tect_ids.specs.Keys.{dir_cmp, file_cmp}
 use Rattle.store_rules.specs.declared.files.File.{File}
 use Rattle.store_rules.specs.declared.names.Directory.{Directory}

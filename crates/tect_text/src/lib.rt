@@ -1,12 +1,18 @@
 //! Scripts, answers and dump lines as text.
 #![tactic(auto)]
 
+#[cfg(test)]
+mod answer_tests;
 mod answers;
 mod dump;
 mod ids;
-mod report;
 #[cfg(test)]
-mod tests;
+mod limit_tests;
+#[cfg(test)]
+mod line_tests;
+#[cfg(test)]
+mod reading_tests;
+mod report;
 
 pub use report::{write_answer, write_dump};
 pub use script_forms::ScriptFault;

@@ -1,0 +1,140 @@
+ghost use Rattle.std.specs.Prelude.{◌≡◌, ◌+◌, ◌^◌, ◌<◌, IsSome, IfOk, OnOk, OnErr};
+ghost use Rattle.std.specs.Option.{option_copied};
+ghost use Rattle.op_names.specs.Programs.{started, phase_ask, phase_hear, phase_answer};
+ghost use Rattle.tect_calls.specs.Knowing.{next_number};
+ghost use Rattle.name_calls.specs.Serials.{after_reply};
+
+use crate::carrying::{carry, facts_of, opening_of};
+use crate::showing::show;
+use crate::shown::Shown;
+use op_names::Program;
+use std::alloc::Global;
+use std::marker::Model;
+use std::mem;
+use store_rules::AnyReply;
+use tect_calls::{Asked, Memory};
+use tect_ids::{Answer, Command, NoMemory, OpId, Place};
+
+/// A running command with the tokens that its next request needs. Contracts see the program alone.
+#[derive(Drop)]
+pub struct Running {
+    program: Program,
+    shown: Shown,
+}
+
+impl Model for Running {
+    ghost use Rattle.std.specs.Prelude.{◌≡◌};
+    ghost use Rattle.op_names.specs.declared.program.Program.{Program};
+    ghost use Rattle.name_calls.specs.Needs.{needed};
+
+    ghost Value = { Program };
+
+    ghost view = { λ running. running.program };
+
+    ghost invariant = { λ running. running.shown ≡ needed (running.program).op (running.program).phase };
+}
+
+impl Running {
+    /// The command begins as that op.
+    pub fn start(alloc: Global, op: OpId, command: Command) -> Result<Running, NoMemory>
+        ensures { IfOk result (λ running. running ≡ started op command) }
+    {
+        let program = Program::start(alloc, op, command)?;
+        let shown = opening_of(&program.phase);
+        Ok(Running { program, shown })
+    }
+
+    /// The request that the command makes next, with the tokens that it needs. None where it has its answer. Nothing is
+    /// changed.
+    pub fn next(&mut self, memory: &mut Memory) -> Result<Option<Asked>, NoMemory>
+        ensures asks { IfOk result (λ asked. asked ≡ phase_ask self.old.op (next_number memory.old) self.old.command self.old.phase) }
+        ensures same { self.new ≡ self.old }
+        ensures memory { memory.new ≡ memory.old }
+    {
+        let req = self
+            .program
+            .next(memory.allocator(), memory.number_of_next())?;
+        match req {
+            Some(req) => Ok(Some(show(&self.shown, req))),
+            None => Ok(None),
+        }
+    }
+
+    /// The answer that the command has come to, if it has. It takes no memory.
+    pub fn answer(&self) -> Option<&Answer>
+        ensures { option_copied result ≡ phase_answer self.now.phase }
+    {
+        self.program.answer()
+    }
+
+    /// Goes on at the reply to the request that `next` gave, which was made at that place. It gives the answer where that
+    /// ends the command.
+    ///
+    /// The actor's serial is taken where the reply says that an object was made, also for want of memory; else all is then
+    /// as it was before.
+    pub fn hear(
+        &mut self,
+        memory: &mut Memory,
+        place: Place,
+        reply: &AnyReply,
+    ) -> Result<Option<Answer>, NoMemory>
+        requires asked { IsSome (phase_ask self.old.op (next_number memory.old) self.old.command self.old.phase) }
+        requires serial { memory.old.serial + 1 < 2 ^ 32 }
+        ensures goes_on { OnOk result (self.new ≡ record self.old {
+          phase = phase_hear place self.old.op (next_number memory.old) self.old.command self.old.phase reply.now;
+        }) }
+        ensures answer { IfOk result (λ answer. answer ≡ phase_answer self.new.phase) }
+        ensures err { OnErr result (self.new ≡ self.old) }
+        ensures memory { memory.new ≡ after_reply memory.old reply.now }
+    {
+        let alloc = memory.allocator();
+        let number = memory.number_of_next();
+        remember(memory, reply);
+        let Some(req) = self.program.next(alloc, number)? else {
+            unreachable!()
+        };
+        let (first, second) = facts_of(alloc, &req, reply)?;
+        let next = heard(alloc, &self.program, place, number, reply)?;
+        let answer = answer_of(alloc, &next)?;
+        let had = mem::replace(&mut self.shown, Shown::Nothing);
+        self.shown = carry(&next.phase, had, first, second);
+        self.program = next;
+        Ok(answer)
+    }
+}
+
+// An object that was made took a serial.
+fn remember(memory: &mut Memory, reply: &AnyReply)
+    requires { memory.old.serial + 1 < 2 ^ 32 }
+    ensures { memory.new ≡ after_reply memory.old reply.now }
+{
+    if reply.is_made() {
+        memory.take_serial();
+    }
+}
+
+// The program after a reply.
+fn heard(
+    alloc: Global,
+    program: &Program,
+    place: Place,
+    number: u64,
+    reply: &AnyReply,
+) -> Result<Program, NoMemory>
+    ensures { IfOk result (λ next. next ≡ record program.now {
+      phase = phase_hear place program.now.op number program.now.command program.now.phase reply.now;
+    }) }
+{
+    let mut next = program.copy(alloc)?;
+    next.hear(alloc, place, number, reply)?;
+    Ok(next)
+}
+
+fn answer_of(alloc: Global, program: &Program) -> Result<Option<Answer>, NoMemory>
+    ensures { IfOk result (λ answer. answer ≡ phase_answer program.now.phase) }
+{
+    match program.answer() {
+        Some(answer) => Ok(Some(answer.copy(alloc)?)),
+        None => Ok(None),
+    }
+}
