@@ -70,6 +70,13 @@ impl Actor {
         self.running.is_some()
     }
 
+    /// Whether it stopped for good. It takes no memory.
+    pub fn has_stopped(&self) -> bool
+        ensures { result ≡ self.now.state.stopped }
+    {
+        self.stopped
+    }
+
     /// Begins its next op with that command. For want of memory it stays as it was.
     pub fn begin(&mut self, command: Command) -> Result<(), NoMemory>
         requires idle { IsNone self.old.state.running }

@@ -1,5 +1,5 @@
 -- what the events of a step make of a moment
-use Rattle.std.proofs.Common.{◌≡◌, ◌≢◌, ℕ, ◌+◌, Bool, true, false, eqb, if◌then◌else◌, Option, Some, None, List, [], ◌∷◌, ◌++◌, refl, sym, ap, ◌∙◌, arith}
+use Rattle.std.proofs.Common.{◌≡◌, ◌≢◌, ℕ, Bool, true, false, eqb, if◌then◌else◌, Option, Some, None, List, [], ◌∷◌, ◌++◌, refl, ap, ◌∙◌, arith}
 use Rattle.tect_ids.specs.declared.ids.OpId.{OpId}
 use Rattle.tect_ids.specs.declared.answer.Answer.{Answer}
 use Rattle.tect_ids.specs.Keys.{op_eq}
@@ -7,10 +7,10 @@ use Rattle.tect_ids.proofs.KeyTests.{num_eq_cases, op_eq_cases}
 use Rattle.store_rules.specs.declared.any.AnyReq.{AnyReq}
 use Rattle.store_rules.specs.Store.{store_reply}
 use Rattle.world_runs.specs.declared.event.Event.{Event}
-use Rattle.world_runs.specs.declared.event.Event.TheVariants.{Began, Acted, Ended, Stopped}
-use Rattle.world_runs.specs.Moments.{Actor, Moment, after, after_all, RunFrom, asked, answered, program_of, program_answer}
-use Rattle.world_runs.specs.Report.{transactions, is_act_of}
-use Rattle.tect_world.specs.Life.{transaction, acted_actor, acted_store, ending, ended_actor, actor_asks, actor_answer, step_events, stepped_actor, stepped_store, last_op}
+use Rattle.world_runs.specs.declared.event.Event.TheVariants.{Began, Acted, Ended, Stopped, Failed, Dumped}
+use Rattle.world_runs.specs.Moments.{Actor, Moment, after, after_all, RunFrom, answered, program_of, program_answer}
+use Rattle.world_runs.specs.Report.{transactions}
+use Rattle.tect_world.specs.Life.{transaction, acted_actor, acted_store, ending, ended_actor, actor_asks, actor_answer, step_events, stepped_actor, stepped_store}
 use Rattle.tect_world.specs.Steps.{act_count}
 
 same : (a : ℕ) → eqb a a ≡ true
@@ -95,6 +95,8 @@ kept_by m (Began op c) = refl
 kept_by m (Acted op q x) = refl
 kept_by m (Ended op a) = refl
 kept_by m (Stopped op) = refl
+kept_by m (Failed op a) = refl
+kept_by m Dumped = refl
 
 pub counts_kept : (m : Moment) (es : List Event) → (after_all m es).counts ≡ m.counts
 counts_kept m [] = refl

@@ -1,206 +1,176 @@
 -- the fields of the world stay the moment after its history
-use Rattle.std.proofs.Common.{◌≡◌, ◌≢◌, ℕ, ◌+◌, ◌-◌, ◌<◌, ◌≤◌, ◌^◌, Bool, true, false, eqb, if◌then◌else◌, Option, Some, None, List, [], ◌∷◌, ◌++◌, length, get_or, set, replicate, refl, sym, ap, ◌∙◌, subst, inl, inr, ◌⊎◌, arith}
-use Rattle.std.proofs.lemmas.List.{get_or-set_same, get_or-set_other, get_or-replicate, length-set}
-use Rattle.tect_ids.specs.declared.ids.Counts.{Counts}
+use Rattle.std.proofs.Common.{◌≡◌, ◌≢◌, ℕ, ◌+◌, ◌-◌, ◌≤◌, List, [], ◌∷◌, ◌++◌, length, set, sym, ap, ◌∙◌, subst, inl, inr, ◌⊎◌, arith}
+use Rattle.std.proofs.lemmas.List.{get_or-set_same, get_or-set_other, length-set}
 use Rattle.tect_ids.specs.declared.ids.OpId.{OpId}
-use Rattle.tect_ids.specs.declared.answer.Answer.{Answer}
-use Rattle.tect_ids.specs.declared.command.Command.{Command}
-use Rattle.tect_ids.specs.Places.{HasPlaces}
 use Rattle.tect_ids.proofs.KeyTests.{num_eq_cases}
-use Rattle.store_rules.specs.Names.{Names, root_names}
-use Rattle.store_rules.specs.Files.{Files}
-use Rattle.store_rules.specs.Store.{Store}
-use Rattle.op_names.specs.Programs.{started}
 use Rattle.world_runs.specs.declared.event.Event.{Event}
-use Rattle.world_runs.specs.declared.event.Event.TheVariants.{Began}
-use Rattle.world_runs.specs.Served.{IsServed}
-use Rattle.world_runs.specs.Moments.{Actor, Moment, moment, opening, after, after_all, RunFrom, IsWorldRun, CanBegin, begun, idle_actor}
+use Rattle.world_runs.specs.declared.event.Event.TheVariants.{Dumped}
+use Rattle.world_runs.specs.Moments.{Actor, Moment, moment, opening, after, after_all, RunFrom, May, with_actor}
 use Rattle.world_runs.specs.Report.{transactions}
-use Rattle.tree_model.specs.Tree.{opening_tree}
-use Rattle.tree_runs.proofs.Runs.{world_tracked}
-use Rattle.tree_runs.proofs.Histories.{after_all-append, run-append, transactions-append, Quiet, quiet_run}
-use Rattle.tect_world.specs.declared.actors.ActorState.{ActorState}
+use Rattle.tree_runs.proofs.Histories.{after_all-append, run-append, transactions-append}
+use Rattle.all_shards.specs.Whole.{WholeStore}
+use Rattle.tect_world.specs.declared.clients.Client.{Client}
 use Rattle.tect_world.specs.declared.world.World.TheInside.{Inside}
-use Rattle.tect_world.specs.Idle.{idle_state, actor_of}
-use Rattle.tect_world.specs.Life.{Life, present, grown, last_op, next_op, actor_asks, actor_events, stepped_actor, stepped_store, step_events}
-use Rattle.tect_world.specs.Steps.{Steps, act_count}
-use Rattle.tect_world.specs.Inside.{life_of, actor_at, transactions_at, HasActors, IsWorld}
-use Rattle.tect_world.proofs.Events.{step_store, step_actors, step_runs, step_count, step_count_other, step_number, counts_kept}
+use Rattle.tect_world.specs.Clients.{idle_client, client_at, AreIdle}
+use Rattle.tect_world.specs.Life.{Life, present, grown, last_op}
+use Rattle.tect_world.specs.Inside.{life_of, IsWorld}
 
--- ---- one actor's state is set
-
-same_or_not : (a b : ℕ) → (b ≡ a) ⊎ (b ≢ a)
+pub same_or_not : (a b : ℕ) → (b ≡ a) ⊎ (b ≢ a)
 same_or_not a b = grind (arith, num_eq_cases b a)
 
-set_at_own : (states : List ActorState) (a : ℕ) (s : ActorState) → 1 ≤ a → a ≤ length states → get_or (set states (a - 1) s) (a - 1) idle_state ≡ s
-set_at_own states a s low high = get_or-set_same states (a - 1) s idle_state (omega (arith, low, high))
-
-set_at_other : (states : List ActorState) (a b : ℕ) (s : ActorState) → 1 ≤ a → 1 ≤ b → b ≢ a → get_or (set states (a - 1) s) (b - 1) idle_state ≡ get_or states (b - 1) idle_state
-set_at_other states a b s low low' differs = get_or-set_other states (a - 1) (b - 1) s idle_state (λ e. differs (omega (arith, low, low', e)))
-
-set_actor : (states : List ActorState) (a b : ℕ) (s : ActorState) → length states ≡ 65 → 1 ≤ a → a ≤ 65 → 1 ≤ b
-    → actor_at (set states (a - 1) s) b ≡ (if eqb b a then actor_of s else actor_at states b)
-set_actor states a b s number low high low' = elim (same_or_not a b) [
-  | inl e ↦ grind (arith, num_eq_cases b a, set_at_own states a s low (omega (arith, number, high)), e)
-  | inr d ↦ grind (arith, num_eq_cases b a, set_at_other states a b s low low' d, d)
-]
-
-set_count : (states : List ActorState) (a b : ℕ) (s : ActorState) → length states ≡ 65 → 1 ≤ a → a ≤ 65 → 1 ≤ b
-    → transactions_at (set states (a - 1) s) b ≡ (if eqb b a then s.transactions else transactions_at states b)
-set_count states a b s number low high low' = elim (same_or_not a b) [
-  | inl e ↦ grind (arith, num_eq_cases b a, set_at_own states a s low (omega (arith, number, high)), e)
-  | inr d ↦ grind (arith, num_eq_cases b a, set_at_other states a b s low low' d, d)
-]
-
--- ---- the moment after more events
-
+-- the moment after more events
 pub present-grown : (w : Life) (es : List Event) → present (grown w es) ≡ after_all (present w) es
 present-grown w es = after_all-append (opening w.counts) w.history es
 
--- ---- a step
+-- ---- events of one actor
 
-module _ (old new : Inside) (a : ℕ) (s : ActorState) (answer : Option Answer) (is : IsWorld old) (low : 1 ≤ a) (high : a ≤ 65) where
+module _ (old new : Inside) (a : ℕ) (s : Client) (es : List Event) (is : IsWorld old) (low : 1 ≤ a) (high : a ≤ 65) where
   abbrev m : Moment
   m = present (life_of old)
 
-  abbrev op : OpId
-  op = last_op m a
+  abbrev later : Moment
+  later = after_all m es
 
-  abbrev state : ActorState
-  state = get_or old.actors.items (a - 1) idle_state
+  module _ (counts : new.shards.counts ≡ old.shards.counts) (store : new.shards.store ≡ later.store) (items : new.clients.items ≡ set old.clients.items (a - 1) s)
+      (told : new.history.items ≡ old.history.items ++ es) (runs : RunFrom m es) (own : s.actor.actor ≡ a) (state : s.actor.state ≡ later.actors a)
+      (others : (b : ℕ) → b ≢ a → later.actors b ≡ m.actors b) (counted : s.transactions ≡ transactions (old.history.items ++ es) (last_op later a))
+      (quiet : (b : ℕ) → b ≢ a → transactions es (last_op m b) ≡ 0) where
+    pub grows : life_of new ≡ grown (life_of old) es
+    grows i = record { counts = counts i; history = told i }
 
-  own_actor : actor_of state ≡ m.actors a
-  own_actor = is.actors.each a low high
+    now_is : present (life_of new) ≡ later
+    now_is = ap present grows ∙ present-grown (life_of old) es
 
-  own_store : ◌≡◌ {A = Store} (record { names = old.names; files = old.files }) m.store
-  own_store i = record { names = is.names i; files = is.files i }
+    at_own : client_at new.clients.items a ≡ s
+    at_own = ap (λ (cs : List Client). client_at cs a) items ∙ get_or-set_same old.clients.items (a - 1) s (idle_client 0) (omega (arith, low, high, is.actors.number))
 
-  module _ (counts : new.counts ≡ old.counts) (items : new.actors.items ≡ set old.actors.items (a - 1) s)
-      (steps : Steps old.counts (record { names = old.names; files = old.files }) (record { names = new.names; files = new.files }) (actor_of state) (actor_of s) op old.history.items new.history.items answer)
-      (counted : s.transactions ≡ state.transactions + act_count (actor_asks (actor_of state) op)) where
-    own_counts : old.counts ≡ m.counts
-    own_counts = sym (counts_kept (opening old.counts) old.history.items)
+    at_other : (b : ℕ) → 1 ≤ b → b ≢ a → client_at new.clients.items b ≡ client_at old.clients.items b
+    at_other b low' differs =
+        ap (λ (cs : List Client). client_at cs b) items
+        ∙ get_or-set_other old.clients.items (a - 1) (b - 1) s (idle_client 0) (λ e. differs (omega (arith, low, low', e)))
 
-    events : new.history.items ≡ old.history.items ++ step_events m op
-    events =
-        steps.events
-        ∙ ap (λ (x : Store). old.history.items ++ actor_events old.counts x (actor_of state) op) own_store
-        ∙ ap (λ (x : Actor). old.history.items ++ actor_events old.counts m.store x op) own_actor
-        ∙ ap (λ (x : Counts). old.history.items ++ actor_events x m.store (m.actors a) op) own_counts
+    each_own : (b : ℕ) → 1 ≤ b → b ≤ 65 → (client_at new.clients.items b).actor.actor ≡ b
+    each_own b low' high' = elim (same_or_not a b) [
+      | inl e ↦ subst (λ (x : ℕ). (client_at new.clients.items x).actor.actor ≡ x) (sym e) (ap (λ (x : Client). x.actor.actor) at_own ∙ own)
+      | inr d ↦ ap (λ (x : Client). x.actor.actor) (at_other b low' d) ∙ is.actors.own b low' high'
+    ]
 
-    pub step_grows : life_of new ≡ grown (life_of old) (step_events m op)
-    step_grows i = record { counts = counts i; history = events i }
+    each_state : (b : ℕ) → 1 ≤ b → b ≤ 65 → (client_at new.clients.items b).actor.state ≡ (present (life_of new)).actors b
+    each_state b low' high' = elim (same_or_not a b) [
+      | inl e ↦ subst (λ (x : ℕ). (client_at new.clients.items x).actor.state ≡ (present (life_of new)).actors x) (sym e)
+          (ap (λ (x : Client). x.actor.state) at_own ∙ state ∙ ap (λ (x : Moment). x.actors a) (sym now_is))
+      | inr d ↦ ap (λ (x : Client). x.actor.state) (at_other b low' d) ∙ is.actors.each b low' high' ∙ sym (others b d) ∙ ap (λ (x : Moment). x.actors b) (sym now_is)
+    ]
 
-    now_is : present (life_of new) ≡ after_all m (step_events m op)
-    now_is = ap present step_grows ∙ present-grown (life_of old) (step_events m op)
+    no_more : (b : ℕ) → b ≢ a → transactions old.history.items (last_op m b) ≡ transactions (old.history.items ++ es) (last_op later b)
+    no_more b d =
+        let same : last_op later b ≡ last_op m b = λ i. record { actor = b; number = ap (λ (x : Actor). x.number) (others b d) i } in
+        let none : transactions es (last_op m b) ≡ 0 = quiet b d in
+        let both : transactions (old.history.items ++ es) (last_op m b) ≡ transactions old.history.items (last_op m b) + transactions es (last_op m b) = transactions-append old.history.items es (last_op m b) in
+        let alike : transactions old.history.items (last_op m b) ≡ transactions (old.history.items ++ es) (last_op m b) = omega (arith, none, both) in
+        alike ∙ ap (transactions (old.history.items ++ es)) (sym same)
 
-    new_store : ◌≡◌ {A = Store} (record { names = new.names; files = new.files }) (present (life_of new)).store
-    new_store = steps.store ∙ ap (λ (x : Store). stepped_store x (actor_of state) op) own_store ∙ ap (λ (x : Actor). stepped_store m.store x op) own_actor ∙ sym (step_store m op) ∙ ap (λ (x : Moment). x.store) (sym now_is)
+    each_count : (b : ℕ) → 1 ≤ b → b ≤ 65 → (client_at new.clients.items b).transactions ≡ transactions new.history.items (last_op (present (life_of new)) b)
+    each_count b low' high' = elim (same_or_not a b) [
+      | inl e ↦ subst (λ (x : ℕ). (client_at new.clients.items x).transactions ≡ transactions new.history.items (last_op (present (life_of new)) x)) (sym e)
+          (ap (λ (x : Client). x.transactions) at_own ∙ counted ∙ ap (λ (h : List Event). transactions h (last_op later a)) (sym told)
+          ∙ ap (λ (x : Moment). transactions new.history.items (last_op x a)) (sym now_is))
+      | inr d ↦ ap (λ (x : Client). x.transactions) (at_other b low' d) ∙ is.actors.counted b low' high' ∙ no_more b d ∙ ap (λ (h : List Event). transactions h (last_op later b)) (sym told)
+          ∙ ap (λ (x : Moment). transactions new.history.items (last_op x b)) (sym now_is)
+    ]
 
-    each : (b : ℕ) → 1 ≤ b → b ≤ 65 → actor_at new.actors.items b ≡ (present (life_of new)).actors b
-    each b low' high' =
-        let stepped : actor_of s ≡ stepped_actor m.counts m.store (m.actors a) op =
-        steps.actor
-        ∙ ap (λ (x : Store). stepped_actor old.counts x (actor_of state) op) own_store
-        ∙ ap (λ (x : Actor). stepped_actor old.counts m.store x op) own_actor
-        ∙ ap (λ (x : Counts). stepped_actor x m.store (m.actors a) op) own_counts in
-        ap (λ (states : List ActorState). actor_at states b) items ∙ set_actor old.actors.items a b s is.actors.number low high low'
-        ∙ grind (arith, stepped, is.actors.each b low' high', step_actors m op b) ∙ ap (λ (x : Moment). x.actors b) (sym now_is)
-
-    same_last : (b : ℕ) → last_op (present (life_of new)) b ≡ last_op m b
-    same_last b i = record { actor = b; number = (ap (λ (x : Moment). (x.actors b).number) now_is ∙ step_number m op b) i }
-
-    count : (b : ℕ) → 1 ≤ b → b ≤ 65 → transactions_at new.actors.items b ≡ transactions new.history.items (last_op (present (life_of new)) b)
-    count b low' high' =
-        let asks : act_count (actor_asks (actor_of state) op) ≡ act_count (actor_asks (m.actors a) op) = ap (λ (x : Actor). act_count (actor_asks x op)) own_actor in
-        ap (λ (states : List ActorState). transactions_at states b) items ∙ set_count old.actors.items a b s is.actors.number low high low'
-        ∙ elim (same_or_not a b) [
-          | inl e ↦ rw e (grind (arith, num_eq_cases a a, counted, asks, is.actors.counted a low high, step_count m op, transactions-append old.history.items (step_events m op) op))
-          | inr d ↦ grind (arith, num_eq_cases b a, d, is.actors.counted b low' high', step_count_other m op (last_op m b) d, transactions-append old.history.items (step_events m op) (last_op m b))
-        ]
-        ∙ ap (λ (h : List Event). transactions h (last_op m b)) (sym events) ∙ ap (transactions new.history.items) (sym (same_last b))
-
-    pub step_world : IsWorld new
-    step_world = record {
-      names = ap (λ (x : Store). x.names) new_store;
-      files = ap (λ (x : Store). x.files) new_store;
-      actors = record { number = ap length items ∙ length-set old.actors.items (a - 1) s ∙ is.actors.number; each = each; counted = count };
-      run = rw (counts, events) (run-append (opening old.counts) old.history.items (step_events m op) is.run (step_runs m op));
-      places = rw counts is.places;
+    pub stays : IsWorld new
+    stays = record {
+      store = store ∙ ap (λ (x : Moment). x.store) (sym now_is);
+      actors = record { number = ap length items ∙ length-set old.clients.items (a - 1) s ∙ is.actors.number; own = each_own; each = each_state; counted = each_count };
+      run = rw (counts, told) (run-append (opening old.shards.counts) old.history.items es is.run runs);
     }
 
--- ---- a command begins
+-- ---- one event that leaves the store and sets one actor
 
-module _ (old new : Inside) (a : ℕ) (s : ActorState) (c : Command) (is : IsWorld old) (low : 1 ≤ a) (high : a ≤ 65)
-    (can : CanBegin ((present (life_of old)).actors a) (next_op (present (life_of old)) a)) (served : IsServed c) where
+module _ (old new : Inside) (a : ℕ) (s : Client) (e : Event) (st : Actor) (is : IsWorld old) (low : 1 ≤ a) (high : a ≤ 65) where
   abbrev now : Moment
   now = present (life_of old)
 
-  abbrev first : OpId
-  first = next_op now a
+  module _ (sets : after now e ≡ with_actor now a st) (no_act : (op : OpId) → transactions (e ∷ []) op ≡ 0)
+      (shards : new.shards ≡ old.shards) (items : new.clients.items ≡ set old.clients.items (a - 1) s)
+      (told : new.history.items ≡ old.history.items ++ e ∷ []) (may : May now e) (own : s.actor.actor ≡ a) (state : s.actor.state ≡ st)
+      (counted : s.transactions ≡ transactions old.history.items (record { actor = a; number = st.number })) where
+    counts_same : new.shards.counts ≡ old.shards.counts
+    counts_same = ap (λ (x : WholeStore). x.counts) shards
 
-  module _ (counts : new.counts ≡ old.counts) (names : new.names ≡ old.names) (files : new.files ≡ old.files) (items : new.actors.items ≡ set old.actors.items (a - 1) s)
-      (begins : actor_of s ≡ begun (now.actors a) first c) (none : s.transactions ≡ 0) (told : new.history.items ≡ old.history.items ++ Began first c ∷ []) where
-    pub begin_grows : life_of new ≡ grown (life_of old) (Began first c ∷ [])
-    begin_grows i = record { counts = counts i; history = told i }
+    store_after : new.shards.store ≡ (after now e).store
+    store_after = ap (λ (x : WholeStore). x.store) shards ∙ is.store ∙ ap (λ (x : Moment). x.store) (sym sets)
 
-    begun_then : present (life_of new) ≡ after now (Began first c)
-    begun_then = ap present begin_grows ∙ present-grown (life_of old) (Began first c ∷ [])
+    set_own : (after now e).actors a ≡ st
+    set_own = ap (λ (x : Moment). x.actors a) sets ∙ grind (arith, num_eq_cases a a)
 
-    begun_each : (b : ℕ) → 1 ≤ b → b ≤ 65 → actor_at new.actors.items b ≡ (present (life_of new)).actors b
-    begun_each b low' high' =
-        ap (λ (states : List ActorState). actor_at states b) items ∙ set_actor old.actors.items a b s is.actors.number low high low'
-        ∙ grind (arith, begins, is.actors.each b low' high') ∙ ap (λ (x : Moment). x.actors b) (sym begun_then)
+    set_others : (b : ℕ) → b ≢ a → (after now e).actors b ≡ now.actors b
+    set_others b d = ap (λ (x : Moment). x.actors b) sets ∙ grind (arith, num_eq_cases b a, d)
 
-    quiet : Quiet now old.history.items
-    quiet = quiet_run (opening old.counts) opening_tree [] old.history.items (world_tracked old.counts [] tt).0 (λ op late. refl) is.run
+    set_count : s.transactions ≡ transactions (old.history.items ++ e ∷ []) (last_op (after now e) a)
+    set_count =
+        let last : last_op (after now e) a ≡ record { actor = a; number = st.number } = λ i. record { actor = a; number = ap (λ (x : Actor). x.number) set_own i } in
+        let none : transactions (e ∷ []) (record { actor = a; number = st.number }) ≡ 0 = no_act _ in
+        let both : transactions (old.history.items ++ e ∷ []) (record { actor = a; number = st.number }) ≡ transactions old.history.items (record { actor = a; number = st.number }) + transactions (e ∷ []) (record { actor = a; number = st.number }) =
+        transactions-append old.history.items (e ∷ []) (record { actor = a; number = st.number }) in
+        let alike : transactions old.history.items (record { actor = a; number = st.number }) ≡ transactions (old.history.items ++ e ∷ []) (record { actor = a; number = st.number }) = omega (arith, none, both) in
+        counted ∙ alike ∙ ap (transactions (old.history.items ++ e ∷ [])) (sym last)
 
-    begun_last : (b : ℕ) → last_op (present (life_of new)) b ≡ last_op (after now (Began first c)) b
-    begun_last b = ap (λ (x : Moment). last_op x b) begun_then
+    pub one_grows : life_of new ≡ grown (life_of old) (e ∷ [])
+    one_grows = grows old new a s (e ∷ []) is low high counts_same store_after items told (may, tt) own (state ∙ sym set_own) set_others set_count (λ b d. no_act (last_op now b))
 
-    begun_counts : (b : ℕ) (d : Bool) → eqb b a ≡ d → 1 ≤ b → b ≤ 65 → transactions_at new.actors.items b ≡ transactions (old.history.items ++ Began first c ∷ []) (last_op (after now (Began first c)) b)
-    begun_counts b true e low' high' =
-        let here : b ≡ a = grind (arith, num_eq_cases b a) in
-        let own : last_op (after now (Began first c)) b ≡ first = λ i. record { actor = here i; number = (ap (λ (d : Bool). (if d then begun (now.actors a) first c else now.actors b).number) e) i } in
-        ap (λ (states : List ActorState). transactions_at states b) items ∙ set_count old.actors.items a b s is.actors.number low high low'
-        ∙ rw own (grind (arith, e, none, quiet first, transactions-append old.history.items (Began first c ∷ []) first))
-    begun_counts b false e low' high' =
-        let other : last_op (after now (Began first c)) b ≡ last_op now b = λ i. record { actor = b; number = (ap (λ (d : Bool). (if d then begun (now.actors a) first c else now.actors b).number) e) i } in
-        ap (λ (states : List ActorState). transactions_at states b) items ∙ set_count old.actors.items a b s is.actors.number low high low'
-        ∙ rw other (grind (arith, e, is.actors.counted b low' high', transactions-append old.history.items (Began first c ∷ []) (last_op now b)))
+    pub one_stays : IsWorld new
+    one_stays = stays old new a s (e ∷ []) is low high counts_same store_after items told (may, tt) own (state ∙ sym set_own) set_others set_count (λ b d. no_act (last_op now b))
 
-    pub begin_world : IsWorld new
-    begin_world = record {
-      names = names ∙ is.names ∙ ap (λ (x : Moment). x.store.names) (sym begun_then);
-      files = files ∙ is.files ∙ ap (λ (x : Moment). x.store.files) (sym begun_then);
-      actors = record {
-        number = ap length items ∙ length-set old.actors.items (a - 1) s ∙ is.actors.number;
-        each = begun_each;
-        counted = λ b low' high'. begun_counts b (eqb b a) refl low' high' ∙ ap (λ (h : List Event). transactions h (last_op (after now (Began first c)) b)) (sym told) ∙ ap (transactions new.history.items) (sym (begun_last b));
-      };
-      run = rw (counts, told) (run-append (opening old.counts) old.history.items (Began first c ∷ []) is.run ((can, served), tt));
-      places = rw counts is.places;
-    }
+-- ---- a dump
+
+module _ (old new : Inside) (is : IsWorld old) (shards : new.shards ≡ old.shards) (clients : new.clients.items ≡ old.clients.items) (told : new.history.items ≡ old.history.items ++ Dumped ∷ []) where
+  pub dump_grows : life_of new ≡ grown (life_of old) (Dumped ∷ [])
+  dump_grows i = record { counts = ap (λ (x : WholeStore). x.counts) shards i; history = told i }
+
+  same_moment : present (life_of new) ≡ present (life_of old)
+  same_moment = ap present dump_grows ∙ present-grown (life_of old) (Dumped ∷ [])
+
+  same_count : (a : ℕ) → transactions old.history.items (last_op (present (life_of old)) a) ≡ transactions (old.history.items ++ Dumped ∷ []) (last_op (present (life_of old)) a)
+  same_count a =
+      let op : OpId = last_op (present (life_of old)) a in
+      let both : transactions (old.history.items ++ Dumped ∷ []) op ≡ transactions old.history.items op + 0 = transactions-append old.history.items (Dumped ∷ []) op in
+      omega (arith, both)
+
+  pub dump_stays : IsWorld new
+  dump_stays = record {
+    store = ap (λ (x : WholeStore). x.store) shards ∙ is.store ∙ ap (λ (x : Moment). x.store) (sym same_moment);
+    actors = record {
+      number = ap length clients ∙ is.actors.number;
+      own = λ a low high. ap (λ (cs : List Client). (client_at cs a).actor.actor) clients ∙ is.actors.own a low high;
+      each = λ a low high. ap (λ (cs : List Client). (client_at cs a).actor.state) clients ∙ is.actors.each a low high ∙ ap (λ (x : Moment). x.actors a) (sym same_moment);
+      counted = λ a low high.
+          ap (λ (cs : List Client). (client_at cs a).transactions) clients ∙ is.actors.counted a low high ∙ same_count a
+          ∙ ap (λ (h : List Event). transactions h (last_op (present (life_of old)) a)) (sym told) ∙ ap (λ (x : Moment). transactions new.history.items (last_op x a)) (sym same_moment);
+    };
+    run = rw (ap (λ (x : WholeStore). x.counts) shards, told) (run-append (opening old.shards.counts) old.history.items (Dumped ∷ []) is.run (tt, tt));
+  }
 
 -- ---- the world before anything was done
 
-idle_each : (b : ℕ) → 1 ≤ b → b ≤ 65 → actor_at (replicate 65 idle_state) b ≡ idle_actor
-idle_each b low high = ap actor_of (get_or-replicate 65 (b - 1) idle_state idle_state (omega (arith, low, high)))
+module _ (new : Inside) (store : new.shards.store ≡ (opening new.shards.counts).store) (idle : AreIdle new.clients.items 65) (told : new.history.items ≡ []) where
+  starts : present (life_of new) ≡ opening new.shards.counts
+  starts = ap (moment new.shards.counts) told
 
-idle_count : (b : ℕ) → 1 ≤ b → b ≤ 65 → transactions_at (replicate 65 idle_state) b ≡ 0
-idle_count b low high = ap (λ (s : ActorState). s.transactions) (get_or-replicate 65 (b - 1) idle_state idle_state (omega (arith, low, high)))
+  first_at : (a : ℕ) → 1 ≤ a → a ≤ 65 → client_at new.clients.items a ≡ idle_client a
+  first_at a low high =
+      let number : a - 1 + 1 ≡ a = omega (arith, low) in
+      idle.each (a - 1) (omega (arith, low, high)) ∙ ap idle_client number
 
-pub start_world : (new : Inside) → HasPlaces new.counts → new.names ≡ root_names → new.files ≡ (opening new.counts).store.files → new.actors.items ≡ replicate 65 idle_state → new.history.items ≡ [] → IsWorld new
-start_world new places names files items told = record {
-  names = names ∙ ap (λ (es : List Event). (moment new.counts es).store.names) (sym told);
-  files = files ∙ ap (λ (es : List Event). (moment new.counts es).store.files) (sym told);
-  actors = record {
-    number = ap length items;
-    each = λ b low high. ap (λ (states : List ActorState). actor_at states b) items ∙ idle_each b low high ∙ ap (λ (es : List Event). (moment new.counts es).actors b) (sym told);
-    counted = λ b low high.
-        ap (λ (states : List ActorState). transactions_at states b) items ∙ idle_count b low high
-        ∙ ap (λ (es : List Event). transactions es (last_op (moment new.counts es) b)) (sym told);
-  };
-  run = subst (λ (es : List Event). RunFrom (opening new.counts) es) (sym told) tt;
-  places = places;
-}
+  pub start_world : IsWorld new
+  start_world = record {
+    store = store ∙ ap (λ (x : Moment). x.store) (sym starts);
+    actors = record {
+      number = idle.number;
+      own = λ a low high. ap (λ (x : Client). x.actor.actor) (first_at a low high);
+      each = λ a low high. ap (λ (x : Client). x.actor.state) (first_at a low high) ∙ ap (λ (x : Moment). x.actors a) (sym starts);
+      counted = λ a low high. ap (λ (x : Client). x.transactions) (first_at a low high) ∙ ap (λ (h : List Event). transactions h (last_op (present (life_of new)) a)) (sym told);
+    };
+    run = subst (λ (es : List Event). RunFrom (opening new.shards.counts) es) (sym told) tt;
+  }

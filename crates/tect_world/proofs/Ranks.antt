@@ -1,5 +1,5 @@
 -- each transaction brings a command nearer to its end
-use Rattle.std.proofs.Common.{◌≡◌, ℕ, ◌+◌, ◌<◌, ◌≤◌, Bool, true, false, Option, Some, None, List, [], ◌∷◌, length, refl, arith}
+use Rattle.std.proofs.Common.{◌≡◌, ℕ, ◌+◌, ◌<◌, ◌≤◌, Bool, true, false, Option, Some, None, List, [], ◌∷◌, length, arith}
 use Rattle.tect_ids.specs.declared.ids.DirId.{DirId}
 use Rattle.tect_ids.specs.declared.ids.Hold.{Hold}
 use Rattle.tect_ids.specs.declared.ids.Node.{Node}
@@ -14,16 +14,15 @@ use Rattle.tect_ids.specs.declared.command.Command.{Command}
 use Rattle.tect_ids.specs.declared.command.Command.TheVariants as commands
 use Rattle.tect_ids.specs.declared.answer.Answer.{Answer}
 use Rattle.tect_ids.specs.declared.answer.Answer.TheVariants as answers
-use Rattle.tect_ids.specs.Keys.{name_eq}
 use Rattle.store_rules.specs.declared.names.Replaced.{Replaced}
 use Rattle.store_rules.specs.declared.any.AnyReq.{AnyReq}
 use Rattle.store_rules.specs.declared.any.AnyReply.{AnyReply}
 use Rattle.store_rules.specs.Names.{key_in}
-use Rattle.store_rules.specs.Views.{as_found, as_listing, as_parent, is_made, is_granted, as_bound, as_unbound, as_swapped}
+use Rattle.store_rules.specs.Views.{as_found, as_listing, as_bound, as_unbound, as_swapped}
 use Rattle.op_names.specs.declared.program.Phase.{Phase}
 use Rattle.op_names.specs.declared.program.Phase.TheVariants.{Walk, Bind, Grant, Swap, Release, End}
 use Rattle.op_names.specs.Paths.{last_name}
-use Rattle.op_names.specs.Programs.{phase_ask, phase_hear, walked, looked, checked, entries_heard, made_heard, unbound_heard, source_heard, first_hear, hear_at, then_release, bound_heard, swapped_heard}
+use Rattle.op_names.specs.Programs.{phase_ask, phase_hear, walked, looked, checked, entries_heard, made_heard, unbound_heard, source_heard, first_hear, then_release, bound_heard, swapped_heard}
 
 -- at most how many transactions are to come
 abbrev pub rank : Phase → ℕ

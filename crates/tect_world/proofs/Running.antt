@@ -1,11 +1,11 @@
 -- a command that runs goes on by transactions to its end
-use Rattle.std.proofs.Common.{◌≡◌, ◌≢◌, ℕ, zero, suc, ◌+◌, ◌-◌, ◌<◌, ◌≤◌, Bool, true, false, ◌||◌, eqb, if◌then◌else◌, Option, Some, None, is_some, List, [], ◌∷◌, ◌++◌, refl, sym, ap, ◌∙◌, subst, append_assoc, arith}
+use Rattle.std.proofs.Common.{◌≡◌, ℕ, ◌+◌, ◌<◌, Bool, true, ◌||◌, eqb, if◌then◌else◌, Option, Some, None, is_some, List, [], ◌∷◌, ◌++◌, refl, sym, ap, ◌∙◌, subst, append_assoc, inl, inr, arith}
 use Rattle.std.specs.Prelude.{IsSome, OnErr, Result, Ok, Err}
 use Rattle.std.proofs.lemmas.List.{append-nil}
 use Rattle.tect_ids.specs.declared.ids.Counts.{Counts}
 use Rattle.tect_ids.specs.declared.ids.OpId.{OpId}
 use Rattle.tect_ids.specs.declared.answer.Answer.{Answer}
-use Rattle.tect_ids.specs.Keys.{op_eq}
+use Rattle.tect_ids.specs.declared.answer.Answer.TheVariants as answers
 use Rattle.tect_ids.proofs.KeyTests.{num_eq_cases, op_eq_cases}
 use Rattle.store_rules.specs.declared.any.AnyReq.{AnyReq}
 use Rattle.store_rules.specs.declared.any.AnyReply.{AnyReply}
@@ -14,15 +14,14 @@ use Rattle.store_rules.specs.Store.{Store, store_reply}
 use Rattle.op_names.specs.declared.program.Program.{Program}
 use Rattle.op_names.specs.Programs.{object_number, phase_ask}
 use Rattle.world_runs.specs.declared.event.Event.{Event}
-use Rattle.world_runs.specs.declared.event.Event.TheVariants.{Began, Acted, Ended, Stopped}
+use Rattle.world_runs.specs.declared.event.Event.TheVariants.{Began, Acted, Ended, Stopped, Failed, Dumped}
 use Rattle.world_runs.specs.Follows.{Acts}
-use Rattle.world_runs.specs.Moments.{Actor, Moment, IsWorldRun, moment, after_all, running, asked, answered, program_of, program_ask, program_answer}
+use Rattle.world_runs.specs.Moments.{Actor, Moment, IsWorldRun, after_all, running, asked, answered, program_of, program_ask, program_answer}
 use Rattle.sound_runs.proofs.RunsKeep.{running_goes_on, running_is_last_begun}
-use Rattle.tect_world.specs.Life.{Life, present, grown, last_op, actor_asks, actor_answer, acted_actor, ended_actor, stepped_actor, transaction, ending, step_answer, step_events}
-use Rattle.tect_world.specs.declared.turned.Turned.{Turned}
-use Rattle.tect_world.specs.declared.turned.Turned.TheVariants.{Going, Done}
-use Rattle.tect_world.specs.Turns.{turned_by}
-use Rattle.tect_world.specs.Steps.{RanToEnd, GoesOn}
+use Rattle.tect_world.specs.Life.{Life, present, grown, last_op, actor_asks, acted_actor, ended_actor, stepped_actor, transaction, ending, step_answer, step_events}
+use Rattle.actors.specs.declared.turned.Turned.TheVariants.{Going, Done}
+use Rattle.actors.specs.Turns.{turned_by}
+use Rattle.tect_world.specs.Steps.{Stepped, RanToEnd, GoesOn}
 use Rattle.tect_world.proofs.Events.{step_actors, step_number}
 use Rattle.tect_world.proofs.Lives.{present-grown}
 use Rattle.tect_world.proofs.Ranks.{rank, rank_falls}
@@ -35,6 +34,8 @@ acts_push op q x n (Acted other r y ∷ es) (own, (rest, is, acts)) = (own, (res
 acts_push op q x n (Began other c ∷ es) acts = absurd acts
 acts_push op q x n (Ended other a ∷ es) acts = absurd acts
 acts_push op q x n (Stopped other ∷ es) acts = absurd acts
+acts_push op q x n (Failed other a ∷ es) acts = absurd acts
+acts_push op q x n (Dumped ∷ es) acts = absurd acts
 
 grown-grown : (w : Life) (es fs : List Event) → grown (grown w es) fs ≡ grown w (es ++ fs)
 grown-grown w es fs i = record { counts = w.counts; history = append_assoc w.history es fs i }
@@ -52,6 +53,14 @@ own_program w a p run is =
     let k = running_is_last_begun w.counts w.history run a p is in
     let same : p.op ≡ last_op (present w) a = λ i. record { actor = k.own i; number = k.last i } in
     ap (λ (o : Option Program). program_of o (last_op (present w) a)) is ∙ grind (arith, op_eq_cases p.op (last_op (present w) a), same)
+
+some_of : {X : Type 0} (o : Option X) → IsSome o → (x : X) × (o ≡ Some x)
+some_of (Some x) is = (x, refl)
+some_of None is = absurd (grind (arith, is))
+
+-- the program that runs is the one of the actor's last op
+pub own_running : (w : Life) (a : ℕ) → run_is w → IsSome ((present w).actors a).running → (p : Program) × (running (present w) (last_op (present w) a) ≡ Some p)
+own_running w a run runs = let own = some_of _ runs in (own.0, own_program w a own.0 run own.1)
 
 pub goes_own : (w : Life) (a : ℕ) (p : Program) → run_is w → ((present w).actors a).running ≡ Some p
     → (is_some (asked (present w) (last_op (present w) a)) || is_some (answered (present w) (last_op (present w) a))) ≡ true
@@ -71,13 +80,17 @@ ends_by : (w v : Life) (op : OpId) (o : Option AnyReq) (a : Answer) (u : Life) �
 ends_by w v op None a u goes is = record {
   acts = goes.acts;
   count = goes.count;
+  end = Ended op a;
   are_acts = goes.are_acts;
+  ends = (refl, refl);
   history = is ∙ ap (λ (x : Life). grown x (Ended op a ∷ [])) goes.history ∙ grown-grown w goes.acts (Ended op a ∷ []);
 }
 ends_by w v op (Some q) a u goes is = record {
   acts = goes.acts ++ Acted op q (store_reply (present v).store q) ∷ [];
   count = goes.count + 1;
+  end = Ended op a;
   are_acts = acts_push op q (store_reply (present v).store q) goes.count goes.acts goes.are_acts;
+  ends = (refl, refl);
   history = is ∙ ap (λ (x : Life). grown x (Acted op q (store_reply (present v).store q) ∷ Ended op a ∷ [])) goes.history
       ∙ grown-grown w goes.acts (Acted op q (store_reply (present v).store q) ∷ Ended op a ∷ [])
       ∙ ap (grown w) (sym (append_assoc goes.acts (Acted op q (store_reply (present v).store q) ∷ []) (Ended op a ∷ [])));
@@ -86,6 +99,17 @@ ends_by w v op (Some q) a u goes is = record {
 pub ran_to_end : (w v u : Life) (op : OpId) (a : Answer) → GoesOn w v op → u ≡ grown v (step_events (present v) op) → step_answer (present v) op ≡ Some a → RanToEnd w u op a
 ran_to_end w v u op a goes is ends = ends_by w v op (actor_asks ((present v).actors op.actor) op) a u goes
     (is ∙ ap (λ (o : Option Answer). grown v (transaction (present v).store op (actor_asks ((present v).actors op.actor) op) ++ ending op o)) ends)
+
+-- for want of memory it ends too
+fails_by : (w v u : Life) (op : OpId) (x : Answer) → GoesOn w v op → u ≡ grown v (Failed op x ∷ []) → RanToEnd w u op x
+fails_by w v u op x goes is = record {
+  acts = goes.acts;
+  count = goes.count;
+  end = Failed op x;
+  are_acts = goes.are_acts;
+  ends = (refl, refl);
+  history = is ∙ ap (λ (y : Life). grown y (Failed op x ∷ [])) goes.history ∙ grown-grown w goes.acts (Failed op x ∷ []);
+}
 
 -- with no answer after the step, it asked something
 asks_some : (counts : Counts) (s : Store) (st : Actor) (op : OpId) (o : Option AnyReq) → actor_asks st op ≡ o → program_answer (program_of (acted_actor counts s st o).running op) ≡ None
@@ -154,10 +178,6 @@ pub record Goes (w v : Life) (a : ℕ) : Type 0 where
   pub running : IsSome ((present v).actors a).running
   pub run : run_is v
 
-some_of : {X : Type 0} (o : Option X) → IsSome o → (x : X) × (o ≡ Some x)
-some_of (Some x) is = (x, refl)
-some_of None is = absurd (grind (arith, is))
-
 not_done : (o : Option Answer) → turned_by o ≡ Going → o ≡ None
 not_done None is = refl
 not_done (Some a) is = absurd (grind (arith, is))
@@ -169,16 +189,24 @@ is_done (Some b) a is = grind (arith, is)
 pub goes_first : (w : Life) (a : ℕ) → run_is w → IsSome ((present w).actors a).running → Goes w w a
 goes_first w a run running = record { going = goes_none w (last_op (present w) a); last = refl; running = running; run = run }
 
-module _ (w v u : Life) (a : ℕ) (t : Turned) (goes : Goes w v a) (grows : u ≡ grown v (step_events (present v) (last_op (present v) a))) (turned : t ≡ turned_by (step_answer (present v) (last_op (present v) a))) where
+-- a step that goes on, and one that ends the command
+going_step : (v u : Life) (op : OpId) → Stepped v u op Going → (u ≡ grown v (step_events (present v) op)) × (step_answer (present v) op ≡ None)
+going_step v u op (inl (grows, turned)) = (grows, not_done _ (sym turned))
+going_step v u op (inr (fails, turned)) = absurd (grind (arith, turned))
+
+module _ (w v u : Life) (a : ℕ) (goes : Goes w v a) where
   own : (p : Program) × (((present v).actors a).running ≡ Some p)
   own = some_of _ goes.running
 
   to_here : GoesOn w v (last_op (present v) a)
   to_here = subst (GoesOn w v) (sym goes.last) goes.going
 
-  module _ (still : t ≡ Going) where
+  module _ (stepped : Stepped v u (last_op (present v) a) Going) where
+    grows : u ≡ grown v (step_events (present v) (last_op (present v) a))
+    grows = (going_step v u (last_op (present v) a) stepped).0
+
     none : step_answer (present v) (last_op (present v) a) ≡ None
-    none = not_done _ (sym turned ∙ still)
+    none = (going_step v u (last_op (present v) a) stepped).1
 
     near : Nearer ((present v).actors a).running ((present u).actors a).running
     near = step_nearer v u a own.0 goes.run own.1 grows none
@@ -194,8 +222,18 @@ module _ (w v u : Life) (a : ℕ) (t : Turned) (goes : Goes w v a) (grows : u �
     pub goes_nearer : rank_of ((present u).actors a).running < rank_of ((present v).actors a).running
     goes_nearer = near.less
 
-  pub goes_to_end : (x : Answer) → t ≡ Done x → RanToEnd w u (last_op (present w) a) x
-  goes_to_end x done = subst (λ (op : OpId). RanToEnd w u op x) goes.last (ran_to_end w v u (last_op (present v) a) x to_here grows (is_done _ x (sym turned ∙ done)))
+  done_by : (x : Answer) → Stepped v u (last_op (present v) a) (Done x) → RanToEnd w u (last_op (present v) a) x
+  done_by x (inl (grows, turned)) = ran_to_end w v u (last_op (present v) a) x to_here grows (is_done _ x (sym turned))
+  done_by x (inr (fails, turned)) = lack x (λ i. same_done i) fails
+    where
+      lack : (y : Answer) → y ≡ answers.NoMemory → u ≡ grown v (Failed (last_op (present v) a) answers.NoMemory ∷ []) → RanToEnd w u (last_op (present v) a) y
+      lack y e f = subst (RanToEnd w u (last_op (present v) a)) (sym e) (fails_by w v u (last_op (present v) a) answers.NoMemory to_here f)
+
+      same_done : x ≡ answers.NoMemory
+      same_done = grind (arith, turned)
+
+  pub goes_to_end : (x : Answer) → Stepped v u (last_op (present v) a) (Done x) → RanToEnd w u (last_op (present w) a) x
+  goes_to_end x stepped = subst (λ (op : OpId). RanToEnd w u op x) goes.last (done_by x stepped)
 
 pub goes_nowhere : (w v u : Life) (a : ℕ) → Goes w v a → u ≡ v → GoesOn w u (last_op (present w) a)
 goes_nowhere w v u a goes is = subst (λ (x : Life). GoesOn w x (last_op (present w) a)) (sym is) goes.going

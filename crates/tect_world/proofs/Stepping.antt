@@ -1,74 +1,113 @@
 -- what the code of a step does is the step
-use Rattle.std.proofs.Common.{◌≡◌, ℕ, Bool, true, false, Option, Some, None, List, [], ◌∷◌, ◌++◌, refl, sym, ap, ◌∙◌, append_assoc, arith}
+use Rattle.std.proofs.Common.{◌≡◌, ℕ, ◌+◌, Option, Some, None, List, ◌++◌, refl, sym, ap, ◌∙◌, append_assoc, arith}
+use Rattle.std.specs.Option.{ForSome}
 use Rattle.tect_ids.specs.declared.ids.Counts.{Counts}
 use Rattle.tect_ids.specs.declared.ids.OpId.{OpId}
 use Rattle.tect_ids.specs.declared.answer.Answer.{Answer}
-use Rattle.tect_ids.specs.Keys.{op_eq}
 use Rattle.tect_ids.proofs.KeyTests.{op_eq_cases}
 use Rattle.store_rules.specs.declared.any.AnyReq.{AnyReq}
 use Rattle.store_rules.specs.declared.any.AnyReply.{AnyReply}
-use Rattle.store_rules.specs.Places.{request_place}
-use Rattle.store_rules.specs.Store.{Store, store_reply, store_step}
+use Rattle.store_rules.specs.Store.{Store}
 use Rattle.op_names.specs.declared.program.Program.{Program}
-use Rattle.op_names.specs.Programs.{object_number, phase_ask, phase_hear, phase_answer}
 use Rattle.world_runs.specs.declared.event.Event.{Event}
-use Rattle.world_runs.specs.declared.event.Event.TheVariants.{Acted, Ended}
-use Rattle.world_runs.specs.Moments.{Actor, program_of, program_ask, program_answer, next_serial, heard}
+use Rattle.world_runs.specs.Moments.{Actor, program_of, program_ask, program_answer, heard}
+use Rattle.all_shards.specs.Whole.{WholeStore}
+use Rattle.actors.specs.ActorState.{ActorState, op_of}
+use Rattle.tect_world.specs.declared.clients.Client.{Client}
+use Rattle.tect_world.specs.declared.turns.Act.{Act}
+use Rattle.tect_world.specs.Acts.{act_of, act_heard, act_done, act_events, act_number}
 use Rattle.tect_world.specs.Life.{actor_asks, actor_answer, actor_events, acted_actor, acted_store, ended_actor, transaction, ending}
-use Rattle.tect_world.specs.Steps.{Steps, act_count}
+use Rattle.tect_world.specs.Steps.{act_count}
+use Rattle.tect_world.specs.ClientSteps.{WentOn}
 
-own_of : (o : Option Program) (p : Program) (op : OpId) → o ≡ Some p → p.op ≡ op → program_of o op ≡ Some p
-own_of o p op is own = ap (λ (x : Option Program). program_of x op) is ∙ grind (arith, op_eq_cases p.op op)
+-- ---- an actor runs its own op
 
-steps_by : (counts : Counts) (s t : Store) (a b : Actor) (op : OpId) (before later : List Event) (answer : Option Answer) (o : Option AnyReq) (x : Option Answer)
-    → actor_asks a op ≡ o → program_answer (program_of (acted_actor counts s a o).running op) ≡ x → t ≡ acted_store s o → b ≡ ended_actor (acted_actor counts s a o) x
-    → later ≡ before ++ (transaction s op o ++ ending op x) → answer ≡ x → Steps counts s t a b op before later answer
-steps_by counts s t a b op before later answer o x asks comes store actor events is =
-    let answers : actor_answer counts s a op ≡ x = ap (λ (q : Option AnyReq). program_answer (program_of (acted_actor counts s a q).running op)) asks ∙ comes in
-    record {
-      store = store ∙ ap (acted_store s) (sym asks);
-      actor = actor ∙ ap (λ (q : Option AnyReq). ended_actor (acted_actor counts s a q) x) (sym asks) ∙ ap (ended_actor (acted_actor counts s a (actor_asks a op))) (sym answers);
-      events = events ∙ ap (λ (q : Option AnyReq). before ++ (transaction s op q ++ ending op x)) (sym asks) ∙ ap (λ (y : Option Answer). before ++ (transaction s op (actor_asks a op) ++ ending op y)) (sym answers);
-      answers = is ∙ sym answers;
-    }
+own_by : (p : Program) (op : OpId) → p.op ≡ op → program_of (Some p) op ≡ Some p
+own_by p op own = grind (arith, op_eq_cases p.op op)
 
--- a program that asks nothing
-module _ (counts : Counts) (s : Store) (a b : Actor) (op : OpId) (p : Program) (before later : List Event) (answer : Option Answer)
-    (runs : a.running ≡ Some p) (own : p.op ≡ op) (none : phase_ask p.op (object_number op.actor a.serial) p.command p.phase ≡ None) where
-  pub asks_none : actor_asks a op ≡ None
-  asks_none = ap (program_ask a.serial) (own_of a.running p op runs own) ∙ ap (λ (n : ℕ). phase_ask p.op (object_number n a.serial) p.command p.phase) (ap (λ (x : OpId). x.actor) own) ∙ none
+pub program_own : (o : Option Program) (op : OpId) → ForSome o (λ p. p.op ≡ op) → program_of o op ≡ o
+program_own None op own = refl
+program_own (Some p) op own = own_by p op (own p refl)
 
-  pub steps_none : b ≡ ended_actor a (phase_answer p.phase) → later ≡ before ++ ending op (phase_answer p.phase) → answer ≡ phase_answer p.phase → Steps counts s s a b op before later answer
-  steps_none actor events is = steps_by counts s s a b op before later answer None (phase_answer p.phase) asks_none (ap program_answer (own_of a.running p op runs own)) refl actor events is
+heard_own : (counts : Counts) (serial : ℕ) (q : AnyReq) (x : AnyReply) (o : Option Program) (op : OpId) → ForSome o (λ p. p.op ≡ op) → program_of (heard counts serial q x o) op ≡ heard counts serial q x o
+heard_own counts serial q x None op own = refl
+heard_own counts serial q x (Some p) op own = own_by _ op (own p refl)
 
--- a program that asks something
-module _ (counts : Counts) (s t : Store) (a mid b : Actor) (op : OpId) (p next : Program) (q : AnyReq) (x : AnyReply) (before later : List Event) (answer : Option Answer)
-    (runs : a.running ≡ Some p) (own : p.op ≡ op) (some : phase_ask p.op (object_number op.actor a.serial) p.command p.phase ≡ Some q) where
-  pub asks_some : actor_asks a op ≡ Some q
-  asks_some = ap (program_ask a.serial) (own_of a.running p op runs own) ∙ ap (λ (n : ℕ). phase_ask p.op (object_number n a.serial) p.command p.phase) (ap (λ (y : OpId). y.actor) own) ∙ some
+module _ (counts : Counts) (s : Store) (st : Actor) (op : OpId) (own : ForSome st.running (λ p. p.op ≡ op)) where
+  pub own_asks : actor_asks st op ≡ program_ask st.serial st.running
+  own_asks = ap (program_ask st.serial) (program_own st.running op own)
 
-  module _ (reply : x ≡ store_reply s q) (goes : next ≡ record p { phase = phase_hear (request_place counts q) p.op (object_number op.actor a.serial) p.command p.phase x }) where
-    heard_next : heard counts a.serial q (store_reply s q) a.running ≡ Some next
-    heard_next =
-        ap (heard counts a.serial q (store_reply s q)) runs
-        ∙ ap (λ (n : ℕ). Some (let r : Program = record p { phase = phase_hear (request_place counts q) p.op (object_number n a.serial) p.command p.phase (store_reply s q) } in r)) (ap (λ (y : OpId). y.actor) own)
-        ∙ ap (λ (y : AnyReply). Some (let r : Program = record p { phase = phase_hear (request_place counts q) p.op (object_number op.actor a.serial) p.command p.phase y } in r)) (sym reply)
-        ∙ ap Some (sym goes)
+  own_acted : (o : Option AnyReq) → program_of (acted_actor counts s st o).running op ≡ (acted_actor counts s st o).running
+  own_acted None = program_own st.running op own
+  own_acted (Some q) = heard_own counts st.serial q _ st.running op own
 
-    acted_is : mid ≡ record a { serial = next_serial a.serial x; running = Some next } → mid ≡ acted_actor counts s a (Some q)
-    acted_is is = is ∙ ap (λ (o : Option Program). let r : Actor = record a { serial = next_serial a.serial x; running = o } in r) (sym heard_next)
-        ∙ ap (λ (y : AnyReply). let r : Actor = record a { serial = next_serial a.serial y; running = heard counts a.serial q (store_reply s q) a.running } in r) reply
+-- ---- the parts of a turn
 
-    next_own : next.op ≡ op
-    next_own = ap (λ (y : Program). y.op) goes ∙ own
+heard_is : (counts : Counts) (s : Store) (st : Actor) (o : Option AnyReq) → act_heard counts st (act_of s o) ≡ acted_actor counts s st o
+heard_is counts s st None = refl
+heard_is counts s st (Some q) = refl
 
-    comes : program_answer (program_of (acted_actor counts s a (Some q)).running op) ≡ phase_answer next.phase
-    comes = ap program_answer (own_of (heard counts a.serial q (store_reply s q) a.running) next op heard_next next_own)
+done_is : (s : Store) (o : Option AnyReq) → act_done s (act_of s o) ≡ acted_store s o
+done_is s None = refl
+done_is s (Some q) = refl
 
-    pub steps_some : mid ≡ record a { serial = next_serial a.serial x; running = Some next } → b ≡ ended_actor mid (phase_answer next.phase) → t ≡ store_step s q
-        → later ≡ (before ++ Acted op q x ∷ []) ++ ending op (phase_answer next.phase) → answer ≡ phase_answer next.phase → Steps counts s t a b op before later answer
-    steps_some is actor store events told =
-        steps_by counts s t a b op before later answer (Some q) (phase_answer next.phase) asks_some comes store
-        (actor ∙ ap (λ (y : Actor). ended_actor y (phase_answer next.phase)) (acted_is is))
-        (events ∙ ap (λ (y : AnyReply). (before ++ Acted op q y ∷ []) ++ ending op (phase_answer next.phase)) reply ∙ append_assoc before (Acted op q (store_reply s q) ∷ []) (ending op (phase_answer next.phase)))
-        told
+events_are : (s : Store) (op : OpId) (o : Option AnyReq) → act_events op (act_of s o) ≡ transaction s op o
+events_are s op None = refl
+events_are s op (Some q) = refl
+
+number_is : (s : Store) (o : Option AnyReq) → act_number (act_of s o) ≡ act_count o
+number_is s None = refl
+number_is s (Some q) = refl
+
+-- ---- the turn of a client
+
+module _ (s t : WholeStore) (a b : Client) (before later : List Event) (op : OpId) (act : Option Act) (next : ActorState) (answer told : Option Answer)
+    (op_is : op ≡ op_of a.actor) (own : ForSome a.actor.state.running (λ p. p.op ≡ op_of a.actor))
+    (act_is : act ≡ act_of s.store (program_ask a.actor.state.serial a.actor.state.running))
+    (next_is : next ≡ record a.actor { state = act_heard s.counts a.actor.state act })
+    (answer_is : answer ≡ program_answer next.state.running) (told_is : told ≡ answer) (shards_are : t ≡ record s { store = act_done s.store act })
+    (client_is : b ≡ record { actor = record next { state = ended_actor next.state answer }; transactions = a.transactions + act_number act })
+    (history_is : later ≡ (before ++ act_events op act) ++ ending op answer) where
+  abbrev st : Actor
+  st = a.actor.state
+
+  abbrev own_op : OpId
+  own_op = op_of a.actor
+
+  asks : actor_asks st own_op ≡ program_ask st.serial st.running
+  asks = own_asks s.counts s.store st own_op own
+
+  its_act : act ≡ act_of s.store (actor_asks st own_op)
+  its_act = act_is ∙ ap (act_of s.store) (sym asks)
+
+  acted : next.state ≡ acted_actor s.counts s.store st (actor_asks st own_op)
+  acted =
+      ap (λ (x : ActorState). x.state) next_is ∙ ap (act_heard s.counts st) its_act ∙ heard_is s.counts s.store st (actor_asks st own_op)
+
+  comes : answer ≡ actor_answer s.counts s.store st own_op
+  comes =
+      answer_is ∙ ap (λ (x : Actor). program_answer x.running) acted ∙ ap program_answer (sym (own_acted s.counts s.store st own_op own (actor_asks st own_op)))
+
+  noted : later ≡ before ++ actor_events s.counts s.store st own_op
+  noted =
+      history_is
+      ∙ append_assoc before (act_events op act) (ending op answer)
+      ∙ ap (λ (o : OpId). before ++ (act_events o act ++ ending o answer)) op_is
+      ∙ ap (λ (x : Option Act). before ++ (act_events own_op x ++ ending own_op answer)) its_act
+      ∙ ap (λ (es : List Event). before ++ (es ++ ending own_op answer)) (events_are s.store own_op (actor_asks st own_op))
+      ∙ ap (λ (x : Option Answer). before ++ (transaction s.store own_op (actor_asks st own_op) ++ ending own_op x)) comes
+
+  pub went_on_is : WentOn s t a b before later told
+  went_on_is = record {
+    steps = record {
+      store = ap (λ (x : WholeStore). x.store) shards_are ∙ ap (act_done s.store) its_act ∙ done_is s.store (actor_asks st own_op);
+      actor = ap (λ (x : Client). x.actor.state) client_is ∙ ap (λ (x : Actor). ended_actor x answer) acted
+          ∙ ap (ended_actor (acted_actor s.counts s.store st (actor_asks st own_op))) comes;
+      events = noted;
+      answers = told_is ∙ comes;
+    };
+    counts = ap (λ (x : WholeStore). x.counts) shards_are;
+    own = ap (λ (x : Client). x.actor.actor) client_is ∙ ap (λ (x : ActorState). x.actor) next_is;
+    counted = ap (λ (x : Client). x.transactions) client_is ∙ ap (λ (x : Option Act). a.transactions + act_number x) its_act
+        ∙ ap (λ (n : ℕ). a.transactions + n) (number_is s.store (actor_asks st own_op));
+  }

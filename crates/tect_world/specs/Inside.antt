@@ -1,34 +1,24 @@
 -- The fields of the world are the moment after its history, which is a run of the world.
-use Rattle.std.specs.Prelude.{◌≡◌, ℕ, ◌-◌, ◌≤◌, List, length, slice_index_or}
-use Rattle.tect_ids.specs.Places.{HasPlaces}
+use Rattle.std.specs.Prelude.{◌≡◌, ℕ, ◌≤◌, List, length}
 use Rattle.world_runs.specs.declared.event.Event.{Event}
-use Rattle.world_runs.specs.Moments.{Actor, Moment, IsWorldRun}
+use Rattle.world_runs.specs.Moments.{Moment, IsWorldRun}
 use Rattle.world_runs.specs.Report.{transactions}
-use Rattle.tect_world.specs.declared.actors.ActorState.{ActorState}
+use Rattle.tect_world.specs.declared.clients.Client.{Client}
 use Rattle.tect_world.specs.declared.world.World.TheInside.{Inside}
-use Rattle.tect_world.specs.Idle.{idle_state, actor_of}
+use Rattle.tect_world.specs.Clients.{client_at}
 use Rattle.tect_world.specs.Life.{Life, present, last_op}
 
 abbrev pub life_of : Inside → Life
-life_of w = record { counts = w.counts; history = w.history.items }
-
--- the actor with that number, from 1
-abbrev pub actor_at : List ActorState → ℕ → Actor
-actor_at states a = actor_of (slice_index_or states (a - 1) idle_state)
-
--- how many transactions the last op of the actor with that number took
-abbrev pub transactions_at : List ActorState → ℕ → ℕ
-transactions_at states a = (slice_index_or states (a - 1) idle_state).transactions
+life_of w = record { counts = w.shards.counts; history = w.history.items }
 
 -- these are the actors of the moment after the history
-pub record HasActors (states : List ActorState) (m : Moment) (history : List Event) : Type 0 where
-  pub number : length states ≡ 65
-  pub each : (a : ℕ) → 1 ≤ a → a ≤ 65 → actor_at states a ≡ m.actors a
-  pub counted : (a : ℕ) → 1 ≤ a → a ≤ 65 → transactions_at states a ≡ transactions history (last_op m a)
+pub record HasActors (clients : List Client) (m : Moment) (history : List Event) : Type 0 where
+  pub number : length clients ≡ 65
+  pub own : (a : ℕ) → 1 ≤ a → a ≤ 65 → (client_at clients a).actor.actor ≡ a
+  pub each : (a : ℕ) → 1 ≤ a → a ≤ 65 → (client_at clients a).actor.state ≡ m.actors a
+  pub counted : (a : ℕ) → 1 ≤ a → a ≤ 65 → (client_at clients a).transactions ≡ transactions history (last_op m a)
 
 pub record IsWorld (w : Inside) : Type 0 where
-  pub names : w.names ≡ (present (life_of w)).store.names
-  pub files : w.files ≡ (present (life_of w)).store.files
-  pub actors : HasActors w.actors.items (present (life_of w)) w.history.items
-  pub run : IsWorldRun w.counts w.history.items
-  pub places : HasPlaces w.counts
+  pub store : w.shards.store ≡ (present (life_of w)).store
+  pub actors : HasActors w.clients.items (present (life_of w)) w.history.items
+  pub run : IsWorldRun w.shards.counts w.history.items

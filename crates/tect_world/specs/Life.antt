@@ -1,12 +1,12 @@
 -- What contracts see of the world: its counts and its history. All else is the moment after the history.
-use Rattle.std.specs.Prelude.{◌≡◌, ℕ, ◌+◌, List, [], ◌∷◌, ◌++◌, Option, Some, None}
+use Rattle.std.specs.Prelude.{ℕ, ◌+◌, List, [], ◌∷◌, ◌++◌, Option, Some, None}
 use Rattle.tect_ids.specs.declared.ids.Counts.{Counts}
 use Rattle.tect_ids.specs.declared.ids.OpId.{OpId}
 use Rattle.tect_ids.specs.declared.answer.Answer.{Answer}
 use Rattle.store_rules.specs.declared.any.AnyReq.{AnyReq}
 use Rattle.store_rules.specs.Store.{Store, store_reply, store_step}
 use Rattle.world_runs.specs.declared.event.Event.{Event}
-use Rattle.world_runs.specs.declared.event.Event.TheVariants.{Began, Acted, Ended}
+use Rattle.world_runs.specs.declared.event.Event.TheVariants.{Acted, Ended}
 use Rattle.world_runs.specs.Moments.{Actor, Moment, moment, program_of, program_ask, program_answer, went_on}
 
 pub record Life : Type 0 where

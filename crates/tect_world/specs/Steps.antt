@@ -1,15 +1,19 @@
 -- A step of one actor over the store: from the store s and the actor a to t and b, with its events and its answer.
-use Rattle.std.specs.Prelude.{◌≡◌, ℕ, List, [], ◌∷◌, ◌++◌, Option, Some, None}
+use Rattle.std.specs.Prelude.{◌≡◌, ℕ, List, [], ◌∷◌, ◌++◌, Option, Some, None, ◌⊎◌}
 use Rattle.tect_ids.specs.declared.ids.Counts.{Counts}
 use Rattle.tect_ids.specs.declared.ids.OpId.{OpId}
 use Rattle.tect_ids.specs.declared.answer.Answer.{Answer}
+use Rattle.tect_ids.specs.declared.answer.Answer.TheVariants as answers
 use Rattle.store_rules.specs.declared.any.AnyReq.{AnyReq}
 use Rattle.store_rules.specs.Store.{Store}
 use Rattle.world_runs.specs.declared.event.Event.{Event}
-use Rattle.world_runs.specs.declared.event.Event.TheVariants.{Ended}
+use Rattle.world_runs.specs.declared.event.Event.TheVariants.{Began, Acted, Ended, Stopped, Failed, Dumped}
 use Rattle.world_runs.specs.Follows.{Acts}
 use Rattle.world_runs.specs.Moments.{Actor}
-use Rattle.tect_world.specs.Life.{Life, grown, actor_asks, actor_answer, actor_events, stepped_actor, stepped_store}
+use Rattle.actors.specs.declared.turned.Turned.{Turned}
+use Rattle.actors.specs.declared.turned.Turned.TheVariants.{Done}
+use Rattle.actors.specs.Turns.{turned_by}
+use Rattle.tect_world.specs.Life.{Life, present, grown, actor_answer, actor_events, stepped_actor, stepped_store, step_answer, step_events}
 
 pub record Steps (counts : Counts) (s t : Store) (a b : Actor) (op : OpId) (before later : List Event) (answer : Option Answer) : Type 0 where
   pub store : t ≡ stepped_store s a op

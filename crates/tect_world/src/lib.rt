@@ -1,11 +1,10 @@
 //! The world on one thread: all shards and all actors, and the history of what was done.
 #![tactic(auto)]
 
-mod actors;
-mod shards;
+mod clients;
 mod steps;
-mod turned;
+mod turns;
 mod world;
 
-pub use turned::Turned;
+pub use actors::Turned;
 pub use world::World;

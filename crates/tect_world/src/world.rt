@@ -1,32 +1,29 @@
-ghost use Rattle.std.specs.Prelude.{◌≡◌, ℕ, ◌+◌, ◌^◌, ◌<◌, ◌≤◌, [], ◌∷◌, ◌++◌, List, OnOk, OnErr, IfOk, IsSome, IsNone, false};
+ghost use Rattle.std.specs.Prelude.{◌≡◌, ℕ, ◌+◌, ◌^◌, ◌<◌, ◌≤◌, [], ◌∷◌, ◌++◌, List, OnOk, OnErr, IfOk, IsSome, IsNone, IsTrue, is_some, false};
 ghost use Rattle.tect_ids.specs.Places.{HasPlaces};
+ghost use Rattle.store_rules.specs.Dumps.{store_dump};
 ghost use Rattle.world_runs.specs.declared.event.Event.TheVariants as events;
 ghost use Rattle.world_runs.specs.Moments.{IsWorldRun};
 ghost use Rattle.world_runs.specs.Report.{transactions};
 ghost use Rattle.world_runs.specs.Served.{IsServed};
-ghost use Rattle.tect_world.specs.Life.{Life, present, grown, last_op, next_op, step_answer, step_events};
-ghost use Rattle.tect_world.specs.Steps.{RanToEnd, GoesOn};
-ghost use Rattle.tect_world.specs.Turns.{turned_by};
+ghost use Rattle.actors.specs.Turns.{turned_by};
+ghost use Rattle.tect_world.specs.Life.{Life, present, grown, last_op, next_op};
+ghost use Rattle.tect_world.specs.Steps.{Stepped, RanToEnd, GoesOn};
 
-use crate::actors::{ActorState, idle_actors};
-use crate::steps::{begin_program, push_event, step_actor};
-use crate::turned::Turned;
-use file_shard::FileShard;
-use name_shard::NameShard;
-use op_names::Program;
+use crate::clients::{Client, begin_client, idle_clients, push_event, stop_client};
+use crate::steps::step_client;
+use actors::Turned;
+use all_shards::Shards;
 use std::alloc::Global;
 use std::marker::Model;
-use tect_ids::{Answer, Command, Counts, NoMemory, OpId};
+use tect_ids::{Answer, Command, Counts, DumpLine, NoMemory, OpId};
 use world_runs::Event;
 
 /// All shards and actors on one thread. Contracts see its counts and its history.
 #[derive(Drop)]
 pub struct World {
     alloc: Global,
-    counts: Counts,
-    names: NameShard,
-    files: FileShard,
-    actors: Vec<ActorState>,
+    shards: Shards,
+    clients: Vec<Client>,
     history: Vec<Event>,
 }
 
@@ -43,21 +40,34 @@ impl Model for World {
 }
 
 impl World {
-    /// The world before anything was done: the root alone, and idle actors. Each layer has one shard so far.
+    /// The world before anything was done: the root alone, and idle actors.
     pub fn start(alloc: Global, counts: Counts) -> Result<World, NoMemory>
         requires places { HasPlaces counts }
         ensures { IfOk result (λ world. world ≡ record { counts = counts; history = [] }) }
     {
-        let names = NameShard::new(alloc, true)?;
-        let actors = idle_actors(alloc)?;
+        let shards = Shards::start(alloc, counts)?;
+        let clients = idle_clients(alloc)?;
         Ok(World {
             alloc,
-            counts,
-            names,
-            files: FileShard::new(alloc),
-            actors,
+            shards,
+            clients,
             history: Vec::new(alloc),
         })
+    }
+
+    /// Whether the actor may begin a command: its last one has ended, it has not stopped for good, and it began few enough.
+    /// It takes no memory.
+    pub fn can_begin(&self, actor: u32) -> bool
+        requires { (1 ≤ actor) × (actor ≤ 65) }
+        ensures idle { IsTrue result → IsNone ((present self.now).actors actor).running }
+        ensures goes_on { IsTrue result → ((present self.now).actors actor).stopped ≡ false }
+        ensures few { IsTrue result → ((present self.now).actors actor).number + 1 < 2 ^ 31 }
+        ensures may { IsNone ((present self.now).actors actor).running → ((present self.now).actors actor).stopped ≡ false
+            → ((present self.now).actors actor).number + 1 < 2 ^ 31 → IsTrue result }
+        ensures run { IsWorldRun self.now.counts self.now.history }
+    {
+        let actor = &self.clients[actor as usize - 1].actor;
+        !actor.is_running() && !actor.has_stopped() && actor.op().number < (1 << 31) - 1
     }
 
     /// The actor begins its next op with that command, and does no transaction. For want of memory nothing is changed.
@@ -73,44 +83,29 @@ impl World {
     {
         self.history.reserve(1)?;
         let kept = command.copy(self.alloc)?;
-        let state = &mut self.actors[actor as usize - 1];
-        let op = OpId {
-            actor,
-            number: state.number + 1,
-        };
-        let program = Program::start(self.alloc, op, command)?;
-        begin_program(state, program);
-        push_event(&mut self.history, Event::Began { op, command: kept });
+        let client = &mut self.clients[actor as usize - 1];
+        begin_client(client, &mut self.history, command, kept)?;
         Ok(())
     }
 
     /// One step of the actor's command: its next transaction, if it asks one, and its end, if it then has its answer. For
-    /// want of memory nothing is changed.
+    /// want of memory its command ends with the answer that says so, and no transaction is done. Where memory is wanting
+    /// even to note that, nothing is changed.
     pub fn step(&mut self, actor: u32) -> Result<Turned, NoMemory>
         requires actor { (1 ≤ actor) × (actor ≤ 65) }
         requires running { IsSome ((present self.old).actors actor).running }
-        ensures ok { OnOk result (self.new ≡ grown self.old (step_events (present self.old) (last_op (present self.old) actor))) }
-        ensures turned { IfOk result (λ turned. turned ≡ turned_by (step_answer (present self.old) (last_op (present self.old) actor))) }
+        ensures ok { IfOk result (Stepped self.old self.new (last_op (present self.old) actor)) }
         ensures err { OnErr result (self.new ≡ self.old) }
         ensures run { IsWorldRun self.new.counts self.new.history }
     {
         self.history.reserve(2)?;
-        let answer = step_actor(
-            self.alloc,
-            &self.counts,
-            &mut self.names,
-            &mut self.files,
-            actor,
-            &mut self.actors[actor as usize - 1],
-            &mut self.history,
-        )?;
-        Ok(match answer {
-            None => Turned::Going,
-            Some(answer) => Turned::Done(answer),
-        })
+        let client = &mut self.clients[actor as usize - 1];
+        let answer = step_client(&mut self.shards, client, &mut self.history);
+        Ok(turned_of(answer))
     }
 
-    /// Steps until the command ends. For want of memory it stands where it came to.
+    /// Steps until the command ends, also for want of memory. Where memory is wanting even to note that, it stands where it
+    /// came to.
     pub fn run(&mut self, actor: u32) -> Result<Answer, NoMemory>
         requires actor { (1 ≤ actor) × (actor ≤ 65) }
         requires running { IsSome ((present self.old).actors actor).running }
@@ -118,7 +113,7 @@ impl World {
         ensures err { OnErr result (GoesOn self.old self.new (last_op (present self.old) actor)) }
         ensures run { IsWorldRun self.new.counts self.new.history }
     {
-        let _counts = &self.counts;
+        let _shards = &self.shards;
         'steps: loop {
             match self.step(actor)? {
                 Turned::Going => {}
@@ -127,24 +122,67 @@ impl World {
         }
     }
 
+    /// The actor stops for good, with its command unfinished. For want of memory nothing is changed.
+    pub fn stop(&mut self, actor: u32) -> Result<(), NoMemory>
+        requires actor { (1 ≤ actor) × (actor ≤ 65) }
+        requires running { IsSome ((present self.old).actors actor).running }
+        ensures ok { OnOk result (self.new ≡ grown self.old (events.Stopped (last_op (present self.old) actor) ∷ [])) }
+        ensures err { OnErr result (self.new ≡ self.old) }
+        ensures run { IsWorldRun self.new.counts self.new.history }
+    {
+        self.history.reserve(1)?;
+        let client = &mut self.clients[actor as usize - 1];
+        stop_client(client, &mut self.history);
+        Ok(())
+    }
+
+    /// Dumps the whole store: the lines of its directories, each followed by its entries, and of its files. For want of
+    /// memory nothing is changed.
+    pub fn dump(&mut self) -> Result<Vec<DumpLine>, NoMemory>
+        ensures ok { OnOk result (self.new ≡ grown self.old (events.Dumped ∷ [])) }
+        ensures lines { IfOk result (λ lines. lines.items ≡ store_dump (present self.old).store) }
+        ensures err { OnErr result (self.new ≡ self.old) }
+        ensures run { IsWorldRun self.new.counts self.new.history }
+    {
+        self.history.reserve(1)?;
+        let lines = self.shards.dump()?;
+        push_event(&mut self.history, Event::Dumped);
+        Ok(lines)
+    }
+
+    /// Whether the actor's last command goes on.
+    pub fn is_running(&self, actor: u32) -> bool
+        requires { (1 ≤ actor) × (actor ≤ 65) }
+        ensures running { result ≡ is_some ((present self.now).actors actor).running }
+        ensures run { IsWorldRun self.now.counts self.now.history }
+    {
+        self.clients[actor as usize - 1].actor.is_running()
+    }
+
     /// The op of the actor's last command.
     pub fn last_op(&self, actor: u32) -> OpId
         requires { (1 ≤ actor) × (actor ≤ 65) }
         ensures op { result ≡ last_op (present self.now) actor }
         ensures run { IsWorldRun self.now.counts self.now.history }
     {
-        OpId {
-            actor,
-            number: self.actors[actor as usize - 1].number,
-        }
+        self.clients[actor as usize - 1].actor.op()
     }
 
-    /// How many transactions the actor's last command took so far.
+    /// How many transactions the actor's last command took so far, also after its end.
     pub fn transactions(&self, actor: u32) -> u64
         requires { (1 ≤ actor) × (actor ≤ 65) }
         ensures count { result ≡ transactions self.now.history (last_op (present self.now) actor) }
         ensures run { IsWorldRun self.now.counts self.now.history }
     {
-        self.actors[actor as usize - 1].transactions
+        self.clients[actor as usize - 1].transactions
+    }
+}
+
+fn turned_of(answer: Option<Answer>) -> Turned
+    ensures { result ≡ turned_by answer }
+{
+    match answer {
+        None => Turned::Going,
+        Some(answer) => Turned::Done(answer),
     }
 }
