@@ -14,9 +14,9 @@ use Rattle.world_runs.specs.Moments.{Moment, IsWorldRun, after_all, answered}
 use Rattle.world_runs.specs.Follows.{Acts}
 use Rattle.script_runs.specs.Smooth.{EndsAtOnce}
 use Rattle.tect_world.specs.Life.{Life, present, grown, last_op, actor_asks, transaction, ending, step_answer, step_events}
-use Rattle.tect_world.specs.declared.turned.Turned.{Turned}
-use Rattle.tect_world.specs.declared.turned.Turned.TheVariants.{Going, Done}
-use Rattle.tect_world.specs.Turns.{turned_by}
+use Rattle.actors.specs.declared.turned.Turned.{Turned}
+use Rattle.actors.specs.declared.turned.Turned.TheVariants.{Going, Done}
+use Rattle.actors.specs.Turns.{turned_by}
 use Rattle.tect_world.specs.Steps.{RanToEnd, Stepped}
 use Rattle.tect_replay.specs.Plays.{StepsUpTo}
 use Rattle.script_runs.proofs.AtOnce.{at_once-append}
