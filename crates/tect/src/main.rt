@@ -1,4 +1,4 @@
-//! `tect replay`: reads a script from the standard input, does its commands on a new store, and writes their answers.
+//! `tect replay`: reads a script from the standard input, plays its lines over a new store, and writes the answers and dumps.
 #![tactic(auto)]
 
 ghost use Rattle.std.specs.Prelude.{◌≡◌, ◌⊎◌, IfErr};

@@ -1,6 +1,3 @@
-pub mod Lines
-pub mod Fronts
 pub mod Words
-pub mod Commands
-pub mod Sessions
-pub mod Reached
+pub mod Plans
+pub mod Inputs

@@ -1,6 +1,3 @@
-pub mod Script
-pub mod Output
-pub mod Headline
 pub mod Statuses
-pub mod Parsing
-pub mod Progress
+pub mod Refusals
+pub mod Headline

@@ -1,45 +1,51 @@
-ghost use Rattle.std.specs.Prelude.{◌≡◌, ◌≤◌, List, length, IfOk, IfSome, IsErrOf};
-ghost use Rattle.std.specs.List.{AllByRecursion};
+ghost use Rattle.std.specs.Prelude.{◌≡◌, IfOk, IfErr, IfSome, IsErrOf};
 ghost use Rattle.std.specs.Io.KnownBytes.{IsAtEnd};
+ghost use Rattle.script_forms.specs.Spelling.{Spells};
 ghost use Rattle.tect_edge.specs.Counts.{Rose};
-ghost use Rattle.tect_app.specs.Script.{IsScripted, IsScript, IsNoScript};
+ghost use Rattle.tect_replay.specs.Replays.{IsReplayable};
 ghost use Rattle.tect_app.specs.Headline.{IsReadWithin};
+ghost use Rattle.tect_app.specs.Refusals.{IsInputFault};
 
-use crate::script::{ScriptFault, read_script};
 use std::alloc::Global;
 use tect_edge::{ReadFault, Source, read_input};
-use tect_ids::Command;
+use tect_ids::Plan;
+use tect_text::{Limit, ScriptFault, read_script};
 
 /// The most bytes of a script.
-const MAX_INPUT: usize = 4096;
+const MAX_INPUT: usize = 67_108_864;
 
-/// Why no commands were read.
+/// Why no plan was read.
 #[derive(Clone, Copy, Debug, PartialEq, Eq)]
 pub enum InputFault {
-    NoMemory,
+    /// The source failed.
     Failed,
-    Bad,
+    /// The input is no script, or there was no memory.
+    Script(ScriptFault),
 }
 
-/// Reads the whole input, which is the script of these commands.
-pub fn read_commands<S: Source>(alloc: Global, source: &mut S) -> Result<Vec<Command>, InputFault>
-    ensures script { IfOk result (λ commands. IfSome (S.left source.old) (λ input. IsScript input commands.items)) }
-    ensures scripted { IfOk result (λ commands. AllByRecursion IsScripted commands.items × (length commands.items ≤ 4096)) }
+/// Reads the whole input, which spells the plan.
+pub fn read_plan<S: Source>(alloc: Global, source: &mut S) -> Result<Plan, InputFault>
+    ensures spelled { IfOk result (λ plan. IfSome (S.left source.old) (λ input. Spells input plan)) }
+    ensures replayable { IfOk result IsReplayable }
     ensures whole { IfOk result (λ _. IsAtEnd (S.left source.new)) }
-    ensures bad { IsErrOf result InputFault.Bad → IfSome (S.left source.old) IsNoScript }
+    ensures first { IfErr result (IsInputFault (S.left source.old)) }
     ensures failed { IsErrOf result InputFault.Failed → Rose (S.faults source.old) (S.faults source.new) }
     ensures kept { ¬ IsErrOf result InputFault.Failed → S.faults source.new ≡ S.faults source.old }
-    ensures taken { IsReadWithin 4096 (S.left source.old) (S.left source.new) (S.calls source.old) (S.calls source.new) }
+    ensures taken { IsReadWithin 67108864 (S.left source.old) (S.left source.new) (S.calls source.old) (S.calls source.new) }
 {
     let input = match read_input(alloc, MAX_INPUT, source) {
         Ok(Some(input)) => input,
-        Ok(None) => return Err(InputFault::Bad),
-        Err(ReadFault::NoMemory) => return Err(InputFault::NoMemory),
+        Ok(None) => {
+            return Err(InputFault::Script(ScriptFault::TooLarge {
+                what: Limit::Script,
+                limit: MAX_INPUT as u64,
+            }));
+        }
+        Err(ReadFault::NoMemory) => return Err(InputFault::Script(ScriptFault::NoMemory)),
         Err(ReadFault::Failed) => return Err(InputFault::Failed),
     };
     match read_script(alloc, &input) {
-        Ok(commands) => Ok(commands),
-        Err(ScriptFault::NoMemory) => Err(InputFault::NoMemory),
-        Err(ScriptFault::Bad) => Err(InputFault::Bad),
+        Ok(plan) => Ok(plan),
+        Err(fault) => Err(InputFault::Script(fault)),
     }
 }

@@ -8,7 +8,7 @@ pub enum Status {
     Ok,
     /// The words are no mode.
     Usage,
-    /// The input is no script.
+    /// The input is no script, by its form.
     BadScript,
     /// The source failed.
     ReadFault,
@@ -16,6 +16,8 @@ pub enum Status {
     WriteFault,
     /// There was no memory.
     NoMemory,
+    /// The input passes a limit.
+    TooLarge,
 }
 
 impl Status {
@@ -30,6 +32,7 @@ impl Status {
             Status::ReadFault => 4,
             Status::WriteFault => 5,
             Status::NoMemory => 6,
+            Status::TooLarge => 8,
         }
     }
 }

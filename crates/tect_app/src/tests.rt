@@ -29,7 +29,6 @@ const ROW: &[u8] = b"store 1 1 1 3 3\nc1 create /a\nc1 look /a\n";
 
 #[test]
 fn statuses_and_texts(rt: HostRuntime) -> Result<(), Fail> {
-    let bad: &[u8] = b"bad script\n";
     let row: &[u8] = b"c1 1 2 ok file 4294967297\nc1 2 1 ok file 4294967297\nend\n";
     let cases: [(&str, &[u8], &[u64], &[u64], u8, &[u8]); 12] = [
         ("replay", ROW, &[], &[], 0, row),
@@ -42,16 +41,22 @@ fn statuses_and_texts(rt: HostRuntime) -> Result<(), Fail> {
             b"c1 1 2 ok file 4294967297\nc1 2 3 ok file 4294967298\nc1 3 1 no-name\nend\n",
         ),
         ("replay", b"store 1 1 1 3 3\n", &[], &[], 0, b"end\n"),
-        ("replay", b"", &[], &[], 3, bad),
-        ("replay", b"store 1 1 1 3 3\nc1 create /a", &[], &[], 3, bad),
-        ("replay", b"store 1 1 1 3 3\nc1 find /a\n", &[], &[], 3, bad),
+        ("replay", b"", &[], &[], 3, b"bad line 1 column 1\n"),
         (
             "replay",
-            b"store 1 1 1 3 3\nc1  look /a\n",
+            b"store 1 1 1 3 3\nc1 create /a",
             &[],
             &[],
             3,
-            bad,
+            b"bad line 2 column 13\n",
+        ),
+        (
+            "replay",
+            b"store 1 1 1 3 3\nc1 run\n",
+            &[],
+            &[],
+            3,
+            b"bad line 2 column 1\n",
         ),
         (
             "replay",
@@ -59,7 +64,15 @@ fn statuses_and_texts(rt: HostRuntime) -> Result<(), Fail> {
             &[],
             &[],
             3,
-            bad,
+            b"bad line 2 column 9\n",
+        ),
+        (
+            "replay",
+            b"store 65 1 1 3 3\n",
+            &[],
+            &[],
+            8,
+            b"too large shards 64\n",
         ),
         ("replay", ROW, &[1], &[], 4, b"read fault\n"),
         ("replay", ROW, &[], &[2], 5, b"c1 1 2 ok file 4294967297\n"),
@@ -81,59 +94,28 @@ fn statuses_and_texts(rt: HostRuntime) -> Result<(), Fail> {
     Ok(())
 }
 
-/// A script that creates files whose names have these lengths.
-fn creates(alloc: Global, lengths: &[usize]) -> Result<Vec<u8>, AllocError> {
-    let mut input = Vec::from_slice(alloc, b"store 1 1 1 3 3\n")?;
-    for length in lengths {
-        let mut name = Vec::new(alloc);
-        name.resize(*length, b'a')?;
-        input.extend_from_slice(b"c1 create /")?;
-        input.extend_from_slice(&name)?;
-        input.extend_from_slice(b"\n")?;
-    }
-    Ok(input)
-}
-
-/// The output of sixteen creates of one name.
-const SIXTEEN: &[u8] = b"c1 1 2 ok file 4294967297\n\
-              c1 2 3 ok file 4294967298\n\
-              c1 3 3 ok file 4294967299\n\
-              c1 4 3 ok file 4294967300\n\
-              c1 5 3 ok file 4294967301\n\
-              c1 6 3 ok file 4294967302\n\
-              c1 7 3 ok file 4294967303\n\
-              c1 8 3 ok file 4294967304\n\
-              c1 9 3 ok file 4294967305\n\
-              c1 10 3 ok file 4294967306\n\
-              c1 11 3 ok file 4294967307\n\
-              c1 12 3 ok file 4294967308\n\
-              c1 13 3 ok file 4294967309\n\
-              c1 14 3 ok file 4294967310\n\
-              c1 15 3 ok file 4294967311\n\
-              c1 16 3 ok file 4294967312\n\
-              end\n";
-
-/// One byte more than the longest input.
-const LONGER: [usize; 16] = [
-    244, 243, 243, 243, 243, 243, 243, 243, 243, 243, 243, 243, 243, 243, 243, 243,
-];
-
 #[test]
-fn longest_names_and_inputs(rt: HostRuntime) -> Result<(), Fail> {
-    let bad: &[u8] = b"bad script\n";
-    let cases: [(&[usize], usize, u8, &[u8]); 4] = [
-        (&[255], 283, 0, b"c1 1 2 ok file 4294967297\nend\n"),
-        (&[256], 284, 3, bad),
-        (&[243; 16], 4096, 0, SIXTEEN),
-        (&LONGER, 4097, 3, bad),
-    ];
-    for (lengths, length, status, output) in cases {
-        let input = creates(rt.alloc(), lengths)?;
-        assert_eq!(rt; input.len(), length);
-        let (found, text) = outcome(rt.alloc(), "replay", &input, &[], &[])?;
-        assert_eq!(rt; found, status);
-        assert_eq!(rt; text.as_slice(), output);
-    }
+fn two_clients_in_turn(rt: HostRuntime) -> Result<(), Fail> {
+    // The second client's create comes between the two transactions of the first one's, which replaces its file.
+    let input: &[u8] = b"store 4 2 1 3 3\n\
+          c1 begin create /a\n\
+          c1 step 1\n\
+          c2 create /a\n\
+          c1 run\n\
+          c2 begin look /a\n\
+          c2 stop\n\
+          dump\n";
+    let output: &[u8] = b"c2 1 2 ok file 8589934593\n\
+          c1 1 3 ok file 4294967297\n\
+          c2 2 0 stopped\n\
+          dir 1 parent 0 open entries 1 holds 0\n\
+          entry 1 a file 4294967297\n\
+          file 4294967297 open token none blocks 0 holds 1\n\
+          file 8589934593 open token none blocks 0 holds 0\n\
+          end\n";
+    let (status, text) = outcome(rt.alloc(), "replay", input, &[], &[])?;
+    assert_eq!(rt; status, 0);
+    assert_eq!(rt; text.as_slice(), output);
     Ok(())
 }
 

@@ -1,0 +1,248 @@
+-- How far a replay has come.
+use Rattle.std.proofs.Common.{◌≡◌, ℕ, zero, suc, ◌+◌, ◌<◌, ◌≤◌, ◌^◌, Option, Some, None, List, [], ◌∷◌, ◌++◌, length, get_or, take, drop, map, length-append, length-take, refl, sym, ap, subst, ◌∙◌, append_assoc, arith}
+use Rattle.std.specs.List.{AllByRecursion}
+use Rattle.std.specs.Io.KnownBytes.{Appends}
+use Rattle.std.proofs.lemmas.List.{take_all, take_more, take-append-drop}
+use Rattle.tect_ids.specs.declared.ids.Counts.{Counts}
+use Rattle.tect_ids.specs.declared.ids.OpId.{OpId}
+use Rattle.tect_ids.specs.declared.answer.Answer.TheVariants as answers
+use Rattle.tect_ids.specs.declared.command.Command.{Command}
+use Rattle.tect_ids.specs.declared.dump.DumpLine.{DumpLine}
+use Rattle.tect_ids.specs.declared.script.Act.{Act}
+use Rattle.tect_ids.specs.declared.script.Act.TheVariants as acts
+use Rattle.tect_ids.specs.declared.script.Line.{Line}
+use Rattle.tect_ids.specs.declared.script.Line.TheVariants as lines
+use Rattle.tect_ids.specs.declared.script.Plan.{Plan}
+use Rattle.tect_ids.specs.declared.script.ReportLine.{ReportLine}
+use Rattle.tect_ids.specs.declared.script.ReportLine.TheVariants as report_lines
+use Rattle.tect_edge.specs.Prefixes.{AppendsProperPrefix}
+use Rattle.store_rules.specs.Dumps.{store_dump}
+use Rattle.world_runs.specs.declared.event.Event.{Event}
+use Rattle.world_runs.specs.declared.event.Event.TheVariants.{Began, Acted, Ended, Stopped, Failed, Dumped}
+use Rattle.world_runs.specs.Served.{IsServed}
+use Rattle.world_runs.specs.Moments.{Moment, after, after_all, opening, moment, RunFrom, IsWorldRun, IsLack}
+use Rattle.world_runs.specs.Follows.{Busy, Follows, FollowsFrom}
+use Rattle.world_runs.specs.Turns.{Turns, ClientTurn, Idle, Busy as IsBusy, Gone, TakesAct, turn_after, with_turn, all_idle, turns_after, InTurn, InTurnFrom}
+use Rattle.world_runs.specs.Report.{lines_at, report_after, report}
+use Rattle.sound_runs.proofs.RunsKeep.{sound_at_each_moment, no_run_answers_odd}
+use Rattle.tree_runs.proofs.Headlines.{run_headline}
+use Rattle.tree_runs.proofs.Scripts.{session_reported}
+use Rattle.tree_runs.proofs.Histories.{after_all-append, run-append, report-append}
+use Rattle.run_bounds.proofs.RunsShort.{each_is_short}
+use Rattle.script_runs.specs.Standing.{busy_at, AtTurn}
+use Rattle.script_runs.specs.Smooth.{EndsAtOnce, IsSmoothRun, StepsOn, AllStepOn}
+use Rattle.script_runs.proofs.AtOnce.{at_once-append}
+use Rattle.script_runs.proofs.FollowOn.{run_follows_on, stands_by_turn}
+use Rattle.script_runs.proofs.RunOn.{each_script_can_be_run_on}
+use Rattle.script_runs.proofs.Fixed.{script_fixes_run}
+use Rattle.tect_world.specs.Life.{Life, present, grown}
+use Rattle.tect_replay.specs.Output.{lines_text, end_text, output_text, plan_report, AppendsPrefix}
+use Rattle.tect_replay.specs.Replays.{IsWithin, IsReplayable, IsNotOdd, IsHistoryOf, IsReplayed, IsCutReplay}
+use Rattle.tect_replay.specs.Plays.{AllShallow, CanStart, CanDo, CanPlay, PlaysLine}
+use Rattle.tect_replay.proofs.Reports.{present-grown}
+use Rattle.tect_replay.proofs.Shallow.{shallow-append}
+use Rattle.tect_replay.proofs.Texts.{prefix_whole, prefix_longer, prefix_less, proper_then, lines-append}
+
+-- ---- no answer is odd
+
+all-append : {X : Type 0} (P : X → Type 0) (xs ys : List X) → AllByRecursion P xs → AllByRecursion P ys → AllByRecursion P (xs ++ ys)
+all-append P [] ys a b = b
+all-append P (x ∷ xs) ys a b = (a.0, all-append P xs ys a.1 b)
+
+dump_not_odd : (ls : List DumpLine) → AllByRecursion IsNotOdd (map report_lines.Dump ls)
+dump_not_odd [] = tt
+dump_not_odd (l ∷ ls) = (λ name number steps place is. absurd cc, dump_not_odd ls)
+
+event_not_odd : (counts : Counts) (clients : List (List ℕ)) (before : List Event) (e : Event) → IsWorldRun counts before → RunFrom (moment counts before) (e ∷ [])
+    → AllByRecursion IsNotOdd (lines_at counts clients before e)
+event_not_odd counts clients before (Ended op a) run may =
+    (λ name number steps place is. no_run_answers_odd counts before run op place (may.0 ∙ (let same : a ≡ answers.Odd place = cc in ap Some same)), tt)
+event_not_odd counts clients before (Failed op a) run may =
+    (λ name number steps place is. (let same : a ≡ answers.Odd place = cc in subst IsLack same (may.0).0), tt)
+event_not_odd counts clients before (Stopped op) run may = (λ name number steps place is. absurd cc, tt)
+event_not_odd counts clients before Dumped run may = dump_not_odd (store_dump (moment counts before).store)
+event_not_odd counts clients before (Began op c) run may = tt
+event_not_odd counts clients before (Acted op q x) run may = tt
+
+none_odd_after : (counts : Counts) (clients : List (List ℕ)) (before es : List Event) → IsWorldRun counts before → RunFrom (moment counts before) es
+    → AllByRecursion IsNotOdd (report_after counts clients before es)
+none_odd_after counts clients before [] run rest = tt
+none_odd_after counts clients before (e ∷ es) run rest =
+    let first : RunFrom (moment counts before) (e ∷ []) = (rest.0, tt) in
+    let next : moment counts (before ++ e ∷ []) ≡ after (moment counts before) e = after_all-append (opening counts) before (e ∷ []) in
+    all-append IsNotOdd (lines_at counts clients before e) (report_after counts clients (before ++ e ∷ []) es)
+    (event_not_odd counts clients before e run first)
+    (none_odd_after counts clients (before ++ e ∷ []) es (run-append (opening counts) before (e ∷ []) run first) (subst (λ (m : Moment). RunFrom m es) (sym next) rest.1))
+
+-- ---- what is claimed of a history
+
+step_on : (clients : ℕ) (l : Line) → IsWithin clients l → StepsOn l
+step_on clients (lines.Client client actor (acts.Step n)) w = w.1
+step_on clients (lines.Client client actor (acts.Do c)) w = tt
+step_on clients (lines.Client client actor (acts.Begin c)) w = tt
+step_on clients (lines.Client client actor acts.Run) w = tt
+step_on clients (lines.Client client actor acts.Stop) w = tt
+step_on clients lines.Dump w = tt
+step_on clients (lines.Store counts) w = tt
+step_on clients lines.Sweep w = tt
+step_on clients (lines.Lose disk) w = tt
+
+all_step_on : (clients : ℕ) (ls : List Line) → AllByRecursion (IsWithin clients) ls → AllStepOn ls
+all_step_on clients [] all = tt
+all_step_on clients (l ∷ ls) all = (step_on clients l all.0, all_step_on clients ls all.1)
+
+pub history_of : (plan : Plan) (history : List Event) → IsReplayable plan → IsWorldRun plan.counts history → Follows plan.lines history → EndsAtOnce (opening plan.counts) history → IsHistoryOf plan history
+history_of plan history is run follows at_once = record {
+  run = run;
+  follows = follows;
+  at_once = at_once;
+  sound = sound_at_each_moment plan.counts history run;
+  answers = run_headline plan.counts history run;
+  none_odd = none_odd_after plan.counts plan.clients [] history tt run;
+  short = each_is_short plan.counts history run;
+  alone = λ client cs same played none. session_reported plan.counts plan.clients client cs history played run none (subst (λ ls. Follows ls history) same follows);
+  fixed = λ none other smooth follows'.
+      script_fixes_run plan.counts plan.lines other history (all_step_on (length plan.clients) plan.lines is.within) smooth (record { run = run; none_fails = none; at_once = at_once }) follows' follows;
+}
+
+-- ---- turns
+
+turn_behind : (turns : Turns) (front back : List Line) → InTurnFrom turns (front ++ back) → InTurnFrom (turns_after turns front) back
+turn_behind turns [] back is = is
+turn_behind turns (lines.Client client actor act ∷ ls) back is = turn_behind (with_turn turns actor (turn_after act)) ls back is.3
+turn_behind turns (lines.Dump ∷ ls) back is = turn_behind turns ls back is
+turn_behind turns (lines.Store counts ∷ ls) back is = absurd is
+turn_behind turns (lines.Sweep ∷ ls) back is = absurd is
+turn_behind turns (lines.Lose disk ∷ ls) back is = absurd is
+
+turn_front : (turns : Turns) (front back : List Line) → InTurnFrom turns (front ++ back) → InTurnFrom turns front
+turn_front turns [] back is = tt
+turn_front turns (lines.Client client actor act ∷ ls) back is = (is.0, is.1, is.2, turn_front (with_turn turns actor (turn_after act)) ls back is.3)
+turn_front turns (lines.Dump ∷ ls) back is = turn_front turns ls back is
+turn_front turns (lines.Store counts ∷ ls) back is = absurd is
+turn_front turns (lines.Sweep ∷ ls) back is = absurd is
+turn_front turns (lines.Lose disk ∷ ls) back is = absurd is
+
+takes_do : (turn : ClientTurn) (c : Command) → TakesAct turn (acts.Do c) → (turn ≡ Idle) × IsServed c
+takes_do Idle c takes = (refl, takes)
+takes_do IsBusy c takes = absurd takes
+takes_do Gone c takes = absurd takes
+
+takes_begin : (turn : ClientTurn) (c : Command) → TakesAct turn (acts.Begin c) → (turn ≡ Idle) × IsServed c
+takes_begin Idle c takes = (refl, takes)
+takes_begin IsBusy c takes = absurd takes
+takes_begin Gone c takes = absurd takes
+
+-- ---- the lines that were played
+
+-- the history is a run that follows these lines, each of whose commands is shallow
+pub record HasPlayed (plan : Plan) (front : List Line) (world : Life) : Type 0 where
+  pub counts : world.counts ≡ plan.counts
+  pub run : IsWorldRun plan.counts world.history
+  pub follows : Follows front world.history
+  pub at_once : EndsAtOnce (opening plan.counts) world.history
+  pub shallow : AllShallow world.history
+
+pub played_none : (plan : Plan) (world : Life) → world ≡ record { counts = plan.counts; history = [] } → HasPlayed plan [] world
+played_none plan world is = subst (λ (w : Life). HasPlayed plan [] w) (sym is) (record { counts = refl; run = tt; follows = refl; at_once = tt; shallow = tt })
+
+all_at : {X : Type 0} (P : X → Type 0) (xs : List X) (i : ℕ) (x : X) → i < length xs → AllByRecursion P xs → P (get_or xs i x)
+all_at P [] i x lt all = absurd (omega (arith, lt))
+all_at P (y ∷ ys) zero x lt all = all.0
+all_at P (y ∷ ys) (suc i) x lt all = all_at P ys i x (omega (arith, lt)) all.1
+
+split_at : {X : Type 0} (xs : List X) (i : ℕ) (x : X) → i < length xs → x ≡ get_or xs i x → xs ≡ take i xs ++ x ∷ drop (i + 1) xs
+split_at xs i x lt at =
+    sym (take-append-drop (i + 1) xs) ∙ ap (λ l. l ++ drop (i + 1) xs) (take_more xs i x lt ∙ ap (λ d. take i xs ++ d ∷ []) (sym at)) ∙ append_assoc (take i xs) (x ∷ []) (drop (i + 1) xs)
+
+module _ (plan : Plan) (i : ℕ) (world : Life) (line : Line) (is : IsReplayable plan) (lt : i < length plan.lines) (at : line ≡ get_or plan.lines i line)
+    (r : HasPlayed plan (take i plan.lines) world) where
+  split : plan.lines ≡ take i plan.lines ++ line ∷ drop (i + 1) plan.lines
+  split = split_at plan.lines i line lt at
+
+  in_turn : InTurn (take i plan.lines ++ line ∷ drop (i + 1) plan.lines)
+  in_turn = subst InTurn split is.in_turn
+
+  within : IsWithin (length plan.clients) line
+  within = subst (IsWithin (length plan.clients)) (sym at) (all_at (IsWithin (length plan.clients)) plan.lines i line lt is.within)
+
+  can_start : (actor : ℕ) → turns_after all_idle (take i plan.lines) actor ≡ Idle → CanStart ((moment plan.counts world.history).actors actor)
+  can_start actor idle =
+      let s = stands_by_turn plan.counts (take i plan.lines) world.history (turn_front all_idle (take i plan.lines) (line ∷ drop (i + 1) plan.lines) in_turn) r.run r.follows actor in
+      let stands : AtTurn Idle ((moment plan.counts world.history).actors actor) = subst (λ (t : ClientTurn). AtTurn t ((moment plan.counts world.history).actors actor)) idle s.stands in
+      record { idle = stands.0; goes_on = stands.1; few = omega (arith, s.began, is.few, lt, length-take i plan.lines) }
+
+  can_do : (actor : ℕ) (act : Act) → TakesAct (turns_after all_idle (take i plan.lines) actor) act → IsWithin (length plan.clients) (lines.Client [] actor act) → CanDo ((present world).actors actor) act
+  can_do actor (acts.Do c) takes w =
+      let t = takes_do _ c takes in
+      rw r.counts (t.1, w.1, can_start actor t.0)
+  can_do actor (acts.Begin c) takes w =
+      let t = takes_begin _ c takes in
+      rw r.counts (t.1, w.1, can_start actor t.0)
+  can_do actor (acts.Step n) takes w = tt
+  can_do actor acts.Run takes w = tt
+  can_do actor acts.Stop takes w = tt
+
+  can_play_by : (l : Line) → InTurnFrom (turns_after all_idle (take i plan.lines)) (l ∷ drop (i + 1) plan.lines) → IsWithin (length plan.clients) l → CanPlay (length plan.clients) world l
+  can_play_by (lines.Client client actor act) t w = (t.0, t.1, w.0, can_do actor act t.2 w)
+  can_play_by lines.Dump t w = tt
+  can_play_by (lines.Store counts) t w = absurd t
+  can_play_by lines.Sweep t w = absurd t
+  can_play_by (lines.Lose disk) t w = absurd t
+
+  pub can_play : CanPlay (length plan.clients) world line
+  can_play = can_play_by line (turn_behind all_idle (take i plan.lines) (line ∷ drop (i + 1) plan.lines) in_turn) within
+
+  module _ (new : Life) (ls : List ReportLine) (plays : PlaysLine plan.clients line world new ls) where
+    more : take (i + 1) plan.lines ≡ take i plan.lines ++ line ∷ []
+    more = take_more plan.lines i line lt ∙ ap (λ (d : Line). take i plan.lines ++ d ∷ []) (sym at)
+
+    new_counts : new.counts ≡ plan.counts
+    new_counts = ap (λ (w : Life). w.counts) plays.grew ∙ r.counts
+
+    new_history : new.history ≡ world.history ++ plays.part
+    new_history = ap (λ (w : Life). w.history) plays.grew
+
+    new_run : IsWorldRun plan.counts new.history
+    new_run = subst (λ (k : Counts). IsWorldRun k new.history) new_counts plays.run
+
+    follows_now : Follows (take i plan.lines ++ line ∷ []) (world.history ++ plays.part)
+    follows_now = run_follows_on plan.counts (take i plan.lines) (line ∷ []) world.history plays.part (subst (IsWorldRun plan.counts) new_history new_run) r.follows
+        (subst (λ (k : Counts). FollowsFrom (busy_at (moment k world.history)) (line ∷ []) plays.part) r.counts plays.follows)
+
+    pub played_next : HasPlayed plan (take (i + 1) plan.lines) new
+    played_next = record {
+      counts = new_counts;
+      run = new_run;
+      follows = rw (more, new_history) follows_now;
+      at_once = rw new_history (at_once-append (opening plan.counts) world.history plays.part r.at_once (subst (λ (k : Counts). EndsAtOnce (moment k world.history) plays.part) r.counts plays.at_once));
+      shallow = rw new_history (shallow-append world.history plays.part r.shallow plays.shallow);
+    }
+
+    pub text_next : lines_text (plan_report plan new.history) ≡ lines_text (plan_report plan world.history) ++ lines_text ls
+    text_next =
+        ap (λ (es : List Event). lines_text (plan_report plan es)) new_history
+        ∙ ap lines_text (report-append plan.counts plan.clients [] world.history plays.part)
+        ∙ lines-append (plan_report plan world.history) (report_after plan.counts plan.clients world.history plays.part)
+        ∙ ap (λ (k : Counts). lines_text (plan_report plan world.history) ++ lines_text (report_after k plan.clients world.history plays.part)) (sym r.counts)
+        ∙ ap (λ (l : List ReportLine). lines_text (plan_report plan world.history) ++ lines_text l) plays.shows
+
+-- ---- a report that was cut off, and a whole one
+
+pub cut_by : (plan : Plan) (n : ℕ) (world : Life) (old new : Option (List ℕ)) → IsReplayable plan → HasPlayed plan (take n plan.lines) world
+    → AppendsPrefix old new (lines_text (plan_report plan world.history)) → IsCutReplay plan old new
+cut_by plan n world old new is r part =
+    let all : take n plan.lines ++ drop n plan.lines ≡ plan.lines = take-append-drop n plan.lines in
+    let on = each_script_can_be_run_on plan.counts (take n plan.lines) (drop n plan.lines) world.history (rw all is.in_turn) (rw all is.few) r.run r.follows in
+    let whole : List Event = world.history ++ on.0 in
+    let shown : plan_report plan whole ≡ plan_report plan world.history ++ report_after plan.counts plan.clients world.history on.0 = report-append plan.counts plan.clients [] world.history on.0 in
+    let text : lines_text (plan_report plan whole) ≡ lines_text (plan_report plan world.history) ++ lines_text (report_after plan.counts plan.clients world.history on.0) =
+    ap lines_text shown ∙ lines-append (plan_report plan world.history) (report_after plan.counts plan.clients world.history on.0) in
+    record {
+      history = whole;
+      of_plan = history_of plan whole is on.1 (subst (λ ls. Follows ls whole) all on.2) (at_once-append (opening plan.counts) world.history on.0 r.at_once on.4);
+      written = prefix_less old new (lines_text (plan_report plan whole)) end_text (rw text (prefix_longer old new _ _ part)) (omega arith);
+    }
+
+pub history_all : (plan : Plan) (n : ℕ) (world : Life) → IsReplayable plan → length plan.lines ≤ n → HasPlayed plan (take n plan.lines) world → IsHistoryOf plan world.history
+history_all plan n world is le r = history_of plan world.history is r.run (subst (λ ls. Follows ls world.history) (take_all n plan.lines le) r.follows) r.at_once

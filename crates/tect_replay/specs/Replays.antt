@@ -1,0 +1,96 @@
+-- Which plans can be replayed, and what is claimed of a replay.
+use Rattle.std.specs.Prelude.{◌≡◌, ◌≢◌, ℕ, ◌<◌, ◌≤◌, ◌^◌, Option, Some, List, length}
+use Rattle.std.specs.Io.KnownBytes.{Appends}
+use Rattle.std.specs.List.{AllByRecursion}
+use Rattle.tect_ids.specs.declared.ids.OpId.{OpId}
+use Rattle.tect_ids.specs.declared.ids.Place.{Place}
+use Rattle.tect_ids.specs.declared.answer.Answer.TheVariants as answers
+use Rattle.tect_ids.specs.declared.command.Command.{Command}
+use Rattle.tect_ids.specs.declared.script.Act.{Act}
+use Rattle.tect_ids.specs.declared.script.Act.TheVariants as acts
+use Rattle.tect_ids.specs.declared.script.Line.{Line}
+use Rattle.tect_ids.specs.declared.script.Line.TheVariants as lines
+use Rattle.tect_ids.specs.declared.script.Plan.{Plan}
+use Rattle.tect_ids.specs.declared.script.ReportLine.{ReportLine}
+use Rattle.tect_ids.specs.declared.script.ReportLine.TheVariants as report_lines
+use Rattle.tect_ids.specs.Places.{HasPlaces}
+use Rattle.tect_edge.specs.Prefixes.{AppendsProperPrefix}
+use Rattle.tree_model.specs.Tree.{opening_tree}
+use Rattle.world_runs.specs.declared.event.Event.{Event}
+use Rattle.world_runs.specs.Moments.{opening, IsWorldRun, AtEachMoment}
+use Rattle.world_runs.specs.Sound.{IsSound}
+use Rattle.world_runs.specs.Headline.{Headline, command_of}
+use Rattle.world_runs.specs.Follows.{Follows, NoneFails}
+use Rattle.world_runs.specs.Turns.{InTurn}
+use Rattle.tree_runs.specs.Session.{IsPlayed, session_lines, session_script}
+use Rattle.run_bounds.specs.Bounds.{IsShort, first_path}
+use Rattle.script_runs.specs.Smooth.{EndsAtOnce, IsSmoothRun}
+use Rattle.tect_replay.specs.Output.{plan_report, output_text}
+
+-- ---- the plans
+
+-- the path that the command walks has at most 256 names
+abbrev pub IsShallow : Command → Type 0
+IsShallow c = length (first_path c) ≤ 256
+
+-- a command that begins is shallow, and a step is of one transaction or more
+abbrev pub IsBounded : Act → Type 0
+IsBounded (acts.Do c) = IsShallow c
+IsBounded (acts.Begin c) = IsShallow c
+IsBounded (acts.Step n) = 1 ≤ n
+IsBounded act = Unit {0}
+
+-- the line is of one of so many clients, and what it asks is bounded
+abbrev pub IsWithin : ℕ → Line → Type 0
+IsWithin clients (lines.Client client actor act) = (actor ≤ clients) × IsBounded act
+IsWithin clients line = Unit {0}
+
+pub record IsReplayable (plan : Plan) : Type 0 where
+  pub places : HasPlaces plan.counts
+  pub in_turn : InTurn plan.lines
+  pub few : length plan.lines < 2 ^ 31
+  pub within : AllByRecursion (IsWithin (length plan.clients)) plan.lines
+
+-- ---- the claim
+
+-- the line does not say that a reply was odd
+abbrev pub IsNotOdd : ReportLine → Type 0
+IsNotOdd line = (name : List ℕ) (op steps : ℕ) (place : Place) → line ≢ report_lines.Client name op steps (answers.Odd place)
+
+-- Where the script is a session of one client, which creates files in the root and looks them up, the report is what the
+-- small machine alone gives.
+abbrev pub IsToldByTree : Plan → List Event → Type 0
+IsToldByTree plan history =
+    (client : List ℕ) (cs : List Command) → plan.lines ≡ session_script client cs → AllByRecursion IsPlayed cs → NoneFails history
+    → plan_report plan history ≡ session_lines plan.clients opening_tree 1 0 cs
+
+-- Of the runs that follow the script, in which no command fails for want of memory and each ends as soon as it has its
+-- answer, it is the only one.
+abbrev pub IsOnlyRun : Plan → List Event → Type 0
+IsOnlyRun plan history = NoneFails history → (other : List Event) → IsSmoothRun plan.counts other → Follows plan.lines other → other ≡ history
+
+-- The history is one that the world has under the script: a run of the world that follows the script's lines, in which
+-- each command ends as soon as it has its answer; sound at each moment; and each answer is the one that the tree gives at the
+-- command's point. Each command takes few transactions.
+pub record IsHistoryOf (plan : Plan) (history : List Event) : Type 0 where
+  pub run : IsWorldRun plan.counts history
+  pub follows : Follows plan.lines history
+  pub at_once : EndsAtOnce (opening plan.counts) history
+  pub sound : AtEachMoment IsSound plan.counts history
+  pub answers : Headline history
+  pub none_odd : AllByRecursion IsNotOdd (plan_report plan history)
+  pub short : (op : OpId) (c : Command) → command_of history op ≡ Some c → IsShort history op c
+  pub alone : IsToldByTree plan history
+  pub fixed : IsOnlyRun plan history
+
+-- the script was played to its end, and the whole output of its history was written
+pub record IsReplayed (plan : Plan) (old new : Option (List ℕ)) : Type 0 where
+  pub history : List Event
+  pub of_plan : IsHistoryOf plan history
+  pub written : Appends old new (output_text plan history)
+
+-- a front of the output of such a history was written, and not all
+pub record IsCutReplay (plan : Plan) (old new : Option (List ℕ)) : Type 0 where
+  pub history : List Event
+  pub of_plan : IsHistoryOf plan history
+  pub written : AppendsProperPrefix old new (output_text plan history)
