@@ -18,6 +18,7 @@ use tect_ids::{Answer, Command, NoMemory, OpId, Place};
 /// A running command with the tokens that its next request needs. Contracts see the program alone.
 #[derive(Drop)]
 pub struct Running {
+    alloc: Global,
     program: Program,
     shown: Shown,
 }
@@ -41,7 +42,11 @@ impl Running {
     {
         let program = Program::start(alloc, op, command)?;
         let shown = opening_of(&program.phase);
-        Ok(Running { program, shown })
+        Ok(Running {
+            alloc,
+            program,
+            shown,
+        })
     }
 
     /// The request that the command makes next, with the tokens that it needs. None where it has its answer. Nothing is
@@ -51,9 +56,7 @@ impl Running {
         ensures same { self.new ≡ self.old }
         ensures memory { memory.new ≡ memory.old }
     {
-        let req = self
-            .program
-            .next(memory.allocator(), memory.number_of_next())?;
+        let req = self.program.next(self.alloc, memory.number_of_next())?;
         match req {
             Some(req) => Ok(Some(show(&self.shown, req))),
             None => Ok(None),
@@ -87,7 +90,7 @@ impl Running {
         ensures err { OnErr result (self.new ≡ self.old) }
         ensures memory { memory.new ≡ after_reply memory.old reply.now }
     {
-        let alloc = memory.allocator();
+        let alloc = self.alloc;
         let number = memory.number_of_next();
         remember(memory, reply);
         let Some(req) = self.program.next(alloc, number)? else {

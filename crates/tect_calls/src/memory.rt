@@ -10,7 +10,6 @@ use tect_ids::{Counts, NoMemory};
 /// shards there are.
 #[derive(Drop)]
 pub struct Memory {
-    alloc: Global,
     actor: u32,
     serial: u32,
     counts: Counts,
@@ -27,13 +26,12 @@ impl Model for Memory {
 }
 
 impl Memory {
-    /// What an actor knows at the start: it has made nothing. Actors are numbered from 1 to 65.
-    pub fn start(alloc: Global, actor: u32, counts: Counts) -> Result<Memory, NoMemory>
+    /// What an actor knows at the start: it has made nothing, and that takes no memory. Actors are numbered from 1 to 65.
+    pub fn start(_alloc: Global, actor: u32, counts: Counts) -> Result<Memory, NoMemory>
         requires { IsActor actor }
         ensures { IfOk result (λ memory. memory ≡ record { actor = actor; serial = 1; counts = counts }) }
     {
         Ok(Memory {
-            alloc,
             actor,
             serial: 1,
             counts,
@@ -60,10 +58,5 @@ impl Memory {
         ensures { result ≡ self.now.counts }
     {
         self.counts
-    }
-
-    /// Where the actor's commands take their memory.
-    pub fn allocator(&self) -> Global {
-        self.alloc
     }
 }
