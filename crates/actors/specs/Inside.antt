@@ -5,7 +5,7 @@ use Rattle.actors.specs.ActorState.{ActorState, op_of}
 use Rattle.actors.specs.declared.actor.Actor.TheInside.{Inside}
 
 abbrev pub state_of : Inside → ActorState
-state_of a = record { actor = a.actor; state = record { number = a.number; serial = a.serial; stopped = a.stopped; running = a.running } }
+state_of a = record { actor = a.memory.actor; state = record { number = a.number; serial = a.memory.serial; stopped = a.stopped; running = a.running } }
 
 abbrev pub RunsOwn : Inside → Type 0
 RunsOwn a = ForSome a.running (λ program. program.op ≡ op_of (state_of a))

@@ -1,3 +1,4 @@
 pub mod ActorState
+pub mod Hearing
 pub mod Inside
 pub mod Turns

@@ -1,28 +1,29 @@
-ghost use Rattle.std.specs.Prelude.{◌≡◌, ◌+◌, ◌^◌, ◌<◌, IfOk, OnOk, OnErr, IsNone, None, true, false, is_some};
+ghost use Rattle.std.specs.Prelude.{◌≡◌, ◌+◌, ◌^◌, ◌<◌, IfOk, OnOk, OnErr, IsSome, IsNone, None, true, false, is_some};
 ghost use Rattle.std.specs.Option.{ForSome};
 ghost use Rattle.tect_ids.specs.declared.ids.Counts.{Counts};
 ghost use Rattle.store_rules.specs.declared.any.AnyReq.{AnyReq};
 ghost use Rattle.store_rules.specs.Places.{request_place};
-ghost use Rattle.op_names.specs.Programs.{object_number};
+ghost use Rattle.tect_calls.specs.Knowing.{IsActor};
 ghost use Rattle.world_runs.specs.Moments.{idle_actor, begun, went_on, program_ask, program_answer};
 ghost use Rattle.actors.specs.ActorState.{op_of, next_op_of};
+ghost use Rattle.actors.specs.Hearing.{IsOfIts, gone_on};
 
-use op_names::Program;
+use name_calls::{Heard, Running};
 use std::alloc::Global;
 use std::marker::Model;
-use store_rules::{AnyReply, AnyReq};
-use tect_ids::{Answer, Command, NoMemory, OpId, Place};
+use store_rules::AnyReply;
+use tect_calls::{Asked, Memory};
+use tect_ids::{Answer, Command, Counts, NoMemory, OpId, Place};
 
-/// An actor: how many commands it began, the serial of the next object that it makes, whether it stopped for good, and its
-/// running command.
+/// An actor: how many commands it began, whether it stopped for good, what it knows between commands, with the serial of
+/// the next object that it makes, and its running command with the tokens that it needs.
 #[derive(Drop)]
 pub struct Actor {
     alloc: Global,
-    actor: u32,
     number: u32,
-    serial: u32,
     stopped: bool,
-    running: Option<Program>,
+    memory: Memory,
+    running: Option<Running>,
 }
 
 impl Model for Actor {
@@ -38,18 +39,19 @@ impl Model for Actor {
 }
 
 impl Actor {
-    /// The actor with that number, before it did anything. It takes no memory.
-    pub fn start(alloc: Global, actor: u32) -> Actor
-        ensures { result ≡ record { actor = actor; state = idle_actor } }
+    /// The actor with that number, from 1 to 65, before it did anything, where each layer has that many shards.
+    pub fn start(alloc: Global, actor: u32, counts: Counts) -> Result<Actor, NoMemory>
+        requires { IsActor actor }
+        ensures { IfOk result (λ started. started ≡ record { actor = actor; state = idle_actor }) }
     {
-        Actor {
+        let memory = Memory::start(alloc, actor, counts)?;
+        Ok(Actor {
             alloc,
-            actor,
             number: 0,
-            serial: 1,
             stopped: false,
+            memory,
             running: None,
-        }
+        })
     }
 
     /// The op of its last command; number 0 before the first. It takes no memory.
@@ -58,7 +60,7 @@ impl Actor {
         ensures own { ForSome self.now.state.running (λ program. program.op ≡ op_of self.now) }
     {
         OpId {
-            actor: self.actor,
+            actor: self.memory.actor(),
             number: self.number,
         }
     }
@@ -86,44 +88,63 @@ impl Actor {
         ensures err { OnErr result (self.new ≡ self.old) }
     {
         let op = OpId {
-            actor: self.actor,
+            actor: self.memory.actor(),
             number: self.number + 1,
         };
-        let program = Program::start(self.alloc, op, command)?;
+        let running = Running::start(self.alloc, op, command)?;
         self.number += 1;
-        self.running = Some(program);
+        self.running = Some(running);
         Ok(())
     }
 
-    /// The request that its command makes next; none where it has its answer, or where no command runs.
-    pub fn next(&self) -> Result<Option<AnyReq>, NoMemory>
-        ensures { IfOk result (λ req. req ≡ program_ask self.now.state.serial self.now.state.running) }
+    /// The request that its command makes next, with the tokens that it needs; none where it has its answer, or where no
+    /// command runs. Nothing is changed.
+    pub fn next(&mut self) -> Result<Option<Asked>, NoMemory>
+        ensures asks { IfOk result (λ req. req ≡ program_ask self.old.state.serial self.old.state.running) }
+        ensures same { self.new ≡ self.old }
     {
-        match &self.running {
+        match &mut self.running {
             None => Ok(None),
-            Some(program) => program.next(self.alloc, number_of(program.op.actor, self.serial)),
+            Some(running) => running.next(&mut self.memory),
         }
+    }
+
+    /// What the reply to its command's request, which was made at that place, makes of the actor. Nothing is changed.
+    pub fn heard(&self, place: Place, reply: &AnyReply) -> Result<Heard, NoMemory>
+        requires asked { IsSome (program_ask self.now.state.serial self.now.state.running) }
+        ensures next { IfOk result (λ heard. (counts : Counts) (req : AnyReq) → place ≡ request_place counts req
+            → gone_on self.now.state heard ≡ went_on counts self.now.state req reply.now) }
+        ensures of_its { IfOk result (IsOfIts self.now.state.running) }
+    {
+        let Some(running) = &self.running else {
+            unreachable!()
+        };
+        running.heard(&self.memory, place, reply)
+    }
+
+    /// Its command goes on by what was heard. Where an object was made, a serial is taken. It takes no memory.
+    pub fn go_on(&mut self, heard: Heard)
+        requires of_its { IsOfIts self.old.state.running heard }
+        requires few { self.old.state.serial + 1 < 2 ^ 32 }
+        ensures { self.new ≡ record self.old { state = gone_on self.old.state heard } }
+    {
+        let Some(running) = &mut self.running else {
+            unreachable!()
+        };
+        running.go_on(&mut self.memory, heard);
     }
 
     /// Its command goes on at the reply to its request, which was made at that place. Where an object was made, a serial
     /// is taken. For want of memory it stays as it was.
     pub fn advance(&mut self, place: Place, reply: &AnyReply) -> Result<(), NoMemory>
+        requires asked { IsSome (program_ask self.old.state.serial self.old.state.running) }
         requires few { self.old.state.serial + 1 < 2 ^ 32 }
         ensures ok { OnOk result ((counts : Counts) (req : AnyReq) → place ≡ request_place counts req
             → self.new ≡ record self.old { state = went_on counts self.old.state req reply.now }) }
         ensures err { OnErr result (self.new ≡ self.old) }
     {
-        if let Some(program) = &mut self.running {
-            program.hear(
-                self.alloc,
-                place,
-                number_of(program.op.actor, self.serial),
-                reply,
-            )?;
-        }
-        if reply.is_made() {
-            self.serial += 1;
-        }
+        let heard = self.heard(place, reply)?;
+        self.go_on(heard);
         Ok(())
     }
 
@@ -131,10 +152,10 @@ impl Actor {
     pub fn finished(&self) -> Result<Option<Answer>, NoMemory>
         ensures { IfOk result (λ answer. answer ≡ program_answer self.now.state.running) }
     {
-        let Some(program) = &self.running else {
+        let Some(running) = &self.running else {
             return Ok(None);
         };
-        match program.answer() {
+        match running.answer() {
             None => Ok(None),
             Some(answer) => Ok(Some(answer.copy(self.alloc)?)),
         }
@@ -154,29 +175,4 @@ impl Actor {
         self.stopped = true;
         self.running = None;
     }
-
-    /// The same actor once more.
-    pub fn copy(&self) -> Result<Actor, NoMemory>
-        ensures { IfOk result (λ actor. actor ≡ self.now) }
-    {
-        let running = match &self.running {
-            None => None,
-            Some(program) => Some(program.copy(self.alloc)?),
-        };
-        Ok(Actor {
-            alloc: self.alloc,
-            actor: self.actor,
-            number: self.number,
-            serial: self.serial,
-            stopped: self.stopped,
-            running,
-        })
-    }
-}
-
-/// The number of the next object that the actor makes.
-fn number_of(actor: u32, serial: u32) -> u64
-    ensures { result ≡ object_number actor serial }
-{
-    u64::from(actor) * (1 << 32) + u64::from(serial)
 }

@@ -5,4 +5,5 @@ mod actor;
 mod turned;
 
 pub use actor::Actor;
+pub use name_calls::Heard;
 pub use turned::Turned;

@@ -3,7 +3,6 @@
 
 mod dump;
 mod opening;
-mod requests;
 mod shards;
 
 pub use shards::Shards;

@@ -4,12 +4,12 @@ ghost use Rattle.store_rules.specs.Places.{request_place};
 ghost use Rattle.store_rules.specs.Store.{opening_store, store_reply, store_step};
 
 use crate::opening::{file_shards, name_shards};
-use crate::requests::place_in;
 use file_shard::FileShard;
 use name_shard::NameShard;
 use std::alloc::Global;
 use std::marker::Model;
 use store_rules::{AnyReply, AnyReq};
+use tect_calls::{Asked, place};
 use tect_ids::{Counts, NoMemory, Place};
 
 /// All shards of the store. Contracts see how many there are of each layer, and the whole store that they are together.
@@ -53,14 +53,14 @@ impl Shards {
     pub fn place(&self, req: &AnyReq) -> Place
         ensures { result ≡ request_place self.now.counts req.now }
     {
-        place_in(&self.counts, req)
+        place(req, &self.counts)
     }
 
     /// What `step` would reply. It changes nothing.
     pub fn reply(&self, req: &AnyReq) -> Result<AnyReply, NoMemory>
         ensures { IfOk result (λ reply. reply ≡ store_reply self.now.store req.now) }
     {
-        let place = place_in(&self.counts, req);
+        let place = place(req, &self.counts);
         match req {
             AnyReq::Name(req) => {
                 let shard = &self.names[place.0 as usize];
@@ -73,14 +73,22 @@ impl Shards {
         }
     }
 
-    /// Does the request at the shard of its place, as on the whole store, and replies. For want of memory nothing is
-    /// changed.
-    pub fn step(&mut self, req: &AnyReq) -> Result<AnyReply, NoMemory>
+    /// Does the request, whose needs were shown, at the shard of its place, as on the whole store, and replies. For want of
+    /// memory nothing is changed.
+    pub fn step(&mut self, asked: &Asked) -> Result<AnyReply, NoMemory>
+        ensures reply { IfOk result (λ reply. reply ≡ store_reply self.old.store asked.now) }
+        ensures ok { OnOk result (self.new ≡ record self.old { store = store_step self.old.store asked.now }) }
+        ensures err { OnErr result (self.new ≡ self.old) }
+    {
+        self.do_request(asked.request())
+    }
+
+    fn do_request(&mut self, req: &AnyReq) -> Result<AnyReply, NoMemory>
         ensures reply { IfOk result (λ reply. reply ≡ store_reply self.old.store req.now) }
         ensures ok { OnOk result (self.new ≡ record self.old { store = store_step self.old.store req.now }) }
         ensures err { OnErr result (self.new ≡ self.old) }
     {
-        let place = place_in(&self.counts, req);
+        let place = place(req, &self.counts);
         match req {
             AnyReq::Name(req) => {
                 let shard = &mut self.names[place.0 as usize];

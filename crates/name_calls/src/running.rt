@@ -1,10 +1,13 @@
 ghost use Rattle.std.specs.Prelude.{◌≡◌, ◌+◌, ◌^◌, ◌<◌, IsSome, IfOk, OnOk, OnErr};
 ghost use Rattle.std.specs.Option.{option_copied};
 ghost use Rattle.op_names.specs.Programs.{started, phase_ask, phase_hear, phase_answer};
+ghost use Rattle.store_rules.specs.Views.{is_made};
 ghost use Rattle.tect_calls.specs.Knowing.{next_number};
-ghost use Rattle.name_calls.specs.Serials.{after_reply};
+ghost use Rattle.name_calls.specs.Hearing.{IsOf};
+ghost use Rattle.name_calls.specs.Serials.{after_making, after_reply};
 
 use crate::carrying::{carry, facts_of, opening_of};
+use crate::heard::Heard;
 use crate::showing::show;
 use crate::shown::Shown;
 use op_names::Program;
@@ -70,11 +73,57 @@ impl Running {
         self.program.answer()
     }
 
+    /// What the reply to the request that `next` gave makes of the command, where that was made at that place. Nothing is
+    /// changed.
+    pub fn heard(&self, memory: &Memory, place: Place, reply: &AnyReply) -> Result<Heard, NoMemory>
+        requires asked { IsSome (phase_ask self.now.op (next_number memory.now) self.now.command self.now.phase) }
+        ensures next { IfOk result (λ heard. heard.next ≡ record self.now {
+          phase = phase_hear place self.now.op (next_number memory.now) self.now.command self.now.phase reply.now;
+        }) }
+        ensures made { IfOk result (λ heard. heard.made ≡ is_made reply.now) }
+        ensures of_it { IfOk result (IsOf self.now) }
+    {
+        let alloc = self.alloc;
+        let number = memory.number_of_next();
+        let Some(req) = self.program.next(alloc, number)? else {
+            unreachable!()
+        };
+        let (first, second) = facts_of(alloc, &req, reply)?;
+        let next = program_after(alloc, &self.program, place, number, reply)?;
+        Ok(Heard {
+            alloc,
+            next,
+            first,
+            second,
+            made: reply.is_made(),
+        })
+    }
+
+    /// Goes on by what was heard. The actor's serial is taken where an object was made. It takes no memory.
+    pub fn go_on(&mut self, memory: &mut Memory, heard: Heard)
+        requires of_it { IsOf self.old heard }
+        requires serial { memory.old.serial + 1 < 2 ^ 32 }
+        ensures next { self.new ≡ heard.next }
+        ensures memory { memory.new ≡ after_making memory.old heard.made }
+    {
+        let Heard {
+            next,
+            first,
+            second,
+            made,
+            ..
+        } = heard;
+        if made {
+            memory.take_serial();
+        }
+        let had = mem::replace(&mut self.shown, Shown::Nothing);
+        self.shown = carry(&next.phase, had, first, second);
+        self.program = next;
+    }
+
     /// Goes on at the reply to the request that `next` gave, which was made at that place. It gives the answer where that
-    /// ends the command.
-    ///
-    /// The actor's serial is taken where the reply says that an object was made, also for want of memory; else all is then
-    /// as it was before.
+    /// ends the command. The actor's serial is taken where the reply says that an object was made. For want of memory
+    /// nothing is changed, the serial neither.
     pub fn hear(
         &mut self,
         memory: &mut Memory,
@@ -87,37 +136,18 @@ impl Running {
           phase = phase_hear place self.old.op (next_number memory.old) self.old.command self.old.phase reply.now;
         }) }
         ensures answer { IfOk result (λ answer. answer ≡ phase_answer self.new.phase) }
-        ensures err { OnErr result (self.new ≡ self.old) }
-        ensures memory { memory.new ≡ after_reply memory.old reply.now }
+        ensures memory { OnOk result (memory.new ≡ after_reply memory.old reply.now) }
+        ensures err { OnErr result ((self.new ≡ self.old) × (memory.new ≡ memory.old)) }
     {
-        let alloc = self.alloc;
-        let number = memory.number_of_next();
-        remember(memory, reply);
-        let Some(req) = self.program.next(alloc, number)? else {
-            unreachable!()
-        };
-        let (first, second) = facts_of(alloc, &req, reply)?;
-        let next = heard(alloc, &self.program, place, number, reply)?;
-        let answer = answer_of(alloc, &next)?;
-        let had = mem::replace(&mut self.shown, Shown::Nothing);
-        self.shown = carry(&next.phase, had, first, second);
-        self.program = next;
+        let heard = self.heard(memory, place, reply)?;
+        let answer = heard.answer()?;
+        self.go_on(memory, heard);
         Ok(answer)
     }
 }
 
-// An object that was made took a serial.
-fn remember(memory: &mut Memory, reply: &AnyReply)
-    requires { memory.old.serial + 1 < 2 ^ 32 }
-    ensures { memory.new ≡ after_reply memory.old reply.now }
-{
-    if reply.is_made() {
-        memory.take_serial();
-    }
-}
-
 // The program after a reply.
-fn heard(
+fn program_after(
     alloc: Global,
     program: &Program,
     place: Place,
@@ -131,13 +161,4 @@ fn heard(
     let mut next = program.copy(alloc)?;
     next.hear(alloc, place, number, reply)?;
     Ok(next)
-}
-
-fn answer_of(alloc: Global, program: &Program) -> Result<Option<Answer>, NoMemory>
-    ensures { IfOk result (λ answer. answer ≡ phase_answer program.now.phase) }
-{
-    match program.answer() {
-        Some(answer) => Ok(Some(answer.copy(alloc)?)),
-        None => Ok(None),
-    }
 }

@@ -38,6 +38,13 @@ impl Memory {
         })
     }
 
+    /// The actor's own number. It takes no memory.
+    pub fn actor(&self) -> u32
+        ensures { result ≡ self.now.actor }
+    {
+        self.actor
+    }
+
     /// The number of the next object that the actor makes. It takes no memory.
     pub fn number_of_next(&self) -> u64
         ensures { result ≡ next_number self.now }

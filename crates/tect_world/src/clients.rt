@@ -6,7 +6,7 @@ ghost use Rattle.tect_world.specs.Clients.{AreIdle};
 
 use actors::Actor;
 use std::alloc::Global;
-use tect_ids::{Answer, Command, NoMemory, OpId};
+use tect_ids::{Answer, Command, Counts, NoMemory, OpId};
 use world_runs::Event;
 
 /// How many actors there are: 64 clients, and the one that runs the lines of the whole world.
@@ -19,14 +19,14 @@ pub struct Client {
     pub transactions: u64,
 }
 
-/// All actors, before anything was done.
-pub fn idle_clients(alloc: Global) -> Result<Vec<Client>, NoMemory>
+/// All actors, before anything was done, where each layer has that many shards.
+pub fn idle_clients(alloc: Global, counts: Counts) -> Result<Vec<Client>, NoMemory>
     ensures { IfOk result (λ clients. AreIdle clients.items 65) }
 {
     let mut clients = Vec::new(alloc);
     'each: for made in 0..ACTORS {
         clients.push(Client {
-            actor: Actor::start(alloc, made + 1),
+            actor: Actor::start(alloc, made + 1, counts)?,
             transactions: 0,
         })?;
     }

@@ -8,7 +8,6 @@ ghost use Rattle.tect_world.specs.ClientSteps.{ClientSteps};
 
 use crate::clients::{Client, push_event};
 use crate::turns::{Act, Turn, take_turn};
-use actors::Actor;
 use all_shards::Shards;
 use tect_ids::{Answer, OpId};
 use world_runs::Event;
@@ -39,24 +38,18 @@ fn note_end(client: &mut Client, history: &mut Vec<Event>, op: OpId, answer: Opt
     }
 }
 
-/// The client after its turn, and what is noted of it.
-fn go_on(client: &mut Client, history: &mut Vec<Event>, op: OpId, turn: Turn) -> Option<Answer>
+/// What is noted of the client's turn, and its end.
+fn note_turn(client: &mut Client, history: &mut Vec<Event>, op: OpId, turn: Turn) -> Option<Answer>
     requires room { vec_len history.old + 2 ≤ vec_capacity history.old }
     requires few { client.old.transactions + 1 < 2 ^ 64 }
     ensures client { client.new ≡ record {
-      actor = record turn.next { state = ended_actor turn.next.state turn.answer };
+      actor = record client.old.actor { state = ended_actor client.old.actor.state turn.answer };
       transactions = client.old.transactions + act_number turn.act;
     } }
     ensures items { history.new.items ≡ (history.old.items ++ act_events op turn.act) ++ ending op turn.answer }
     ensures told { result ≡ turn.told }
 {
-    let Turn {
-        act,
-        next,
-        answer,
-        told,
-    } = turn;
-    client.actor = next;
+    let Turn { act, answer, told } = turn;
     note_act(client, history, op, act);
     note_end(client, history, op, answer);
     told
@@ -93,8 +86,8 @@ pub fn step_client(
     ensures { ClientSteps shards.old shards.new client.old client.new history.old.items history.new.items result }
 {
     let op = client.actor.op();
-    match take_turn(shards, &client.actor) {
-        Ok(turn) => go_on(client, history, op, turn),
+    match take_turn(shards, &mut client.actor) {
+        Ok(turn) => note_turn(client, history, op, turn),
         Err(_) => fail(client, history, op),
     }
 }

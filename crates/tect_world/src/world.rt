@@ -46,7 +46,7 @@ impl World {
         ensures { IfOk result (λ world. world ≡ record { counts = counts; history = [] }) }
     {
         let shards = Shards::start(alloc, counts)?;
-        let clients = idle_clients(alloc)?;
+        let clients = idle_clients(alloc, counts)?;
         Ok(World {
             alloc,
             shards,
