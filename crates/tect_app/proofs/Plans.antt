@@ -1,5 +1,5 @@
 -- A plan that is read can be replayed.
-use Rattle.std.proofs.Common.{◌≡◌, ◌≢◌, ℕ, ◌+◌, ◌<◌, ◌≤◌, ◌^◌, Bool, true, false, not, ◌&&◌, eqb, if◌then◌else◌, cond, Option, Some, None, List, [], ◌∷◌, ◌++◌, length, map, refl, sym, ap, subst, ◌∙◌, arith}
+use Rattle.std.proofs.Common.{◌≡◌, ◌≢◌, ℕ, ◌+◌, ◌<◌, ◌≤◌, Bool, true, false, not, if◌then◌else◌, List, [], ◌∷◌, length, refl, sym, ap, subst, ◌∙◌, arith}
 use Rattle.std.specs.Prelude.{filter, nat_le, nat_lt, is_none, unwrap_or}
 use Rattle.std.specs.List.{AllByRecursion, position_or_len}
 use Rattle.std.specs.Map.{lookup, keys_of}
@@ -24,13 +24,12 @@ use Rattle.script_words.specs.WordForm.{names_fit}
 use Rattle.script_forms.specs.declared.clients.ClientState.{ClientState}
 use Rattle.script_forms.specs.declared.clients.ClientState.TheVariants as states
 use Rattle.script_forms.specs.LineText.{command_words, act_words, line_text}
-use Rattle.script_forms.specs.LineForms.{IsCommand, IsAct, IsLine, AreCounts, path_limit, first_limit, command_limit, act_limit, line_limit}
-use Rattle.script_forms.specs.Clients.{Seen, same_name, state_of, goes_on, takes_word, state_after, client_number, is_one_too_many, seen_after}
+use Rattle.script_forms.specs.LineForms.{IsCommand, IsAct, AreCounts, path_limit, first_limit, command_limit, act_limit}
+use Rattle.script_forms.specs.Clients.{Seen, same_name, state_of, goes_on, takes_word, state_after, client_number, is_one_too_many}
 use Rattle.script_forms.specs.Reading.{out_of_state}
-use Rattle.script_forms.specs.Spelling.{MayStand, AreLines, seen_of, IsPlan, is_told, plan_lines, Spells}
+use Rattle.script_forms.specs.Spelling.{AreLines, seen_of, is_told, plan_lines, Spells}
 use Rattle.world_runs.specs.Served.{IsServed}
-use Rattle.world_runs.specs.Turns.{ClientTurn, Idle, Busy, Gone, TakesAct, turn_after, Turns, all_idle, with_turn, InTurnFrom, InTurn}
-use Rattle.run_bounds.specs.Bounds.{first_path}
+use Rattle.world_runs.specs.Turns.{ClientTurn, Idle, Busy, Gone, TakesAct, turn_after, Turns, all_idle, with_turn, InTurnFrom}
 use Rattle.tect_replay.specs.Replays.{IsShallow, IsBounded, IsWithin, IsReplayable}
 
 -- ---- commands
@@ -254,8 +253,7 @@ in_turn_from counts turns seen (lines.Client client actor act ∷ ls) agree few 
     let turn : turns actor ≡ turn_of (state_of seen client) = ap turns (sym here) ∙ agree_at same_name client turns 0 seen agree in
     let next : Agree (with_turn turns actor (turn_after act)) 0 (insert_entry same_name seen client (state_after act)) =
     subst (λ (t : ClientTurn). Agree (with_turn turns actor t) 0 (insert_entry same_name seen client (state_after act))) (same_turn act)
-    (subst (λ (a : ℕ). Agree (with_turn turns a (turn_of (state_after act))) 0 (insert_entry same_name seen client (state_after act))) here (agree_set same_name client turns 0 seen (state_after act) agree)) in
-    (
+    (subst (λ (a : ℕ). Agree (with_turn turns a (turn_of (state_after act))) 0 (insert_entry same_name seen client (state_after act))) here (agree_set same_name client turns 0 seen (state_after act) agree)) in (
       omega (arith, o.2),
       omega (arith, o.2, more.0),
       subst (λ (t : ClientTurn). TakesAct t act) (sym turn) (takes counts seen client act ((are.0).form).1 o.0),
@@ -278,8 +276,7 @@ seen_grows seen (lines.Lose disk ∷ ls) = seen_grows seen ls
 within_from : (counts : Counts) (seen : Seen) (k : ℕ) (ls : List Line) → AreLines counts seen ls → length (seen_of seen ls) ≤ k → AllByRecursion (IsWithin k) ls
 within_from counts seen k [] are le = tt
 within_from counts seen k (lines.Client client actor act ∷ ls) are le =
-    let after : Seen = insert_entry same_name seen client (state_after act) in
-    (
+    let after : Seen = insert_entry same_name seen client (state_after act) in (
       (omega (arith, (are.0).in_order.2, (grows same_name client seen (state_after act)).0, seen_grows after ls, le), bounded counts act ((are.0).form).1 (are.0).within),
       within_from counts after k ls are.1 le,
     )

@@ -1,5 +1,5 @@
 -- A step after which the command goes on is one transaction.
-use Rattle.std.proofs.Common.{◌≡◌, ℕ, Bool, true, false, eqb, if◌then◌else◌, ◌||◌, Option, Some, None, is_some, List, [], ◌∷◌, ◌++◌, refl, sym, ap, subst, ◌∙◌, arith}
+use Rattle.std.proofs.Common.{◌≡◌, ℕ, Bool, true, eqb, if◌then◌else◌, ◌||◌, Option, Some, None, is_some, [], ◌∷◌, ◌++◌, refl, sym, ap, subst, ◌∙◌, arith}
 use Rattle.std.specs.Prelude.{IsSome}
 use Rattle.tect_ids.specs.declared.ids.Counts.{Counts}
 use Rattle.tect_ids.specs.declared.ids.OpId.{OpId}
@@ -7,11 +7,10 @@ use Rattle.tect_ids.specs.declared.answer.Answer.{Answer}
 use Rattle.tect_ids.proofs.KeyTests.{num_eq_cases, op_eq_cases}
 use Rattle.store_rules.specs.declared.any.AnyReq.{AnyReq}
 use Rattle.store_rules.specs.declared.any.AnyReply.{AnyReply}
-use Rattle.store_rules.specs.Store.{Store, store_reply}
+use Rattle.store_rules.specs.Store.{store_reply}
 use Rattle.op_names.specs.declared.program.Program.{Program}
-use Rattle.world_runs.specs.declared.event.Event.{Event}
 use Rattle.world_runs.specs.declared.event.Event.TheVariants.{Acted}
-use Rattle.world_runs.specs.Moments.{Actor, Moment, IsWorldRun, after, running, asked, answered, program_of, program_answer, went_on}
+use Rattle.world_runs.specs.Moments.{Actor, Moment, IsWorldRun, after, running, answered, program_of, program_answer, went_on}
 use Rattle.sound_runs.proofs.RunsKeep.{running_goes_on, running_is_last_begun}
 use Rattle.tect_world.specs.Life.{Life, present, grown, last_op, actor_asks, acted_actor, transaction, ending, step_answer, step_events}
 use Rattle.tect_replay.proofs.Reports.{present-grown, acts_last}

@@ -1,7 +1,7 @@
 -- What each act leaves, from what the world says of its calls.
-use Rattle.std.proofs.Common.{◌≡◌, ℕ, ◌+◌, ◌<◌, ◌≤◌, Bool, true, false, eqb, if◌then◌else◌, Option, Some, None, List, [], ◌∷◌, ◌++◌, map, refl, sym, ap, subst, ◌∙◌, append_assoc, inl, inr, arith}
+use Rattle.std.proofs.Common.{◌≡◌, ℕ, Bool, true, eqb, if◌then◌else◌, Option, Some, None, List, [], ◌∷◌, ◌++◌, map, refl, sym, ap, subst, ◌∙◌, inl, inr, arith}
 use Rattle.std.proofs.lemmas.List.{append-nil}
-use Rattle.std.specs.Prelude.{IsSome, is_some, Result, Ok, Err, IfOk, OnOk, OnErr}
+use Rattle.std.specs.Prelude.{IsSome}
 use Rattle.tect_ids.specs.declared.ids.OpId.{OpId}
 use Rattle.tect_ids.specs.declared.answer.Answer.{Answer}
 use Rattle.tect_ids.specs.declared.answer.Answer.TheVariants as answers
@@ -14,10 +14,9 @@ use Rattle.tect_ids.specs.declared.script.ReportLine.{ReportLine}
 use Rattle.tect_ids.specs.declared.script.ReportLine.TheVariants as report_lines
 use Rattle.store_rules.specs.Dumps.{store_dump}
 use Rattle.tect_ids.proofs.KeyTests.{num_eq_cases}
-use Rattle.op_names.specs.declared.program.Program.{Program}
 use Rattle.world_runs.specs.declared.event.Event.{Event}
 use Rattle.world_runs.specs.declared.event.Event.TheVariants.{Began, Acted, Ended, Stopped, Failed, Dumped}
-use Rattle.world_runs.specs.Moments.{Actor, IsWorldRun, RunFrom, Moment, moment, opening, after, asked, answered}
+use Rattle.world_runs.specs.Moments.{Actor, IsWorldRun, RunFrom, Moment, opening, after, asked, answered}
 use Rattle.world_runs.specs.Follows.{Acts, IsEndOf, RunsToEnd}
 use Rattle.world_runs.specs.Report.{answer_line, report_after}
 use Rattle.sound_runs.proofs.RunsKeep.{running_is_last_begun}
@@ -28,7 +27,7 @@ use Rattle.script_runs.proofs.AtOnce.{not_both}
 use Rattle.tect_world.specs.Life.{Life, present, grown, last_op, next_op}
 use Rattle.tect_world.specs.Steps.{EndsWith, RanToEnd}
 use Rattle.tect_replay.specs.Replays.{IsShallow}
-use Rattle.tect_replay.specs.Plays.{AllShallow, CanStart, StepsUpTo, PlaysAct, PlaysLine}
+use Rattle.tect_replay.specs.Plays.{AllShallow, StepsUpTo, PlaysAct, PlaysLine}
 use Rattle.tect_replay.proofs.Results.{some_of}
 use Rattle.tect_replay.proofs.Shallow.{shallow-append}
 use Rattle.tect_replay.proofs.Reports.{present-grown, grown-grown, grown-nil, acts_show_nothing, ended_shows, stopped_shows}

@@ -1,10 +1,8 @@
 -- How far a replay has come.
-use Rattle.std.proofs.Common.{◌≡◌, ℕ, zero, suc, ◌+◌, ◌<◌, ◌≤◌, ◌^◌, Option, Some, None, List, [], ◌∷◌, ◌++◌, length, get_or, take, drop, map, length-append, length-take, refl, sym, ap, subst, ◌∙◌, append_assoc, arith}
+use Rattle.std.proofs.Common.{◌≡◌, ℕ, zero, suc, ◌+◌, ◌<◌, ◌≤◌, Option, Some, List, [], ◌∷◌, ◌++◌, length, get_or, take, drop, map, length-take, refl, sym, ap, subst, ◌∙◌, append_assoc, arith}
 use Rattle.std.specs.List.{AllByRecursion}
-use Rattle.std.specs.Io.KnownBytes.{Appends}
 use Rattle.std.proofs.lemmas.List.{take_all, take_more, take-append-drop}
 use Rattle.tect_ids.specs.declared.ids.Counts.{Counts}
-use Rattle.tect_ids.specs.declared.ids.OpId.{OpId}
 use Rattle.tect_ids.specs.declared.answer.Answer.TheVariants as answers
 use Rattle.tect_ids.specs.declared.command.Command.{Command}
 use Rattle.tect_ids.specs.declared.dump.DumpLine.{DumpLine}
@@ -15,33 +13,31 @@ use Rattle.tect_ids.specs.declared.script.Line.TheVariants as lines
 use Rattle.tect_ids.specs.declared.script.Plan.{Plan}
 use Rattle.tect_ids.specs.declared.script.ReportLine.{ReportLine}
 use Rattle.tect_ids.specs.declared.script.ReportLine.TheVariants as report_lines
-use Rattle.tect_edge.specs.Prefixes.{AppendsProperPrefix}
 use Rattle.store_rules.specs.Dumps.{store_dump}
 use Rattle.world_runs.specs.declared.event.Event.{Event}
 use Rattle.world_runs.specs.declared.event.Event.TheVariants.{Began, Acted, Ended, Stopped, Failed, Dumped}
 use Rattle.world_runs.specs.Served.{IsServed}
-use Rattle.world_runs.specs.Moments.{Moment, after, after_all, opening, moment, RunFrom, IsWorldRun, IsLack}
-use Rattle.world_runs.specs.Follows.{Busy, Follows, FollowsFrom}
+use Rattle.world_runs.specs.Moments.{Moment, after, opening, moment, RunFrom, IsWorldRun, IsLack}
+use Rattle.world_runs.specs.Follows.{Follows, FollowsFrom}
 use Rattle.world_runs.specs.Turns.{Turns, ClientTurn, Idle, Busy as IsBusy, Gone, TakesAct, turn_after, with_turn, all_idle, turns_after, InTurn, InTurnFrom}
-use Rattle.world_runs.specs.Report.{lines_at, report_after, report}
+use Rattle.world_runs.specs.Report.{lines_at, report_after}
 use Rattle.sound_runs.proofs.RunsKeep.{sound_at_each_moment, no_run_answers_odd}
 use Rattle.tree_runs.proofs.Headlines.{run_headline}
 use Rattle.tree_runs.proofs.Scripts.{session_reported}
 use Rattle.tree_runs.proofs.Histories.{after_all-append, run-append, report-append}
 use Rattle.run_bounds.proofs.RunsShort.{each_is_short}
 use Rattle.script_runs.specs.Standing.{busy_at, AtTurn}
-use Rattle.script_runs.specs.Smooth.{EndsAtOnce, IsSmoothRun, StepsOn, AllStepOn}
+use Rattle.script_runs.specs.Smooth.{EndsAtOnce, StepsOn, AllStepOn}
 use Rattle.script_runs.proofs.AtOnce.{at_once-append}
 use Rattle.script_runs.proofs.FollowOn.{run_follows_on, stands_by_turn}
 use Rattle.script_runs.proofs.RunOn.{each_script_can_be_run_on}
 use Rattle.script_runs.proofs.Fixed.{script_fixes_run}
-use Rattle.tect_world.specs.Life.{Life, present, grown}
-use Rattle.tect_replay.specs.Output.{lines_text, end_text, output_text, plan_report, AppendsPrefix}
-use Rattle.tect_replay.specs.Replays.{IsWithin, IsReplayable, IsNotOdd, IsHistoryOf, IsReplayed, IsCutReplay}
+use Rattle.tect_world.specs.Life.{Life, present}
+use Rattle.tect_replay.specs.Output.{lines_text, end_text, plan_report, AppendsPrefix}
+use Rattle.tect_replay.specs.Replays.{IsWithin, IsReplayable, IsNotOdd, IsHistoryOf, IsCutReplay}
 use Rattle.tect_replay.specs.Plays.{AllShallow, CanStart, CanDo, CanPlay, PlaysLine}
-use Rattle.tect_replay.proofs.Reports.{present-grown}
 use Rattle.tect_replay.proofs.Shallow.{shallow-append}
-use Rattle.tect_replay.proofs.Texts.{prefix_whole, prefix_longer, prefix_less, proper_then, lines-append}
+use Rattle.tect_replay.proofs.Texts.{prefix_longer, prefix_less, lines-append}
 
 -- ---- no answer is odd
 

@@ -1,21 +1,20 @@
 -- What a report shows of the parts of a history, and what they leave of an actor.
-use Rattle.std.proofs.Common.{◌≡◌, ℕ, ◌+◌, ◌≤◌, Bool, true, false, eqb, if◌then◌else◌, Option, Some, None, List, [], ◌∷◌, ◌++◌, map, refl, sym, ap, subst, ◌∙◌, append_assoc, arith}
+use Rattle.std.proofs.Common.{◌≡◌, ℕ, eqb, if◌then◌else◌, List, [], ◌∷◌, ◌++◌, refl, sym, ap, ◌∙◌, append_assoc, arith}
 use Rattle.std.proofs.lemmas.List.{append-nil}
 use Rattle.tect_ids.specs.declared.ids.Counts.{Counts}
 use Rattle.tect_ids.specs.declared.ids.OpId.{OpId}
 use Rattle.tect_ids.specs.declared.answer.Answer.{Answer}
 use Rattle.tect_ids.specs.declared.answer.Answer.TheVariants as answers
-use Rattle.tect_ids.specs.declared.script.ReportLine.{ReportLine}
 use Rattle.tect_ids.specs.declared.script.ReportLine.TheVariants as lines
 use Rattle.tect_ids.proofs.KeyTests.{num_eq_cases}
 use Rattle.world_runs.specs.declared.event.Event.{Event}
 use Rattle.world_runs.specs.declared.event.Event.TheVariants.{Began, Acted, Ended, Stopped, Failed, Dumped}
-use Rattle.world_runs.specs.Moments.{Actor, Moment, after, after_all, opening, moment}
+use Rattle.world_runs.specs.Moments.{Actor, Moment, after, after_all, opening}
 use Rattle.world_runs.specs.Follows.{Acts}
-use Rattle.world_runs.specs.Report.{is_act_of, transactions, client_name, answer_line, lines_at, report_after}
+use Rattle.world_runs.specs.Report.{transactions, client_name, answer_line, report_after}
 use Rattle.tree_runs.proofs.Histories.{after_all-append, report-append, transactions-append}
 use Rattle.tect_world.specs.Life.{Life, present, grown, last_op}
-use Rattle.tect_world.specs.Steps.{EndsWith, RanToEnd}
+use Rattle.tect_world.specs.Steps.{EndsWith}
 
 -- ---- one part after another
 

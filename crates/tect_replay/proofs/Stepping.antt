@@ -1,7 +1,6 @@
 -- Steps of a command, one after another.
-use Rattle.std.proofs.Common.{◌≡◌, ℕ, ◌+◌, ◌<◌, ◌≤◌, Option, Some, None, List, [], ◌∷◌, ◌++◌, refl, sym, ap, subst, ◌∙◌, append_assoc, inl, inr, ◌⊎◌, arith}
+use Rattle.std.proofs.Common.{◌≡◌, ℕ, ◌+◌, ◌≤◌, Option, Some, None, List, [], ◌∷◌, ◌++◌, refl, sym, ap, subst, ◌∙◌, append_assoc, inl, inr, arith}
 use Rattle.std.specs.Prelude.{IsSome}
-use Rattle.std.proofs.lemmas.List.{append-nil}
 use Rattle.tect_ids.specs.declared.ids.OpId.{OpId}
 use Rattle.tect_ids.specs.declared.answer.Answer.{Answer}
 use Rattle.tect_ids.specs.declared.answer.Answer.TheVariants as answers
@@ -13,14 +12,13 @@ use Rattle.world_runs.specs.declared.event.Event.TheVariants.{Began, Acted, Ende
 use Rattle.world_runs.specs.Moments.{Moment, IsWorldRun, after_all, answered}
 use Rattle.world_runs.specs.Follows.{Acts}
 use Rattle.script_runs.specs.Smooth.{EndsAtOnce}
-use Rattle.tect_world.specs.Life.{Life, present, grown, last_op, actor_asks, transaction, ending, step_answer, step_events}
-use Rattle.actors.specs.declared.turned.Turned.{Turned}
+use Rattle.tect_world.specs.Life.{Life, present, grown, last_op, actor_asks, transaction, ending, step_answer}
 use Rattle.actors.specs.declared.turned.Turned.TheVariants.{Going, Done}
 use Rattle.actors.specs.Turns.{turned_by}
-use Rattle.tect_world.specs.Steps.{RanToEnd, Stepped}
+use Rattle.tect_world.specs.Steps.{Stepped}
 use Rattle.tect_replay.specs.Plays.{StepsUpTo}
 use Rattle.script_runs.proofs.AtOnce.{at_once-append}
-use Rattle.tect_replay.proofs.Going.{HasGoneOn, going_on}
+use Rattle.tect_replay.proofs.Going.{going_on}
 use Rattle.tect_replay.proofs.Reports.{present-grown, grown-grown, grown-nil}
 
 -- ---- one more transaction

@@ -1,8 +1,7 @@
 -- How the lines of a script are played, one after another.
-use Rattle.std.specs.Prelude.{◌≡◌, ℕ, ◌+◌, ◌<◌, ◌≤◌, ◌^◌, false, Option, Some, None, List, [], ◌∷◌, ◌++◌, length, map}
+use Rattle.std.specs.Prelude.{◌≡◌, ℕ, ◌+◌, ◌<◌, ◌≤◌, ◌^◌, false, Option, Some, None, List, [], ◌∷◌, map}
 use Rattle.tect_ids.specs.declared.ids.OpId.{OpId}
 use Rattle.tect_ids.specs.declared.answer.Answer.{Answer}
-use Rattle.tect_ids.specs.declared.command.Command.{Command}
 use Rattle.tect_ids.specs.declared.script.Act.{Act}
 use Rattle.tect_ids.specs.declared.script.Act.TheVariants as acts
 use Rattle.tect_ids.specs.declared.script.Line.{Line}
@@ -17,8 +16,8 @@ use Rattle.world_runs.specs.Follows.{Acts, DoesLine, FollowsFrom}
 use Rattle.world_runs.specs.Report.{report_after}
 use Rattle.script_runs.specs.Standing.{busy_at}
 use Rattle.script_runs.specs.Smooth.{EndsAtOnce}
-use Rattle.tect_world.specs.Life.{Life, present, grown, last_op}
-use Rattle.tect_world.specs.Steps.{RanToEnd, GoesOn}
+use Rattle.tect_world.specs.Life.{Life, present, grown}
+use Rattle.tect_world.specs.Steps.{RanToEnd}
 use Rattle.tect_replay.specs.Replays.{IsShallow}
 use Rattle.tect_replay.specs.declared.lines.Shown.{Shown}
 use Rattle.tect_replay.specs.declared.lines.Shown.TheVariants as shown

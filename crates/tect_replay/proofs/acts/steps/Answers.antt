@@ -1,4 +1,4 @@
-use Rattle.std.proofs.Common.{◌≡◌, ◌+◌, ◌<◌, ◌≤◌, subst, arith}
+use Rattle.std.proofs.Common.{◌+◌, ◌<◌, subst, arith}
 use Rattle.actors.specs.declared.turned.Turned.{Turned}
 use Rattle.tect_world.specs.Life.{present, last_op}
 use Rattle.tect_world.specs.Steps.{Stepped}
