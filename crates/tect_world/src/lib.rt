@@ -8,3 +8,6 @@ mod world;
 
 pub use actors::Turned;
 pub use world::World;
+
+#[cfg(test)]
+mod tests;
