@@ -1,5 +1,6 @@
 #!/usr/bin/env python3
-"""How long the built program replays scripts of 1,000, 10,000 and 60,000 lines, and how much memory it takes.
+"""How long the built program replays scripts of 1,000, 10,000 and 60,000 lines, and the largest scripts that there may be: one of
+comments, and one of looks with long paths. And how much memory it takes.
 
 measure.py [TIMES]: each script TIMES times (5 if left out), the best counts. The start of the program is measured by a script of
 no commands, and taken off. Build the program first (./tect replay < examples/first.script).
@@ -13,6 +14,9 @@ import time
 HERE = os.path.dirname(os.path.abspath(__file__))
 PROGRAM = os.path.join(HERE, "..", "crates", "tect", "out", "tect")
 SIZES = [1000, 10000, 60000]
+STORE = "store 4 4 1 3 3\n"
+MOST_LINES = 65536
+MOST_BYTES = 67108864
 
 
 def best(script, times):
@@ -29,6 +33,18 @@ def best(script, times):
     return min(seconds), usage.ru_maxrss * 1024
 
 
+def comments():
+    """As many bytes as a script may have, and as many lines, all but the first of them comments."""
+    line = "#" + "x" * (MOST_BYTES // MOST_LINES - 2) + "\n"
+    rest = MOST_BYTES - len(STORE) - len(line) * (MOST_LINES - 2)
+    return STORE + line * (MOST_LINES - 2) + "#" + "x" * (rest - 2) + "\n"
+
+
+def looks():
+    """As many lines as a script may have, each a look with a path of four long names."""
+    return STORE + ("c1 look " + "/" + "/".join(["n" * 240] * 4) + "\n") * (MOST_LINES - 1)
+
+
 def program():
     if not os.path.exists(PROGRAM):
         sys.exit(f"no program at {PROGRAM}")
@@ -40,7 +56,7 @@ def main():
     with tempfile.TemporaryDirectory() as room:
         empty = os.path.join(room, "empty")
         with open(empty, "w") as script:
-            script.write("store 4 4 1 3 3\n")
+            script.write(STORE)
         start, _ = best(empty, times)
         per_line = {}
         for size in SIZES:
@@ -50,6 +66,12 @@ def main():
             seconds, memory = best(path, times)
             per_line[size] = (seconds - start) / size
             print(f"{size} lines: {seconds:.3f} s, peak {memory / 2**20:.0f} MiB, a line costs {per_line[size] / per_line[SIZES[0]]:.2f} of one of {SIZES[0]} lines")
+        for name, text in [("comments", comments()), ("looks", looks())]:
+            path = os.path.join(room, name)
+            with open(path, "w") as script:
+                script.write(text)
+            seconds, memory = best(path, times)
+            print(f"{len(text)} bytes of {name}: {seconds:.3f} s, peak {memory / 2**20:.0f} MiB")
 
 
 main()
