@@ -1,0 +1,13 @@
+use Rattle.std.proofs.Common.{arith, ap, refl, ◌≡◌, ◌+◌, ◌≤◌, ◌<◌, ◌^◌}
+use Rattle.place_kit.specs.declared.entry.Moment.{Moment}
+use Rattle.place_kit.specs.Logged.{Logged}
+use Rattle.place_kit.proofs.Keeping.{IsPass-room}
+use Rattle.place_kit.proofs.pass.Pass.lower.Goals as goal
+
+pub invariant_of-self : goal.invariant_of-self
+invariant_of-self c = record {
+  known =
+      let p = c.args.self.now in
+      IsPass-room p.actor p.clock p.steps p.bytes p.running p.moments _ p.known (ap (λ (m : Logged Moment). m.items) c.lower.ensures)
+      (omega (arith, ap (λ (m : Logged Moment). m.spare) c.lower.ensures, c.aside-aside.ensures));
+}

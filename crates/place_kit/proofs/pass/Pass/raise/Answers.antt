@@ -1,0 +1,13 @@
+use Rattle.std.proofs.Common.{arith, ap, refl, ◌≡◌, ◌+◌, ◌≤◌, ◌<◌, ◌^◌}
+use Rattle.place_kit.specs.declared.entry.Moment.{Moment}
+use Rattle.place_kit.specs.Logged.{Logged}
+use Rattle.place_kit.proofs.Keeping.{IsPass-raised, aside-le}
+use Rattle.place_kit.proofs.pass.Pass.raise.Goals as goal
+
+pub invariant_of-self : goal.invariant_of-self
+invariant_of-self c = record {
+  known =
+      let p = c.args.self.now in
+      let max = c.max-self.ensures in
+      IsPass-raised p.actor p.clock c.max-self.result p.steps p.bytes p.running p.moments p.known (omega (arith, max)) (omega (arith, max, c.requires, p.known.early, aside-le p.running));
+}

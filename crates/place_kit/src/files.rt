@@ -1,0 +1,57 @@
+use crate::copies::{copy_file_reply, copy_file_req};
+use crate::machine::Machine;
+use file_shard::FileShard;
+use std::alloc::Global;
+use store_rules::{FileReply, FileReq};
+use tect_calls::{AnyReply, AnyReq};
+use tect_ids::NoMemory;
+
+impl Machine for FileShard {
+    ghost use Rattle.std.specs.Prelude.{false};
+    ghost use Rattle.std.specs.FinMap.{empty};
+    ghost use Rattle.store_rules.specs.declared.any.AnyReq.TheVariants.{File};
+    ghost use Rattle.store_rules.specs.declared.any.AnyReply.TheVariants.{File as file_reply};
+    ghost use Rattle.place_kit.specs.Machines.{file_after, file_replies, file_is_free};
+
+    type Req = FileReq;
+
+    type Reply = FileReply;
+
+    ghost wide = { File };
+
+    ghost wide_reply = { file_reply };
+
+    ghost after = { file_after };
+
+    ghost answer = { file_replies };
+
+    ghost opening = { λ rooted. empty };
+
+    ghost rooted = { λ s. false };
+
+    ghost is_free = { λ s. file_is_free };
+
+    // No directory stands in a file shard.
+    fn has_root(&self) -> bool {
+        let _shard = self;
+        false
+    }
+
+    fn reply(&self, req: &FileReq) -> Result<FileReply, NoMemory> {
+        FileShard::reply(self, req)
+    }
+
+    fn step(&mut self, req: &FileReq) -> Result<FileReply, NoMemory> {
+        FileShard::step(self, req)
+    }
+
+    fn widen(
+        alloc: Global,
+        req: &FileReq,
+        reply: &FileReply,
+    ) -> Result<(AnyReq, AnyReply), NoMemory> {
+        let req = copy_file_req(alloc, req)?;
+        let reply = copy_file_reply(reply);
+        Ok((AnyReq::File(req), AnyReply::File(reply)))
+    }
+}

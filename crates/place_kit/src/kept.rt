@@ -1,0 +1,218 @@
+ghost use Rattle.std.specs.Prelude.{◌≡◌, ◌+◌, ◌-◌, ◌<◌, ◌≤◌, ◌^◌, [], ◌∷◌, ◌++◌, true, false, length, IfOk, OnOk, OnErr, IsOk, ◌↔◌};
+ghost use Rattle.place_kit.specs.Replay.{IsKept, IsKept-prop};
+ghost use Rattle.place_kit.specs.Commits.{IsFull, entry_of, next_stamp, spare_of, used};
+
+use crate::entry::{Entry, Label, Moment, Refused};
+use crate::log::Log;
+use crate::machine::Machine;
+use crate::pass::{MOST_BYTES, MOST_MOMENTS, Pass};
+use std::alloc::Global;
+use std::snapshot::Snapshot;
+use tect_ids::{NoMemory, Place};
+
+/// A machine at its place, and the entries that led to it from its base state.
+#[derive(Drop)]
+pub struct Kept<M: Machine> {
+    pub(crate) label: Label,
+    pub(crate) machine: M,
+    pub(crate) base: Snapshot<M>,
+    pub(crate) history: Log<Entry>,
+    pub(crate) clock: u64,
+    pub(crate) count: u64,
+    ghost kept: { IsKept M.after M.answer M.opening label machine base.value history.items clock count } by { IsKept-prop M.code M.after M.answer M.opening label machine base.value history.items clock count },
+}
+
+impl<M: Machine> Kept<M> {
+    /// An opening machine at its place, with nothing done. It takes no memory.
+    pub fn start(alloc: Global, place: Place, machine: M) -> Kept<M>
+        requires { machine ≡ M.opening (M.rooted machine) }
+        ensures label { result.label ≡ record { place = place; rooted = M.rooted machine; folded = false } }
+        ensures state { (result.machine ≡ machine) × (result.base.value ≡ machine) }
+        ensures history { (result.history ≡ record { items = []; spare = 0 }) × (result.clock ≡ 0) }
+    {
+        let base = Snapshot::of(&machine);
+        let rooted = machine.has_root();
+        Kept {
+            label: Label {
+                place,
+                rooted,
+                folded: false,
+            },
+            machine,
+            base,
+            history: Log::new(alloc),
+            clock: 0,
+            count: 0,
+        }
+    }
+
+    /// Which machine it is. It takes no memory.
+    pub fn label(&self) -> Label
+        ensures { result ≡ self.now.label }
+    {
+        self.label
+    }
+
+    /// The entries, in the order of their stamps. It takes no memory.
+    pub fn history(&self) -> &[Entry]
+        ensures { result.now ≡ self.now.history.items }
+    {
+        self.history.as_slice()
+    }
+
+    /// The machine as it is now. It takes no memory.
+    pub fn machine(&self) -> &M
+        ensures { result.now ≡ self.now.machine }
+    {
+        &self.machine
+    }
+
+    /// For how many commits there is sure room. It takes no memory.
+    pub fn spare(&self) -> usize
+        ensures { result ≡ self.now.history.spare }
+    {
+        self.history.spare()
+    }
+
+    /// Makes the sure room at least `n` commits. For want of memory nothing is changed.
+    pub fn reserve(&mut self, n: usize) -> Result<(), NoMemory>
+        ensures room { OnOk result (n ≤ self.new.history.spare) }
+        ensures keeps { self.old.history.spare ≤ self.new.history.spare }
+        ensures history { self.new.history.items ≡ self.old.history.items }
+        ensures same { (self.new.label ≡ self.old.label) × (self.new.machine ≡ self.old.machine) × (self.new.base.value ≡ self.old.base.value)
+            × (self.new.clock ≡ self.old.clock) }
+        ensures enough { n ≤ self.old.history.spare → IsOk result × (self.new ≡ self.old) }
+        ensures err { OnErr result (self.new ≡ self.old) }
+    {
+        if n <= self.history.spare() {
+            return Ok(());
+        }
+        match self.history.reserve(n) {
+            Ok(()) => Ok(()),
+            Err(NoMemory) => Err(NoMemory),
+        }
+    }
+
+    /// Does one transaction, and adds one and the same entry to the history and to the pass, stamped above both clocks.
+    ///
+    /// It is refused as full exactly where the pass is. For want of memory it is refused too, but not where both have sure
+    /// room, and the request takes none and holds no name. A refusal changes neither.
+    pub fn commit(&mut self, pass: &mut Pass, req: M::Req) -> Result<M::Reply, Refused>
+        ensures label { (self.new.label ≡ self.old.label) × (self.new.base.value ≡ self.old.base.value) }
+        ensures pass { (pass.new.actor ≡ pass.old.actor) × (pass.new.running ≡ pass.old.running) }
+        ensures reply { IfOk result (λ r. M.wide_reply r ≡ M.answer self.old.machine (M.wide req)) }
+        ensures state { OnOk result (self.new.machine ≡ M.after self.old.machine (M.wide req)) }
+        ensures history { IfOk result (λ r. self.new.history.items ≡ self.old.history.items ++ entry_of self.old.label self.old.clock pass.old (M.wide req) (M.wide_reply r) ∷ []) }
+        ensures trail { IfOk result (λ r. pass.new.moments.items ≡ pass.old.moments.items ++ Moment.Act (entry_of self.old.label self.old.clock pass.old (M.wide req) (M.wide_reply r)) ∷ []) }
+        ensures clocks { OnOk result ((self.new.clock ≡ next_stamp self.old.clock pass.old) × (pass.new.clock ≡ next_stamp self.old.clock pass.old) × (pass.new.steps ≡ pass.old.steps + 1)) }
+        ensures spares { OnOk result (0 < self.old.history.spare → 0 < spare_of pass.old → (self.new.history.spare + 1 ≡ self.old.history.spare) × (spare_of pass.new + 1 ≡ spare_of pass.old)) }
+        ensures full { (result ≡ Err (Refused.HistoryFull self.old.label.place)) ↔ IsFull pass.old }
+        ensures memory { OnErr result (¬ IsFull pass.old → result ≡ Err Refused.NoMemory) }
+        ensures free { M.is_free self.old.machine (M.wide req) ≡ true → 0 < self.old.history.spare → 0 < spare_of pass.old → ¬ (result ≡ Err Refused.NoMemory) }
+        ensures err { OnErr result ((self.new ≡ self.old) × (pass.new ≡ pass.old)) }
+    {
+        if pass.is_full() {
+            return Err(Refused::HistoryFull {
+                place: self.label.place,
+            });
+        }
+        match self.do_step(pass, &req) {
+            Ok(reply) => Ok(reply),
+            Err(NoMemory) => Err(Refused::NoMemory),
+        }
+    }
+
+    // The transaction of a pass that is not full.
+    fn do_step(&mut self, pass: &mut Pass, req: &M::Req) -> Result<M::Reply, NoMemory>
+        requires few { used pass.old < MOST_MOMENTS }
+        requires light { pass.old.bytes < MOST_BYTES }
+        requires early { pass.old.clock < 2 ^ 63 }
+        ensures label { (self.new.label ≡ self.old.label) × (self.new.base.value ≡ self.old.base.value) }
+        ensures pass { (pass.new.actor ≡ pass.old.actor) × (pass.new.running ≡ pass.old.running) }
+        ensures reply { IfOk result (λ r. M.wide_reply r ≡ M.answer self.old.machine (M.wide req.now)) }
+        ensures state { OnOk result (self.new.machine ≡ M.after self.old.machine (M.wide req.now)) }
+        ensures history { IfOk result (λ r. self.new.history.items ≡ self.old.history.items ++ entry_of self.old.label self.old.clock pass.old (M.wide req.now) (M.wide_reply r) ∷ []) }
+        ensures trail { IfOk result (λ r. pass.new.moments.items ≡ pass.old.moments.items ++ Moment.Act (entry_of self.old.label self.old.clock pass.old (M.wide req.now) (M.wide_reply r)) ∷ []) }
+        ensures clocks { OnOk result ((self.new.clock ≡ next_stamp self.old.clock pass.old) × (pass.new.clock ≡ next_stamp self.old.clock pass.old) × (pass.new.steps ≡ pass.old.steps + 1)) }
+        ensures spares { OnOk result (0 < self.old.history.spare → 0 < spare_of pass.old → (self.new.history.spare + 1 ≡ self.old.history.spare) × (spare_of pass.new + 1 ≡ spare_of pass.old)) }
+        ensures free { M.is_free self.old.machine (M.wide req.now) ≡ true → 0 < self.old.history.spare → 0 < spare_of pass.old → IsOk result }
+        ensures err { OnErr result ((self.new ≡ self.old) × (pass.new ≡ pass.old)) }
+    {
+        let alloc = self.history.allocator();
+        let reply = self.machine.reply(req)?;
+        let (ours, our_reply) = M::widen(alloc, req, &reply)?;
+        let (theirs, their_reply) = M::widen(alloc, req, &reply)?;
+        let Ok(room) = make_room(&mut self.history, pass) else {
+            return Err(NoMemory);
+        };
+        is_short(self.history.as_slice());
+        let stamp = self.clock.max(pass.clock) + 1;
+        let step = pass.steps;
+        let answer = match self.machine.step(req) {
+            Ok(answer) => answer,
+            Err(NoMemory) => {
+                give_room(&mut self.history, pass, room);
+                return Err(NoMemory);
+            }
+        };
+        let place = self.label.place;
+        let actor = pass.actor;
+        self.history.push(Entry {
+            stamp,
+            place,
+            actor,
+            step,
+            req: ours,
+            reply: our_reply,
+        });
+        self.clock = stamp;
+        self.count += 1;
+        pass.record(Entry {
+            stamp,
+            place,
+            actor,
+            step,
+            req: theirs,
+            reply: their_reply,
+        });
+        Ok(answer)
+    }
+}
+
+// A history is short, since its entries take room.
+fn is_short(history: &[Entry])
+    ensures { length history.now < 2 ^ 59 }
+{
+    let _len = history.len();
+}
+
+// Room for one entry at both, and how much was sure before.
+fn make_room(history: &mut Log<Entry>, pass: &mut Pass) -> Result<(usize, usize), NoMemory>
+    ensures both { OnOk result ((0 < history.new.spare) × (0 < spare_of pass.new)) }
+    ensures before { IfOk result (λ r. (r.0 ≡ history.old.spare) × (r.1 ≡ spare_of pass.old) × (r.0 ≤ history.new.spare) × (r.1 ≤ spare_of pass.new)) }
+    ensures items { (history.new.items ≡ history.old.items) × (pass.new.moments.items ≡ pass.old.moments.items) }
+    ensures same { (pass.new.actor ≡ pass.old.actor) × (pass.new.clock ≡ pass.old.clock) × (pass.new.steps ≡ pass.old.steps)
+        × (pass.new.bytes ≡ pass.old.bytes) × (pass.new.running ≡ pass.old.running) }
+    ensures enough { 0 < history.old.spare → 0 < spare_of pass.old → IsOk result × (history.new ≡ history.old) × (pass.new ≡ pass.old) }
+    ensures err { OnErr result ((history.new ≡ history.old) × (pass.new ≡ pass.old)) }
+{
+    let before = (history.spare(), pass.spare());
+    history.reserve(1)?;
+    if pass.reserve(1).is_err() {
+        history.lower(before.0);
+        return Err(NoMemory);
+    }
+    Ok(before)
+}
+
+// Lets the room go again.
+fn give_room(history: &mut Log<Entry>, pass: &mut Pass, before: (usize, usize))
+    requires { (before.0 ≤ history.old.spare) × (before.1 ≤ spare_of pass.old) }
+    ensures history { history.new ≡ record { items = history.old.items; spare = before.0 } }
+    ensures moments { (pass.new.moments.items ≡ pass.old.moments.items) × (spare_of pass.new ≡ before.1) }
+    ensures same { (pass.new.actor ≡ pass.old.actor) × (pass.new.clock ≡ pass.old.clock) × (pass.new.steps ≡ pass.old.steps)
+        × (pass.new.bytes ≡ pass.old.bytes) × (pass.new.running ≡ pass.old.running) }
+{
+    history.lower(before.0);
+    pass.lower(before.1);
+}

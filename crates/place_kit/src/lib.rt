@@ -1,0 +1,20 @@
+//! Machines with the histories that made them, and what each actor keeps of its own steps.
+#![tactic(auto)]
+
+mod any;
+mod copies;
+mod entry;
+mod files;
+mod kept;
+mod log;
+mod machine;
+mod names;
+mod opening;
+mod pass;
+mod reply_bytes;
+
+pub use any::AnyKept;
+pub use entry::{Entry, Label, Moment, Note, Refused};
+pub use kept::Kept;
+pub use machine::Machine;
+pub use pass::{MOST_BYTES, MOST_MOMENTS, Pass};

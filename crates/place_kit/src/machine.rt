@@ -1,0 +1,56 @@
+ghost use Rattle.std.specs.Prelude.{◌≡◌, Bool, true, IfOk, OnErr, IsOk};
+ghost use Rattle.store_rules.specs.declared.any.AnyReq.{AnyReq};
+ghost use Rattle.store_rules.specs.declared.any.AnyReply.{AnyReply};
+
+use std::alloc::Global;
+use tect_calls::{AnyReply, AnyReq};
+use tect_ids::NoMemory;
+
+/// A machine that answers one request at a time.
+pub trait Machine: Drop {
+    type Req: Drop;
+
+    type Reply: Drop;
+
+    /// A request and a reply as all places know them.
+    ghost wide: { Self.Req → AnyReq };
+
+    ghost wide_reply: { Self.Reply → AnyReply };
+
+    /// The machine after a request, and what it replies.
+    ghost after: { Self → AnyReq → Self };
+
+    ghost answer: { Self → AnyReq → AnyReply };
+
+    /// The machine with which a place opens, with the root or without, and whether a machine has the root.
+    ghost opening: { Bool → Self };
+
+    ghost rooted: { Self → Bool };
+
+    /// In this state the request takes no memory, and it holds no name.
+    ghost is_free: { Self → AnyReq → Bool };
+
+    /// Whether the root stands here. It takes no memory.
+    fn has_root(&self) -> bool
+        ensures { result ≡ rooted self.now };
+
+    /// What `step` would reply. It changes nothing.
+    fn reply(&self, req: &Self::Req) -> Result<Self::Reply, NoMemory>
+        ensures ok { IfOk result (λ r. wide_reply r ≡ answer self.now (wide req.now)) }
+        ensures free { is_free self.now (wide req.now) ≡ true → IsOk result };
+
+    /// Does the request, and replies. For want of memory nothing is changed.
+    fn step(&mut self, req: &Self::Req) -> Result<Self::Reply, NoMemory>
+        ensures ok { IfOk result (λ r. (wide_reply r ≡ answer self.old (wide req.now)) × (self.new ≡ after self.old (wide req.now))) }
+        ensures err { OnErr result (self.new ≡ self.old) }
+        ensures free { is_free self.old (wide req.now) ≡ true → IsOk result };
+
+    /// The request and its reply once more, as all places know them.
+    fn widen(
+        alloc: Global,
+        req: &Self::Req,
+        reply: &Self::Reply,
+    ) -> Result<(AnyReq, AnyReply), NoMemory>
+        ensures ok { IfOk result (λ p. (p.0 ≡ wide req.now) × (p.1 ≡ wide_reply reply.now)) }
+        ensures free { (s : Self) → is_free s (wide req.now) ≡ true → wide_reply reply.now ≡ answer s (wide req.now) → IsOk result };
+}

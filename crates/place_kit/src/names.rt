@@ -1,0 +1,65 @@
+ghost use Rattle.std.specs.Prelude.{◌≡◌, is_some};
+ghost use Rattle.store_rules.specs.Views.{as_parent};
+
+use crate::copies::{copy_name_reply, copy_name_req};
+use crate::machine::Machine;
+use name_shard::NameShard;
+use std::alloc::Global;
+use store_rules::{NameReply, NameReq};
+use tect_calls::{AnyReply, AnyReq};
+use tect_ids::{NoMemory, ROOT};
+
+impl Machine for NameShard {
+    ghost use Rattle.store_rules.specs.declared.any.AnyReq.TheVariants.{Name};
+    ghost use Rattle.store_rules.specs.declared.any.AnyReply.TheVariants.{Name as name_reply};
+    ghost use Rattle.place_kit.specs.Machines.{name_after, name_replies, name_opening, has_root, name_is_free};
+
+    type Req = NameReq;
+
+    type Reply = NameReply;
+
+    ghost wide = { Name };
+
+    ghost wide_reply = { name_reply };
+
+    ghost after = { name_after };
+
+    ghost answer = { name_replies };
+
+    ghost opening = { name_opening };
+
+    ghost rooted = { has_root };
+
+    ghost is_free = { λ s. name_is_free };
+
+    fn has_root(&self) -> bool {
+        match NameShard::reply(self, &NameReq::CheckDir { dir: ROOT }) {
+            Ok(reply) => is_dir(&reply),
+            Err(NoMemory) => false,
+        }
+    }
+
+    fn reply(&self, req: &NameReq) -> Result<NameReply, NoMemory> {
+        NameShard::reply(self, req)
+    }
+
+    fn step(&mut self, req: &NameReq) -> Result<NameReply, NoMemory> {
+        NameShard::step(self, req)
+    }
+
+    fn widen(
+        alloc: Global,
+        req: &NameReq,
+        reply: &NameReply,
+    ) -> Result<(AnyReq, AnyReply), NoMemory> {
+        let req = copy_name_req(alloc, req)?;
+        let reply = copy_name_reply(alloc, reply)?;
+        Ok((AnyReq::Name(req), AnyReply::Name(reply)))
+    }
+}
+
+fn is_dir(reply: &NameReply) -> bool
+    ensures { result ≡ is_some (as_parent (AnyReply.Name reply.now)) }
+{
+    matches!(reply, NameReply::DirIs { .. })
+}
