@@ -1,6 +1,6 @@
 -- What the types of `Kept` and `Pass` keep, after one item more; and that equal parts make equal values.
-use Rattle.std.proofs.Common.{◌≡◌, ℕ, ◌+◌, ◌<◌, ◌≤◌, ◌^◌, Bool, true, false, List, [], ◌∷◌, ◌++◌, length, Option, Some, None, refl, sym, ◌∙◌, ap, subst, arith, length-append, rules}
-use Rattle.std.specs.Coded.{Coded, Coded-set, coded_bool, ×_prop}
+use Rattle.std.proofs.Common.{◌≡◌, ℕ, ◌+◌, ◌<◌, ◌≤◌, ◌^◌, Bool, false, List, [], ◌∷◌, ◌++◌, length, Option, Some, None, refl, sym, ◌∙◌, ap, subst, arith, length-append}
+use Rattle.std.specs.Coded.{Coded}
 use Rattle.std.specs.declared.snapshot.Snapshot.{Snapshot}
 use Rattle.tect_ids.specs.declared.ids.OpId.{OpId}
 use Rattle.store_rules.specs.declared.any.AnyReq.{AnyReq}
@@ -18,8 +18,8 @@ use Rattle.place_kit.specs.Logged.{Logged}
 use Rattle.place_kit.specs.Passes.{IsPass, IsPass-prop, aside}
 use Rattle.place_kit.specs.Commits.{spare_of, begins}
 use Rattle.place_kit.specs.ReplyBytes.{reply_bytes}
-use Rattle.place_kit.specs.Moments.{trail_of, rises, all_of_actor, steps_count, all_reply_bytes, running_in, running_after}
-use Rattle.place_kit.specs.Replay.{state_after, IsLegal, all_at, stamps_rise, IsKept, IsKept-prop}
+use Rattle.place_kit.specs.Moments.{trail_of, running_in, running_after}
+use Rattle.place_kit.specs.Replay.{IsKept, IsKept-prop}
 use Rattle.place_kit.proofs.Pushes.{rises-raised, rises-push, all_of_actor-push, trail_of-act, trail_of-local, trail_of-len, steps_count-push, steps_count-len, all_reply_bytes-push, running_in-push, state_after-push, IsLegal-push, all_at-push, stamps_rise-push}
 
 pub IsKept-push : {S : Type 0} (after : S → AnyReq → S) (answer : S → AnyReq → AnyReply) (opening : Bool → S)

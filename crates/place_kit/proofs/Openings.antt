@@ -1,16 +1,14 @@
 -- An opening name shard has the root as it was asked for.
-use Rattle.std.proofs.Common.{◌≡◌, Bool, true, false, Option, Some, None, is_some, refl, sym, ap, ◌∙◌, arith}
-use Rattle.tect_ids.specs.declared.ids.DirId.{DirId}
+use Rattle.std.proofs.Common.{◌≡◌, Bool, true, false, Option, Some, None, is_some, refl, arith}
 use Rattle.key_maps.proofs.Lookups.{maps}
-use Rattle.store_rules.specs.declared.any.AnyReq.{AnyReq}
-use Rattle.store_rules.specs.declared.any.AnyReq.TheVariants.{Name, File}
+use Rattle.store_rules.specs.declared.any.AnyReq.TheVariants.{Name}
 use Rattle.store_rules.specs.declared.any.AnyReply.TheVariants as replies
 use Rattle.store_rules.specs.declared.names.Directory.{Directory}
 use Rattle.store_rules.specs.declared.names.NameReq.{NameReq}
 use Rattle.store_rules.specs.declared.names.NameReq.TheVariants as names
 use Rattle.store_rules.specs.declared.names.NameReply.TheVariants.{DirIs, NoDir, Released}
-use Rattle.store_rules.specs.Outcomes.{Outcome, Leaves, Changes, reply, refuse, found}
-use Rattle.store_rules.specs.Names.{Names, name_answer, dir_lists}
+use Rattle.store_rules.specs.Outcomes.{Leaves, Changes, reply, refuse, found}
+use Rattle.store_rules.specs.Names.{Names, dir_lists}
 use Rattle.std.specs.FinMap.{get}
 use Rattle.std.specs.Prelude.{not}
 use Rattle.store_rules.specs.Views.{as_parent}

@@ -1,5 +1,5 @@
 -- What a commit and a note add, and when a pass has no room for them.
-use Rattle.std.specs.Prelude.{◌≡◌, ℕ, ◌+◌, ◌-◌, ◌≤◌, ◌^◌, ◌⊎◌, length, max, Bool, true, false, Option, Some, None}
+use Rattle.std.specs.Prelude.{◌≡◌, ℕ, ◌+◌, ◌-◌, ◌≤◌, ◌^◌, ◌⊎◌, length, max, Bool, true, false, Some, None}
 use Rattle.tect_ids.specs.declared.ids.Place.{Place}
 use Rattle.store_rules.specs.declared.any.AnyReq.{AnyReq}
 use Rattle.store_rules.specs.declared.any.AnyReply.{AnyReply}

@@ -1,8 +1,7 @@
 -- Moments of one actor, in the order in which it met them.
-use Rattle.std.specs.Prelude.{ℕ, ◌+◌, Bool, true, false, ◌&&◌, List, [], ◌∷◌, Option, Some, None, nat_lt, nat_le, ◌==◌}
+use Rattle.std.specs.Prelude.{ℕ, ◌+◌, Bool, true, ◌&&◌, List, [], ◌∷◌, Option, Some, None, nat_lt, nat_le, ◌==◌}
 use Rattle.tect_ids.specs.declared.ids.OpId.{OpId}
 use Rattle.place_kit.specs.declared.entry.Entry.{Entry}
-use Rattle.place_kit.specs.declared.entry.Note.{Note}
 use Rattle.place_kit.specs.declared.entry.Note.TheVariants.{Began, Ended, Stopped}
 use Rattle.place_kit.specs.declared.entry.Moment.{Moment}
 use Rattle.place_kit.specs.declared.entry.Moment.TheVariants.{Act, Local}

@@ -1,6 +1,6 @@
 -- What a pass is.
-use Rattle.std.specs.Prelude.{◌≡◌, ℕ, ◌+◌, ◌-◌, ◌<◌, ◌≤◌, ◌^◌, Bool, true, List, length, Option, Some, None}
-use Rattle.std.specs.Coded.{Coded, Coded-set, coded_bool, coded_ℕ, coded_option, le_prop}
+use Rattle.std.specs.Prelude.{◌≡◌, ℕ, ◌+◌, ◌<◌, ◌≤◌, ◌^◌, Bool, true, length, Option, Some, None}
+use Rattle.std.specs.Coded.{Coded-set, coded_bool, coded_ℕ, coded_option, le_prop}
 use Rattle.tect_ids.specs.declared.ids.OpId.{OpId}
 use Rattle.tect_ids.specs.Codes.{op_code}
 use Rattle.place_kit.specs.declared.entry.Moment.{Moment}

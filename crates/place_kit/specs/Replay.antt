@@ -1,5 +1,5 @@
 -- What a kept machine is: the replay of its history from its base state.
-use Rattle.std.specs.Prelude.{◌≡◌, ℕ, ◌+◌, ◌<◌, ◌≤◌, ◌^◌, Bool, true, false, ◌&&◌, List, [], ◌∷◌, length, nat_lt, ◌==◌}
+use Rattle.std.specs.Prelude.{◌≡◌, ℕ, ◌+◌, ◌≤◌, ◌^◌, Bool, true, false, ◌&&◌, List, [], ◌∷◌, length, nat_lt, ◌==◌}
 use Rattle.std.specs.Coded.{Coded, Coded-set, coded_bool, coded_ℕ, ×_prop, Unit-prop, le_prop}
 use Rattle.tect_ids.specs.declared.ids.Place.{Place}
 use Rattle.store_rules.specs.declared.any.AnyReq.{AnyReq}

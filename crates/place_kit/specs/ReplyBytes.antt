@@ -1,5 +1,5 @@
 -- The bytes of a reply that are counted: those of names, and 32 for each item of a list.
-use Rattle.std.specs.Prelude.{ℕ, ◌+◌, List, length}
+use Rattle.std.specs.Prelude.{ℕ, ◌+◌, length}
 use Rattle.std.specs.List.{sum_by}
 use Rattle.tect_ids.specs.declared.values.Listed.{Listed}
 use Rattle.store_rules.specs.declared.names.NameReply.TheVariants.{Listing}

@@ -1,5 +1,4 @@
-use Rattle.std.proofs.Common.{arith, sym, ap, ◌∙◌, length, inr, refl, ◌≡◌, ◌<◌, ◌≤◌, ◌+◌, ◌^◌}
-use Rattle.std.specs.Prelude.{max}
+use Rattle.std.proofs.Common.{arith, sym, ap, ◌∙◌, refl, ◌+◌}
 use Rattle.place_kit.proofs.Keeping.{IsKept-push, same_kept, same_pass_by_spare, same_log}
 use Rattle.place_kit.specs.declared.entry.Entry.{Entry}
 use Rattle.place_kit.proofs.kept.Kept.do_step.Goals as goal

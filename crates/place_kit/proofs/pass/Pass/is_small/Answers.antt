@@ -1,4 +1,3 @@
-use Rattle.std.proofs.Common.{arith}
 use Rattle.place_kit.proofs.Keeping.{aside-le, few_steps}
 use Rattle.place_kit.proofs.pass.Pass.is_small.Goals as goal
 

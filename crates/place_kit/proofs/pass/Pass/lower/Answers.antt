@@ -1,4 +1,4 @@
-use Rattle.std.proofs.Common.{arith, ap, refl, ◌≡◌, ◌+◌, ◌≤◌, ◌<◌, ◌^◌}
+use Rattle.std.proofs.Common.{arith, ap}
 use Rattle.place_kit.specs.declared.entry.Moment.{Moment}
 use Rattle.place_kit.specs.Logged.{Logged}
 use Rattle.place_kit.proofs.Keeping.{IsPass-room}

@@ -1,6 +1,4 @@
-use Rattle.std.proofs.Common.{arith, ap, refl, ◌≡◌, ◌+◌, ◌≤◌, ◌<◌, ◌^◌}
-use Rattle.place_kit.specs.declared.entry.Moment.{Moment}
-use Rattle.place_kit.specs.Logged.{Logged}
+use Rattle.std.proofs.Common.{arith}
 use Rattle.place_kit.proofs.Keeping.{IsPass-raised, aside-le}
 use Rattle.place_kit.proofs.pass.Pass.raise.Goals as goal
 

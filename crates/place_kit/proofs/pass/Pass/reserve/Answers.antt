@@ -1,6 +1,4 @@
-use Rattle.std.proofs.Common.{arith, ap, refl, ◌≡◌, ◌+◌, ◌≤◌, ◌<◌, ◌^◌}
-use Rattle.place_kit.specs.declared.entry.Moment.{Moment}
-use Rattle.place_kit.specs.Logged.{Logged}
+use Rattle.std.proofs.Common.{arith, refl}
 use Rattle.place_kit.proofs.Keeping.{IsPass-room, same_pass}
 use Rattle.place_kit.proofs.pass.Pass.reserve.Goals as goal
 
