@@ -8,6 +8,3 @@ mod world;
 
 pub use actors::Turned;
 pub use world::World;
-
-#[cfg(test)]
-mod tests;
