@@ -11,23 +11,25 @@ use Rattle.tect_ids.specs.declared.script.Line.TheVariants as lines
 use Rattle.store_rules.specs.declared.any.AnyReq.{AnyReq}
 use Rattle.store_rules.specs.declared.any.AnyReply.{AnyReply}
 use Rattle.world_runs.specs.declared.event.Event.{Event}
-use Rattle.world_runs.specs.declared.event.Event.TheVariants.{Began, Acted, Ended, Stopped, Failed, Dumped}
+use Rattle.world_runs.specs.declared.event.Event.TheVariants.{Began, Refused, Acted, Ended, Stopped, Failed, Dumped}
 
 -- just that many transactions of the op
 abbrev pub Acts : OpId → ℕ → List Event → Type 0
 Acts op n [] = n ≡ 0
 Acts op n (Acted other q x ∷ es) = (other ≡ op) × ((rest : ℕ) × (n ≡ rest + 1) × Acts op rest es)
 Acts op n (Began other c ∷ es) = ⊥
+Acts op n (Refused other c ∷ es) = ⊥
 Acts op n (Ended other a ∷ es) = ⊥
 Acts op n (Stopped other ∷ es) = ⊥
 Acts op n (Failed other a ∷ es) = ⊥
 Acts op n (Dumped ∷ es) = ⊥
 
--- the op comes to its answer, or memory was wanting
+-- the op comes to its answer, or memory or room was wanting
 abbrev pub IsEndOf : OpId → Event → Type 0
 IsEndOf op (Ended other a) = other ≡ op
 IsEndOf op (Failed other a) = other ≡ op
 IsEndOf op (Began other c) = ⊥
+IsEndOf op (Refused other c) = ⊥
 IsEndOf op (Acted other q x) = ⊥
 IsEndOf op (Stopped other) = ⊥
 IsEndOf op Dumped = ⊥
@@ -40,14 +42,26 @@ EndsAfter op n es = (front : List Event) × (end : Event) × (es ≡ front ++ en
 abbrev pub RunsToEnd : OpId → List Event → Type 0
 RunsToEnd op es = (n : ℕ) × EndsAfter op n es
 
+-- the op begins the command, or is refused
+abbrev pub IsBeginOf : OpId → Command → Event → Type 0
+IsBeginOf op c (Began other d) = (other ≡ op) × (d ≡ c)
+IsBeginOf op c (Refused other d) = (other ≡ op) × (d ≡ c)
+IsBeginOf op c (Acted other q x) = ⊥
+IsBeginOf op c (Ended other a) = ⊥
+IsBeginOf op c (Stopped other) = ⊥
+IsBeginOf op c (Failed other a) = ⊥
+IsBeginOf op c Dumped = ⊥
+
 abbrev pub BeginsAndEnds : ℕ → Command → List Event → Type 0
-BeginsAndEnds actor c es = (op : OpId) × (rest : List Event) × (op.actor ≡ actor) × (es ≡ Began op c ∷ rest) × RunsToEnd op rest
+BeginsAndEnds actor c es =
+    (op : OpId) × (begin : Event) × (rest : List Event) × (op.actor ≡ actor) × (es ≡ begin ∷ rest) × IsBeginOf op c begin × RunsToEnd op rest
 
 -- What the line of an actor asks for: busy is its op that has begun and not ended, and next the one after the line.
 -- A step is that many transactions, or fewer and then the end.
 abbrev pub DoesLine : ℕ → Option OpId → Act → List Event → Option OpId → Type 0
 DoesLine actor None (acts.Do c) es next = BeginsAndEnds actor c es × (next ≡ None)
-DoesLine actor None (acts.Begin c) es next = (op : OpId) × (op.actor ≡ actor) × (es ≡ Began op c ∷ []) × (next ≡ Some op)
+DoesLine actor None (acts.Begin c) es next =
+    (op : OpId) × (begin : Event) × (op.actor ≡ actor) × (es ≡ begin ∷ []) × IsBeginOf op c begin × (next ≡ Some op)
 DoesLine actor None (acts.Step n) es next = (es ≡ []) × (next ≡ None)
 DoesLine actor None acts.Run es next = (es ≡ []) × (next ≡ None)
 DoesLine actor None acts.Stop es next = (es ≡ []) × (next ≡ None)
@@ -82,11 +96,12 @@ FollowsFrom busy (lines.Lose disk ∷ ls) es = ⊥
 abbrev pub Follows : List Line → List Event → Type 0
 Follows ls es = FollowsFrom none_busy ls es
 
--- the event is no failure for want of memory
+-- the event is no failure for want of memory or room
 abbrev pub FindsMemory : Event → Type 0
 FindsMemory (Failed op a) = ⊥
+FindsMemory (Refused op c) = ⊥
 FindsMemory _ = Unit {0}
 
--- no op of the history fails
+-- no op of the history fails or is refused
 abbrev pub NoneFails : List Event → Type 0
 NoneFails = AllByRecursion FindsMemory

@@ -7,3 +7,4 @@ pub mod Headline
 pub mod Follows
 pub mod Turns
 pub mod Report
+pub mod Races

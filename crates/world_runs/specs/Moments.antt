@@ -11,10 +11,11 @@ use Rattle.store_rules.specs.declared.any.AnyReply.{AnyReply}
 use Rattle.store_rules.specs.Places.{request_place}
 use Rattle.store_rules.specs.Store.{Store, opening_store, store_reply, store_step}
 use Rattle.store_rules.specs.Views.{is_made}
+use Rattle.op_names.specs.declared.program.Phase.TheVariants.{End}
 use Rattle.op_names.specs.declared.program.Program.{Program}
 use Rattle.op_names.specs.Programs.{object_number, phase_ask, phase_hear, phase_answer, started}
 use Rattle.world_runs.specs.declared.event.Event.{Event}
-use Rattle.world_runs.specs.declared.event.Event.TheVariants.{Began, Acted, Ended, Stopped, Failed, Dumped}
+use Rattle.world_runs.specs.declared.event.Event.TheVariants.{Began, Refused, Acted, Ended, Stopped, Failed, Dumped}
 use Rattle.world_runs.specs.Served.{IsServed}
 
 -- an actor: how many commands it began, the serial of the next object that it makes, and its running command
@@ -72,14 +73,20 @@ pub record CanBegin (a : Actor) (op : OpId) : Type 0 where
   pub few : op.number < 2 ^ 31
   pub is_actor : (1 ≤ op.actor) × (op.actor ≤ 65)
 
--- the answer of a command that ends for want of memory
+-- the answer of an op whose actor had no room to note its begin: no place is numbered 256
+abbrev pub no_room : Answer
+no_room = answers.HistoryFull (record { 0 = 256 })
+
+-- the answer of a command that ends for want of memory, or of room in its actor's own history
 abbrev pub IsLack : Answer → Type 0
 IsLack answers.NoMemory = Unit {0}
+IsLack (answers.HistoryFull p) = Unit {0}
 IsLack _ = ⊥
 
--- What may happen at a moment. Memory may be wanting at any.
+-- What may happen at a moment. Memory may be wanting at any, and room in an actor's own history.
 abbrev pub May : Moment → Event → Type 0
 May m (Began op c) = CanBegin (m.actors op.actor) op × IsServed c
+May m (Refused op c) = CanBegin (m.actors op.actor) op × IsServed c
 May m (Acted op q x) = (asked m op ≡ Some q) × (x ≡ store_reply m.store q)
 May m (Ended op a) = answered m op ≡ Some a
 May m (Stopped op) = (p : Program) × (running m op ≡ Some p)
@@ -99,12 +106,17 @@ next_serial serial x = if is_made x then serial + 1 else serial
 abbrev pub begun : Actor → OpId → Command → Actor
 begun a op c = record a { number = op.number; running = Some (started op c) }
 
+-- an op that is refused has its answer from the first
+abbrev pub refused : Actor → OpId → Command → Actor
+refused a op c = record a { number = op.number; running = Some record { op = op; command = c; phase = End no_room } }
+
 abbrev pub went_on : Counts → Actor → AnyReq → AnyReply → Actor
 went_on counts a q x = record a { serial = next_serial a.serial x; running = heard counts a.serial q x a.running }
 
 -- the moment after an event
 abbrev pub after : Moment → Event → Moment
 after m (Began op c) = with_actor m op.actor (begun (m.actors op.actor) op c)
+after m (Refused op c) = with_actor m op.actor (refused (m.actors op.actor) op c)
 after m (Acted op q x) = with_actor (record m { store = store_step m.store q }) op.actor (went_on m.counts (m.actors op.actor) q x)
 after m (Ended op a) = with_actor m op.actor (record (m.actors op.actor) { running = None })
 after m (Stopped op) = with_actor m op.actor (record (m.actors op.actor) { running = None; stopped = true })

@@ -24,7 +24,7 @@ use Rattle.tree_model.specs.declared.step.TreeReply.{TreeReply}
 use Rattle.tree_model.specs.declared.step.TreeReply.TheVariants.{Ok, Refused}
 use Rattle.tree_model.specs.Tree.{Tree, Allowed, opening_tree, tree_next}
 use Rattle.world_runs.specs.declared.event.Event.{Event}
-use Rattle.world_runs.specs.declared.event.Event.TheVariants.{Began, Acted, Ended, Stopped, Failed, Dumped}
+use Rattle.world_runs.specs.declared.event.Event.TheVariants.{Began, Refused as refusal, Acted, Ended, Stopped, Failed, Dumped}
 
 -- what a reply says to the tree's step
 abbrev pub name_says : NameReply → TreeReply
@@ -98,6 +98,7 @@ told_as op (Some s) x = record { op = op; does = s; says = x } ∷ []
 abbrev pub told_of : Event → List Told
 told_of (Acted op q x) = told_as op (tree_step q x) (says x)
 told_of (Began op c) = []
+told_of (refusal op c) = []
 told_of (Ended op a) = []
 told_of (Stopped op) = []
 told_of (Failed op a) = []

@@ -9,6 +9,12 @@ pub enum Event {
         op: OpId,
         command: Command,
     },
+    /// The op's actor was to begin the command, and its own history had no room left for that: the op has its answer, and
+    /// asks nothing.
+    Refused {
+        op: OpId,
+        command: Command,
+    },
     /// The op's request was done at its shard: one transaction.
     Acted {
         op: OpId,
@@ -24,7 +30,7 @@ pub enum Event {
     Stopped {
         op: OpId,
     },
-    /// The op's command ended for want of memory, with what it had done so far.
+    /// The op's command ended for want of memory, or of room in its actor's own history, with what it had done so far.
     Failed {
         op: OpId,
         answer: Answer,
