@@ -1,0 +1,6 @@
+pub mod Events
+pub mod OwnRuns
+pub mod Limits
+pub mod Woven
+pub mod ClientLines
+pub mod Laws

@@ -1,0 +1,42 @@
+//! What each actor notes of its own, and each shard of the requests that it did, is a run of the world: the laws that make one
+//! history of many, for any order of the shards' transactions. Nothing here is called: each function's contract is a law.
+#![tactic(auto)]
+
+ghost use Rattle.noted_runs.specs.Laws.{OwnRunsMakeRun, RunIsOwnRuns, ActorsAreTheirOwn, OwnLimitsMakeLimits, PlacesReply, WovenConcerns, WovenReplies, ClientsFollow};
+
+/// Where each actor's own events are a run of its programs, and each reply is the one that the store gives after the requests
+/// before it, the whole is a run of the world.
+pub fn own_runs_make_run()
+    ensures { OwnRunsMakeRun }
+{}
+
+/// In a run of the world each actor's own events are a run of its programs, and its state is the one after them; the replies
+/// are the store's.
+pub fn run_is_own_runs()
+    ensures runs { RunIsOwnRuns }
+    ensures states { ActorsAreTheirOwn }
+{}
+
+/// Where each actor's own events keep its limits, the whole history does.
+pub fn own_limits_make_limits()
+    ensures { OwnLimitsMakeLimits }
+{}
+
+/// Where the moments at each place are the history of the machine that it keeps, each at the place of its request, the replies
+/// are those of the whole store.
+pub fn places_reply()
+    ensures { PlacesReply }
+{}
+
+/// What concerns an actor of a history that is woven of moments, refusals and dumps, is woven of its own moments and refusals,
+/// and of the dumps; and its replies are those of the moments alone.
+pub fn woven_concerns()
+    ensures concerns { WovenConcerns }
+    ensures replies { WovenReplies }
+{}
+
+/// Where each client's own events and the dumps follow its own lines and those of the dumps, the whole history follows the
+/// script by client.
+pub fn clients_follow()
+    ensures { ClientsFollow }
+{}
