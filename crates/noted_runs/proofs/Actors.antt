@@ -58,8 +58,8 @@ actor_of_own a Dumped h = cc
 picked : (actors : ℕ → Actor) (next : Actor → Actor) (a b : ℕ) → (if eqb a b then next (actors b) else actors a) ≡ (if eqb b a then next (actors a) else actors a)
 picked actors next a b =
     elim (eqb a b) as (λ t. eqb a b ≡ t → (if t then next (actors b) else actors a) ≡ (if eqb b a then next (actors a) else actors a)) [
-        | true ↦ λ h. let e : a ≡ b = one_number a b h in rw (← e, same_number) refl
-        | false ↦ λ h. let e : eqb b a ≡ false = flipped b a ∙ h in rw e refl
+      | true ↦ λ h. let e : a ≡ b = one_number a b h in rw (← e, same_number) refl
+      | false ↦ λ h. let e : eqb b a ≡ false = flipped b a ∙ h in rw e refl
     ] refl
 
 pub after_actors : (m : Moment) (e : Event) (a : ℕ) → (after m e).actors a ≡ (if is_own a e then own_after m.counts (m.actors a) e else m.actors a)

@@ -25,8 +25,8 @@ first_may : (m : Moment) (e : Event) (es : List Event) → AreOwnRuns m (e ∷ e
 first_may m e es runs =
     let k : ℕ = actor_in e in
     elim (own_of_actor e) [
-        | inl h ↦ first_own m.counts (m.actors k) e (own k es) (is_own k e) h (runs k)
-        | inr d ↦ subst (λ (x : Event). OwnMay (m.actors k) x) (sym d) tt
+      | inl h ↦ first_own m.counts (m.actors k) e (own k es) (is_own k e) h (runs k)
+      | inr d ↦ subst (λ (x : Event). OwnMay (m.actors k) x) (sym d) tt
     ]
 
 -- the other events go on from the moment after it
