@@ -1,3 +1,4 @@
 pub mod Actors
 pub mod Owns
 pub mod Limits
+pub mod Replies
