@@ -4,3 +4,4 @@ pub mod Limits
 pub mod Replies
 pub mod Following
 pub mod Weaving
+pub mod Shown

@@ -47,7 +47,7 @@ other_bytes a (Failed op x) h = refl
 other_bytes a Dumped h = refl
 
 -- a sum over what is own is that over all, where the others count nothing
-own_sum : (a : ℕ) (f : Event → ℕ) → ((e : Event) → is_own a e ≡ false → f e ≡ 0) → (es : List Event) → sum_by f (own a es) ≡ sum_by f es
+pub own_sum : (a : ℕ) (f : Event → ℕ) → ((e : Event) → is_own a e ≡ false → f e ≡ 0) → (es : List Event) → sum_by f (own a es) ≡ sum_by f es
 own_sum a f none [] = refl
 own_sum a f none (e ∷ es) =
     let rest : sum_by f (own a es) ≡ sum_by f es = own_sum a f none es in

@@ -86,10 +86,10 @@ silent_cuts cuts last are = (each cuts are.0, recursion_from_All IsSilent last a
     each [] all = tt
     each (c ∷ cs) all = (recursion_from_All IsSilent c.silent (All-head (λ (d : Cut). All IsSilent d.silent) c cs all), each cs (All-tail (λ (d : Cut). All IsSilent d.silent) c cs all))
 
-keeps : (P : Moment → Type 0) (p : Moment → Bool) (ms : List Moment) → AllByRecursion P ms → AllByRecursion P (filter p ms)
+pub keeps : (P : Moment → Type 0) (p : Moment → Bool) (ms : List Moment) → AllByRecursion P ms → AllByRecursion P (filter p ms)
 keeps P p ms all = recursion_from_All P (filter p ms) (All-filter p P ms (All-from_recursion P ms all))
 
-part_concerns : (actor : ℕ) (silent : List Event) (ms : List Moment) → AllByRecursion IsOwnNote ms → AllByRecursion IsSilent silent
+pub part_concerns : (actor : ℕ) (silent : List Event) (ms : List Moment) → AllByRecursion IsOwnNote ms → AllByRecursion IsSilent silent
     → filter (concerns actor) (events_of ms ++ silent) ≡ events_of (filter (is_of actor) ms) ++ own actor silent
 part_concerns actor silent ms are quiet =
     filter-append (concerns actor) (events_of ms) silent
@@ -118,7 +118,7 @@ woven_concerns actor cuts last ms are quiet = woven_concerns-by actor cuts last 
 -- ---- the replies
 
 -- refusals say nothing of the store
-silent_replies : (s : Store) (es : List Event) → AllByRecursion IsSilent es → RepliesAre s es × (stored_after s es ≡ s)
+pub silent_replies : (s : Store) (es : List Event) → AllByRecursion IsSilent es → RepliesAre s es × (stored_after s es ≡ s)
 silent_replies s [] quiet = (tt, refl)
 silent_replies s (Refused op c ∷ es) quiet = silent_replies s es quiet.1
 silent_replies s (Ended op a ∷ es) quiet = silent_replies s es quiet.1
