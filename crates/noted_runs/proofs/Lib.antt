@@ -5,3 +5,4 @@ pub mod Replies
 pub mod Following
 pub mod Weaving
 pub mod Shown
+pub mod Rooms
