@@ -9,7 +9,7 @@ use Rattle.op_names.specs.declared.program.Phase.TheVariants.{Walk, Bind, Grant,
 use Rattle.op_names.specs.declared.program.Program.{Program}
 use Rattle.op_names.specs.Programs.{object_number, phase_ask, phase_answer}
 use Rattle.world_runs.specs.declared.event.Event.{Event}
-use Rattle.world_runs.specs.declared.event.Event.TheVariants.{Began, Acted, Ended, Stopped, Failed, Dumped}
+use Rattle.world_runs.specs.declared.event.Event.TheVariants.{Began, Refused, Acted, Ended, Stopped, Failed, Dumped}
 use Rattle.world_runs.specs.Moments.{Moment, after, after_all, RunFrom, running, asked, answered, program_ask, program_answer}
 use Rattle.world_runs.specs.Follows.{Acts}
 use Rattle.script_runs.specs.Smooth.{EndIsNext, IsPrompt, EndsAtOnce}
@@ -36,6 +36,7 @@ pub acts_unanswered : (m : Moment) (op : OpId) (n : ℕ) (es more : List Event) 
 acts_unanswered m op n [] more a some acts run says = omega (arith, some, acts)
 acts_unanswered m op n (Acted o q x ∷ es) more a some acts run says = not_both m op q a (rw acts.0 at (run.0).0) says
 acts_unanswered m op n (Began o c ∷ es) more a some acts run says = acts
+acts_unanswered m op n (Refused o c ∷ es) more a some acts run says = acts
 acts_unanswered m op n (Ended o b ∷ es) more a some acts run says = acts
 acts_unanswered m op n (Stopped o ∷ es) more a some acts run says = acts
 acts_unanswered m op n (Failed o b ∷ es) more a some acts run says = acts
@@ -50,6 +51,7 @@ end_still_next op (e ∷ es) fs next = next
 prompt_still : (m : Moment) (e : Event) (es fs : List Event) → IsPrompt m e es → IsPrompt m e (es ++ fs)
 prompt_still m (Acted op q x) es fs prompt = λ a says. end_still_next op es fs (prompt a says)
 prompt_still m (Began op c) es fs prompt = tt
+prompt_still m (Refused op c) es fs prompt = tt
 prompt_still m (Ended op a) es fs prompt = tt
 prompt_still m (Stopped op) es fs prompt = tt
 prompt_still m (Failed op a) es fs prompt = tt
@@ -71,6 +73,7 @@ module _ (op : OpId) where
   ends_next m n [] a b acts run says = refl
   ends_next m n (Acted o q x ∷ es) a b acts run says = absurd (not_both m op q b (rw acts.0 at (run.0).0) says)
   ends_next m n (Began o c ∷ es) a b acts run says = absurd acts
+  ends_next m n (Refused o c ∷ es) a b acts run says = absurd acts
   ends_next m n (Ended o d ∷ es) a b acts run says = absurd acts
   ends_next m n (Stopped o ∷ es) a b acts run says = absurd acts
   ends_next m n (Failed o d ∷ es) a b acts run says = absurd acts
@@ -85,6 +88,7 @@ module _ (op : OpId) where
         end_at_once n (acts.1).0 es a (acts.1).2 run.1,
       )
   end_at_once m n (Began o c ∷ es) a acts run = absurd acts
+  end_at_once m n (Refused o c ∷ es) a acts run = absurd acts
   end_at_once m n (Ended o d ∷ es) a acts run = absurd acts
   end_at_once m n (Stopped o ∷ es) a acts run = absurd acts
   end_at_once m n (Failed o d ∷ es) a acts run = absurd acts
@@ -100,6 +104,7 @@ module _ (op : OpId) where
       let n : Moment = after m (Acted o q x) in
       (λ a says. absurd (acts_unanswered n op rest es more a (omega (arith, later)) (acts.1).2 run.1 (subst (λ (z : OpId). answered n z ≡ Some a) acts.0 says)), take_at_once n k rest es more later (acts.1).2 run.1)
   take_at_once m (suc k) n (Began o c ∷ es) more few acts run = absurd acts
+  take_at_once m (suc k) n (Refused o c ∷ es) more few acts run = absurd acts
   take_at_once m (suc k) n (Ended o d ∷ es) more few acts run = absurd acts
   take_at_once m (suc k) n (Stopped o ∷ es) more few acts run = absurd acts
   take_at_once m (suc k) n (Failed o d ∷ es) more few acts run = absurd acts

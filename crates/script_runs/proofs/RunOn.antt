@@ -65,14 +65,14 @@ module _ (m : Moment) (g : Ghost) (s : AllSound m g) (a : ℕ) (c : Command) (fr
   can = running_ends (after m began) (ghost_after m g began) (event_sound m g began s may) op (started op c) runs
 
   can_begin : CanDo m a None (acts.Begin c)
-  can_begin = record { events = began ∷ []; next = Some op; run = (may, tt); does = (op, refl, refl, refl); none_fails = (tt, tt); at_once = (tt, tt) }
+  can_begin = record { events = began ∷ []; next = Some op; run = (may, tt); does = (op, began, refl, refl, (refl, refl), refl); none_fails = (tt, tt); at_once = (tt, tt) }
 
   can_do : CanDo m a None (acts.Do c)
   can_do = record {
     events = began ∷ to_end (after m began) op can;
     next = None;
     run = (may, can.run);
-    does = ((op, to_end (after m began) op can, refl, refl, (can.count, end_follows (after m began) op can)), refl);
+    does = ((op, began, to_end (after m began) op can, refl, refl, (refl, refl), (can.count, end_follows (after m began) op can)), refl);
     none_fails = (tt, end_none_fails (after m began) op can);
     at_once = (tt, end_at_once op (after m began) can.count can.front can.answer can.acts can.run);
   }
