@@ -1,5 +1,5 @@
 -- the room that the events of one actor's moments take is what its moments cost, and the bytes are those of their replies
-use Rattle.std.proofs.Common.{◌≡◌, ℕ, ◌+◌, Bool, true, false, ◌&&◌, if◌then◌else◌, List, [], ◌∷◌, ◌++◌, refl, sym, ap, ◌∙◌, map, eqb, arith}
+use Rattle.std.proofs.Common.{◌≡◌, ℕ, true, false, if◌then◌else◌, List, [], ◌∷◌, refl, sym, ap, ◌∙◌, eqb, arith}
 use Rattle.std.proofs.lemmas.Bool.{and_parts}
 use Rattle.std.proofs.lemmas.List.Sums.{sum_by-cons}
 use Rattle.std.specs.List.{AllByRecursion, filter}
@@ -10,7 +10,7 @@ use Rattle.place_kit.specs.declared.entry.Moment.{Moment}
 use Rattle.place_kit.specs.declared.entry.Moment.TheVariants.{Act, Local}
 use Rattle.place_kit.specs.declared.entry.Note.{Note}
 use Rattle.place_kit.specs.declared.entry.Note.TheVariants as notes
-use Rattle.place_kit.specs.Moments.{actor_of, all_notes_of, all_of_actor, all_reply_bytes, is_of, moment_cost, moments_cost, op_of, trail_of}
+use Rattle.place_kit.specs.Moments.{actor_of, all_notes_of, all_of_actor, all_reply_bytes, moment_cost, moments_cost, trail_of}
 use Rattle.place_kit.specs.ReplyBytes.{reply_bytes}
 use Rattle.world_runs.specs.declared.event.Event.{Event}
 use Rattle.world_runs.specs.declared.event.Event.TheVariants.{Began, Refused, Acted, Ended, Stopped, Failed, Dumped}
@@ -19,8 +19,6 @@ use Rattle.noted_runs.specs.Events.{end_event, event_of, events_of, own}
 use Rattle.noted_runs.specs.Laws.{IsOwnNote, IsSilent}
 use Rattle.noted_runs.specs.Limits.{event_bytes, event_cost, kept_bytes, used}
 use Rattle.noted_runs.proofs.Actors.{one_number}
-use Rattle.noted_runs.proofs.Limits.{kept_bytes-append, used-append}
-use Rattle.noted_runs.proofs.Shown.{own_events}
 
 -- ---- what a pass says of its notes
 

@@ -1,5 +1,5 @@
 -- what an actor's own events show is told by its own events alone, and what a woven history shows by those of each part
-use Rattle.std.proofs.Common.{◌≡◌, ◌⊎◌, inl, inr, ℕ, ◌+◌, Bool, true, false, cond, if◌then◌else◌, List, [], ◌∷◌, ◌++◌, refl, sym, ap, ◌∙◌, subst, append_assoc, map, eqb}
+use Rattle.std.proofs.Common.{◌≡◌, inl, inr, ℕ, ◌+◌, Bool, true, false, if◌then◌else◌, List, [], ◌∷◌, ◌++◌, refl, sym, ap, ◌∙◌, subst, append_assoc, map, eqb}
 use Rattle.std.proofs.lemmas.List.{append-nil}
 use Rattle.std.proofs.lemmas.List.Elements.{recursion_from_All}
 use Rattle.std.proofs.lemmas.List.Sums.{sum_by-append}
@@ -17,11 +17,10 @@ use Rattle.store_rules.specs.Store.{Store, opening_store}
 use Rattle.place_kit.specs.declared.entry.Moment.{Moment}
 use Rattle.place_kit.specs.declared.entry.Moment.TheVariants.{Act, Local}
 use Rattle.place_kit.specs.declared.entry.Note.TheVariants as notes
-use Rattle.place_kit.specs.Moments.{is_of}
 use Rattle.world_runs.specs.declared.event.Event.{Event}
 use Rattle.world_runs.specs.declared.event.Event.TheVariants.{Began, Refused, Acted, Ended, Stopped, Failed, Dumped}
-use Rattle.world_runs.specs.Moments.{Moment as Instant, opening, after, moment}
-use Rattle.world_runs.specs.Races.{concerns, is_own, own_lines, lines_from, part_lines, race_report, race_report_after}
+use Rattle.world_runs.specs.Moments.{Moment as Instant, moment}
+use Rattle.world_runs.specs.Races.{concerns, is_own, own_lines, lines_from, part_lines, race_report_after}
 use Rattle.world_runs.specs.Report.{answer_line, client_name, is_act_of, lines_at, transactions}
 use Rattle.noted_runs.specs.Events.{end_event, event_of, events_of, own}
 use Rattle.noted_runs.specs.Laws.{IsOwnNote, IsSilent, WovenReports}

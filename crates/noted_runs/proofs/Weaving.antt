@@ -1,13 +1,13 @@
 -- what is woven of moments, refusals and dumps: what concerns an actor of it, and its replies
-use Rattle.std.proofs.Common.{◌≡◌, ◌⊎◌, inl, inr, ℕ, ◌<◌, ◌≤◌, Bool, true, false, not, if◌then◌else◌, List, [], ◌∷◌, ◌++◌, refl, sym, ap, ◌∙◌, subst, append_assoc, map, eqb, nat_le, arith}
-use Rattle.std.proofs.lemmas.Bool.{lt-leb, le-leb, leb-true, leb-false}
-use Rattle.std.proofs.lemmas.List.{append-nil, map-append}
+use Rattle.std.proofs.Common.{◌≡◌, ℕ, ◌<◌, ◌≤◌, Bool, true, false, not, if◌then◌else◌, List, [], ◌∷◌, ◌++◌, refl, sym, ap, ◌∙◌, subst, eqb, nat_le, arith}
+use Rattle.std.proofs.lemmas.Bool.{lt-leb, leb-false}
+use Rattle.std.proofs.lemmas.List.{map-append}
 use Rattle.std.proofs.lemmas.List.Elements.{All-filter, All-from_recursion, All-head, All-tail, filter-append, recursion_from_All}
 use Rattle.std.specs.List.{All, AllByRecursion, filter}
 use Rattle.tect_ids.specs.declared.answer.Answer.{Answer}
 use Rattle.tect_ids.specs.declared.answer.Answer.TheVariants as answers
 use Rattle.tect_ids.specs.declared.ids.OpId.{OpId}
-use Rattle.store_rules.specs.Store.{Store, store_step}
+use Rattle.store_rules.specs.Store.{Store}
 use Rattle.place_kit.specs.declared.entry.Moment.{Moment}
 use Rattle.place_kit.specs.declared.entry.Moment.TheVariants.{Act, Local}
 use Rattle.place_kit.specs.declared.entry.Note.TheVariants as notes
@@ -18,7 +18,7 @@ use Rattle.world_runs.specs.Races.{concerns, is_own}
 use Rattle.noted_runs.specs.Events.{end_event, event_of, events_of, own}
 use Rattle.noted_runs.specs.Laws.{AreSilent, IsOwnNote, IsSilent, StampsRise, WovenConcerns, WovenReplies}
 use Rattle.noted_runs.specs.OwnRuns.{RepliesAre, stored_after}
-use Rattle.noted_runs.specs.Woven.{Cut, is_early, is_late, own_cut, own_cuts, woven}
+use Rattle.noted_runs.specs.Woven.{Cut, is_early, is_late, own_cuts, woven}
 use Rattle.noted_runs.proofs.Actors.{replies-append, replies-front, replies-rest, stored_after-append}
 
 -- ---- what a list keeps
