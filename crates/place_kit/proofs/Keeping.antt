@@ -1,6 +1,8 @@
 -- What the types of `Kept` and `Pass` keep, after one item more; and that equal parts make equal values.
-use Rattle.std.proofs.Common.{◌≡◌, ℕ, ◌+◌, ◌<◌, ◌≤◌, ◌^◌, Bool, false, List, [], ◌∷◌, ◌++◌, length, Option, Some, None, refl, sym, ◌∙◌, ap, subst, arith, length-append}
+use Rattle.std.proofs.Common.{◌≡◌, ℕ, ◌+◌, ◌<◌, ◌≤◌, ◌^◌, Bool, true, false, List, [], ◌∷◌, ◌++◌, length, Option, Some, None, refl, sym, ◌∙◌, ap, subst, arith, length-append}
 use Rattle.std.specs.Coded.{Coded}
+use Rattle.std.proofs.lemmas.Bool.Decides.{nat_tests}
+use Rattle.std.proofs.lemmas.List.Sums.{sum_by_push}
 use Rattle.std.specs.declared.snapshot.Snapshot.{Snapshot}
 use Rattle.tect_ids.specs.declared.ids.OpId.{OpId}
 use Rattle.store_rules.specs.declared.any.AnyReq.{AnyReq}
@@ -15,12 +17,12 @@ use Rattle.place_kit.specs.declared.pass.Pass.{Pass}
 use Rattle.place_kit.specs.declared.kept.Kept.{Kept}
 use Rattle.place_kit.specs.declared.machine.Machine.{Ghosts}
 use Rattle.place_kit.specs.Logged.{Logged}
-use Rattle.place_kit.specs.Passes.{IsPass, IsPass-prop, aside}
+use Rattle.place_kit.specs.Passes.{IsPass, IsPass-prop, aside, is_run_by}
 use Rattle.place_kit.specs.Commits.{spare_of, begins}
 use Rattle.place_kit.specs.ReplyBytes.{reply_bytes}
-use Rattle.place_kit.specs.Moments.{trail_of, running_in, running_after}
+use Rattle.place_kit.specs.Moments.{trail_of, running_in, running_after, op_of, moment_cost}
 use Rattle.place_kit.specs.Replay.{IsKept, IsKept-prop}
-use Rattle.place_kit.proofs.Pushes.{rises-raised, rises-push, all_of_actor-push, trail_of-act, trail_of-local, trail_of-len, steps_count-push, steps_count-len, all_reply_bytes-push, running_in-push, state_after-push, IsLegal-push, all_at-push, stamps_rise-push}
+use Rattle.place_kit.proofs.Pushes.{rises-raised, rises-push, all_of_actor-push, trail_of-act, trail_of-local, trail_of-len, all_notes_of-act, all_notes_of-note, steps_count-push, steps_count-len, all_reply_bytes-push, running_in-push, state_after-push, IsLegal-push, all_at-push, stamps_rise-push}
 
 pub IsKept-push : {S : Type 0} (after : S → AnyReq → S) (answer : S → AnyReq → AnyReply) (opening : Bool → S)
     (label : Label) (machine next base : S) (history : List Entry) (clock count : ℕ) (e : Entry)
@@ -93,6 +95,9 @@ IsPass-room actor clock steps bytes running m n k same room = record {
   counted = rw same k.counted;
   weighed = rw same k.weighed;
   going = rw same k.going;
+  runs_own = k.runs_own;
+  notes_own = rw same k.notes_own;
+  costs = rw same k.costs;
   few = rw same k.few;
   room = room;
   early = k.early;
@@ -106,18 +111,27 @@ IsPass-raised actor clock later steps bytes running m k le early = record {
   counted = k.counted;
   weighed = k.weighed;
   going = k.going;
+  runs_own = k.runs_own;
+  notes_own = k.notes_own;
+  costs = k.costs;
   few = k.few;
   room = k.room;
   early = early;
 }
 
+runs_after : (actor : ℕ) (running : Option OpId) (stamp by : ℕ) (note : Note) → (op_of note).actor ≡ actor → is_run_by actor (running_after running (Local stamp by note)) ≡ true
+runs_after actor running stamp by (Began op command) own = grind (arith, nat_tests)
+runs_after actor running stamp by (Ended op answer) own = refl
+runs_after actor running stamp by (Stopped op) own = refl
+
 pub IsPass-note : (actor clock steps bytes : ℕ) (running next : Option OpId) (m n : Logged Moment) (note : Note)
     → IsPass actor clock steps bytes running m
     → n.items ≡ m.items ++ Local (clock + 1) actor note ∷ []
-    → next ≡ running_after running (Local (clock + 1) actor note)
+    → next ≡ running_after running (Local (clock + 1) actor note) → (op_of note).actor ≡ actor
+    → 1 + aside next ≡ aside running + moment_cost (Local (clock + 1) actor note)
     → length m.items + 1 + aside next ≤ 65536 → aside next ≤ n.spare → clock + 1 + aside next < 2 ^ 64
     → IsPass actor (clock + 1) steps bytes next n
-IsPass-note actor clock steps bytes running next m n note k pushed goes few room early =
+IsPass-note actor clock steps bytes running next m n note k pushed goes owner cost few room early =
     let l : Moment = Local (clock + 1) actor note in
     let trail = trail_of-local m.items (clock + 1) actor note in
     record {
@@ -126,6 +140,9 @@ IsPass-note actor clock steps bytes running next m n note k pushed goes few room
       counted = rw (pushed, trail) k.counted;
       weighed = rw (pushed, trail) k.weighed;
       going = goes ∙ ap (λ r. running_after r l) k.going ∙ sym (running_in-push None m.items l) ∙ ap (running_in None) (sym pushed);
+      runs_own = ap (is_run_by actor) goes ∙ runs_after actor running (clock + 1) actor note owner;
+      notes_own = rw pushed (all_notes_of-note actor m.items (clock + 1) actor note k.notes_own owner);
+      costs = rw pushed (omega (arith, length-append m.items (l ∷ []), sum_by_push moment_cost m.items l, k.costs, cost));
       few = rw pushed (omega (arith, length-append m.items (l ∷ []), few));
       room = room;
       early = early;
@@ -145,6 +162,9 @@ IsPass-act actor clock steps bytes running m n e more k pushed own step later ad
       counted = rw (pushed, trail) (steps_count-push 0 steps (trail_of m.items) e k.counted step);
       weighed = rw (pushed, trail) (adds ∙ ap (λ b. b + reply_bytes e.reply) k.weighed ∙ sym (all_reply_bytes-push (trail_of m.items) e));
       going = k.going ∙ sym (running_in-push None m.items (Act e)) ∙ ap (running_in None) (sym pushed);
+      runs_own = k.runs_own;
+      notes_own = rw pushed (all_notes_of-act actor m.items e k.notes_own);
+      costs = rw pushed (omega (arith, length-append m.items (Act e ∷ []), sum_by_push moment_cost m.items (Act e), k.costs));
       few = rw pushed (omega (arith, length-append m.items (Act e ∷ []), few));
       room = room;
       early = early;
@@ -162,3 +182,14 @@ pub ends_none : (running : Option OpId) (stamp actor : ℕ) (note : Note) → be
 ends_none running stamp actor (Began op command) e = grind arith
 ends_none running stamp actor (Ended op answer) e = refl
 ends_none running stamp actor (Stopped op) e = refl
+
+-- the end of an op takes the room that was put aside
+pub ends_cost : (running : Option OpId) (op : OpId) (stamp actor : ℕ) (note : Note) → begins note ≡ false → running ≡ Some op
+    → 1 + aside None ≡ aside running + moment_cost (Local stamp actor note)
+ends_cost running op stamp actor (Began by command) e h = grind arith
+ends_cost running op stamp actor (Ended by answer) e h = rw h refl
+ends_cost running op stamp actor (Stopped by) e h = rw h refl
+
+-- the op that is running is the actor's
+pub run_by : (actor : ℕ) (running : Option OpId) (op : OpId) → is_run_by actor running ≡ true → running ≡ Some op → op.actor ≡ actor
+run_by actor running op h e = let own = rw e at h in grind (arith, nat_tests, own)

@@ -11,7 +11,7 @@ use Rattle.place_kit.specs.declared.entry.Note.{Note}
 use Rattle.place_kit.specs.declared.entry.Moment.{Moment}
 use Rattle.place_kit.specs.declared.entry.Moment.TheVariants.{Act, Local}
 use Rattle.place_kit.specs.ReplyBytes.{reply_bytes}
-use Rattle.place_kit.specs.Moments.{stamp_of, actor_of, trail_of, rises, all_of_actor, steps_count, all_reply_bytes, running_after, running_in}
+use Rattle.place_kit.specs.Moments.{stamp_of, actor_of, trail_of, rises, all_of_actor, steps_count, all_reply_bytes, running_after, running_in, op_of, all_notes_of}
 use Rattle.place_kit.specs.Replay.{state_after, IsLegal, all_at, stamps_rise}
 
 pub rises-raised : (low high more : ℕ) (ms : List Moment) → rises low high ms ≡ true → high ≤ more → rises low more ms ≡ true
@@ -25,6 +25,17 @@ rises-push low high (x ∷ ms) m h lt = grind (arith, common_steps, rises-push (
 pub all_of_actor-push : (actor : ℕ) (ms : List Moment) (m : Moment) → all_of_actor actor ms ≡ true → actor_of m ≡ actor → all_of_actor actor (ms ++ m ∷ []) ≡ true
 all_of_actor-push actor [] m h e = grind (arith, nat_tests)
 all_of_actor-push actor (x ∷ ms) m h e = grind (arith, common_steps, all_of_actor-push actor ms m)
+
+pub all_notes_of-act : (actor : ℕ) (ms : List Moment) (e : Entry) → all_notes_of actor ms ≡ true → all_notes_of actor (ms ++ Act e ∷ []) ≡ true
+all_notes_of-act actor [] e h = refl
+all_notes_of-act actor (Act x ∷ ms) e h = all_notes_of-act actor ms e h
+all_notes_of-act actor (Local s a n ∷ ms) e h = grind (arith, common_steps, all_notes_of-act actor ms e)
+
+pub all_notes_of-note : (actor : ℕ) (ms : List Moment) (stamp by : ℕ) (note : Note) → all_notes_of actor ms ≡ true → (op_of note).actor ≡ actor
+    → all_notes_of actor (ms ++ Local stamp by note ∷ []) ≡ true
+all_notes_of-note actor [] stamp by note h own = grind (arith, nat_tests)
+all_notes_of-note actor (Act x ∷ ms) stamp by note h own = all_notes_of-note actor ms stamp by note h own
+all_notes_of-note actor (Local s a n ∷ ms) stamp by note h own = grind (arith, common_steps, all_notes_of-note actor ms stamp by note)
 
 pub trail_of-act : (ms : List Moment) (e : Entry) → trail_of (ms ++ Act e ∷ []) ≡ trail_of ms ++ e ∷ []
 trail_of-act [] e = refl

@@ -1,5 +1,6 @@
 -- What a commit and a note add, and when a pass has no room for them.
-use Rattle.std.specs.Prelude.{◌≡◌, ℕ, ◌+◌, ◌-◌, ◌≤◌, ◌^◌, ◌⊎◌, length, max, Bool, true, false, Some, None}
+use Rattle.std.specs.Prelude.{◌≡◌, ℕ, ◌+◌, ◌-◌, ◌≤◌, ◌^◌, ◌⊎◌, length, max, Bool, true, false, Option, Some, None}
+use Rattle.tect_ids.specs.declared.ids.OpId.{OpId}
 use Rattle.tect_ids.specs.declared.ids.Place.{Place}
 use Rattle.store_rules.specs.declared.any.AnyReq.{AnyReq}
 use Rattle.store_rules.specs.declared.any.AnyReply.{AnyReply}
@@ -26,8 +27,8 @@ abbrev pub IsFull : Pass → Type 0
 IsFull p = (MOST_MOMENTS ≤ used p) ⊎ ((MOST_BYTES ≤ p.bytes) ⊎ (2 ^ 63 ≤ p.clock))
 
 -- the beginning of an op would be refused as full: it needs two moments
-abbrev pub IsFullForOp : Pass → Type 0
-IsFullForOp p = (MOST_MOMENTS ≤ used p + 1) ⊎ (2 ^ 63 ≤ p.clock)
+abbrev pub IsFullForBegin : Pass → Type 0
+IsFullForBegin p = (MOST_MOMENTS ≤ used p + 1) ⊎ (2 ^ 63 ≤ p.clock)
 
 -- where a pass itself is full
 abbrev pub pass_place : Place
@@ -51,7 +52,12 @@ local_of p note = Local (p.clock + 1) p.actor note
 abbrev pub next_stamp : ℕ → Pass → ℕ
 next_stamp clock p = max clock p.clock + 1
 
+-- the number of the op that runs; ops are numbered from 1
+abbrev pub op_number : Option OpId → ℕ
+op_number None = 0
+op_number (Some op) = op.number
+
 -- the entry of a commit of the pass at a place whose clock is this
 abbrev pub entry_of : Label → ℕ → Pass → AnyReq → AnyReply → Entry
 entry_of label clock p req reply =
-    record { stamp = next_stamp clock p; place = label.place; actor = p.actor; step = p.steps; req = req; reply = reply }
+    record { stamp = next_stamp clock p; place = label.place; actor = p.actor; number = op_number p.running; step = p.steps; req = req; reply = reply }

@@ -5,3 +5,4 @@ pub mod ReplyBytes
 pub mod Replay
 pub mod Commits
 pub mod Machines
+pub mod Kept

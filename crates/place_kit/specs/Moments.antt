@@ -1,7 +1,9 @@
 -- Moments of one actor, in the order in which it met them.
-use Rattle.std.specs.Prelude.{ℕ, ◌+◌, Bool, true, ◌&&◌, List, [], ◌∷◌, Option, Some, None, nat_lt, nat_le, ◌==◌}
+use Rattle.std.specs.Prelude.{ℕ, ◌+◌, Bool, true, false, ◌&&◌, List, [], ◌∷◌, Option, Some, None, nat_lt, nat_le, ◌==◌}
+use Rattle.std.specs.List.{sum_by}
 use Rattle.tect_ids.specs.declared.ids.OpId.{OpId}
 use Rattle.place_kit.specs.declared.entry.Entry.{Entry}
+use Rattle.place_kit.specs.declared.entry.Note.{Note}
 use Rattle.place_kit.specs.declared.entry.Note.TheVariants.{Began, Ended, Stopped}
 use Rattle.place_kit.specs.declared.entry.Moment.{Moment}
 use Rattle.place_kit.specs.declared.entry.Moment.TheVariants.{Act, Local}
@@ -14,6 +16,19 @@ stamp_of (Local stamp actor note) = stamp
 abbrev pub actor_of : Moment → ℕ
 actor_of (Act e) = e.actor
 actor_of (Local stamp actor note) = actor
+
+-- the number of its place; a note stands behind all places
+abbrev pub place_of_moment : Moment → ℕ
+place_of_moment (Act e) = e.place.0
+place_of_moment (Local stamp actor note) = 256
+
+-- whether it is a transaction at that place
+abbrev pub is_at : ℕ → Moment → Bool
+is_at place (Act e) = e.place.0 == place
+is_at place (Local stamp actor note) = false
+
+abbrev pub is_of : ℕ → Moment → Bool
+is_of actor m = actor_of m == actor
 
 -- the entries alone
 abbrev pub trail_of : List Moment → List Entry
@@ -39,6 +54,26 @@ steps_count first next (e ∷ es) = (e.step == first) && steps_count (first + 1)
 abbrev pub all_reply_bytes : List Entry → ℕ
 all_reply_bytes [] = 0
 all_reply_bytes (e ∷ es) = reply_bytes e.reply + all_reply_bytes es
+
+abbrev pub op_of : Note → OpId
+op_of (Began op command) = op
+op_of (Ended op answer) = op
+op_of (Stopped op) = op
+
+abbrev pub all_notes_of : ℕ → List Moment → Bool
+all_notes_of actor [] = true
+all_notes_of actor (Act e ∷ ms) = all_notes_of actor ms
+all_notes_of actor (Local stamp by note ∷ ms) = ((op_of note).actor == actor) && all_notes_of actor ms
+
+-- the room that it takes of its pass: the beginning of an op takes that of the op's end as well
+abbrev pub moment_cost : Moment → ℕ
+moment_cost (Act e) = 1
+moment_cost (Local stamp actor (Began op command)) = 2
+moment_cost (Local stamp actor (Ended op answer)) = 0
+moment_cost (Local stamp actor (Stopped op)) = 0
+
+abbrev pub moments_cost : List Moment → ℕ
+moments_cost ms = sum_by moment_cost ms
 
 -- the op that has begun and not ended
 abbrev pub running_after : Option OpId → Moment → Option OpId

@@ -1,16 +1,21 @@
 -- What a pass is.
-use Rattle.std.specs.Prelude.{◌≡◌, ℕ, ◌+◌, ◌<◌, ◌≤◌, ◌^◌, Bool, true, length, Option, Some, None}
+use Rattle.std.specs.Prelude.{◌≡◌, ℕ, ◌+◌, ◌<◌, ◌≤◌, ◌^◌, Bool, true, length, Option, Some, None, ◌==◌}
 use Rattle.std.specs.Coded.{Coded-set, coded_bool, coded_ℕ, coded_option, le_prop}
 use Rattle.tect_ids.specs.declared.ids.OpId.{OpId}
 use Rattle.tect_ids.specs.Codes.{op_code}
 use Rattle.place_kit.specs.declared.entry.Moment.{Moment}
 use Rattle.place_kit.specs.Logged.{Logged}
-use Rattle.place_kit.specs.Moments.{trail_of, rises, all_of_actor, steps_count, all_reply_bytes, running_in}
+use Rattle.place_kit.specs.Moments.{trail_of, rises, all_of_actor, steps_count, all_reply_bytes, running_in, all_notes_of, moments_cost}
 
 -- the moment that is put aside for the end of a running op
 abbrev pub aside : Option OpId → ℕ
 aside None = 0
 aside (Some op) = 1
+
+-- the op that runs, if one does, is that actor's
+abbrev pub is_run_by : ℕ → Option OpId → Bool
+is_run_by actor None = true
+is_run_by actor (Some op) = op.actor == actor
 
 -- the moments are one actor's, and the numbers tell of them
 pub record IsPass (actor clock steps bytes : ℕ) (running : Option OpId) (moments : Logged Moment) : Type 0 where
@@ -19,6 +24,9 @@ pub record IsPass (actor clock steps bytes : ℕ) (running : Option OpId) (momen
   pub counted : steps_count 0 steps (trail_of moments.items) ≡ true
   pub weighed : bytes ≡ all_reply_bytes (trail_of moments.items)
   pub going : running ≡ running_in None moments.items
+  pub runs_own : is_run_by actor running ≡ true
+  pub notes_own : all_notes_of actor moments.items ≡ true
+  pub costs : length moments.items + aside running ≡ moments_cost moments.items
   pub few : length moments.items + aside running ≤ 65536
   pub room : aside running ≤ moments.spare
   pub early : clock + aside running < 2 ^ 64

@@ -1,13 +1,14 @@
 use tect_calls::{AnyReply, AnyReq};
 use tect_ids::{Answer, Command, OpId, Place};
 
-/// One transaction that was done, as its place and its actor keep it: when, where, by whom, its number among the actor's
-/// transactions, and what was asked and replied.
+/// One transaction that was done, as its place and its actor keep it: when, where, by whom, the number of the actor's op
+/// that did it (0 where none was running), its number among the actor's transactions, and what was asked and replied.
 #[derive(Debug, Drop)]
 pub struct Entry {
     pub stamp: u64,
     pub place: Place,
     pub actor: u32,
+    pub number: u32,
     pub step: u32,
     pub req: AnyReq,
     pub reply: AnyReply,

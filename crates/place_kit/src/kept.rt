@@ -157,10 +157,12 @@ impl<M: Machine> Kept<M> {
         };
         let place = self.label.place;
         let actor = pass.actor;
+        let number = pass.number();
         self.history.push(Entry {
             stamp,
             place,
             actor,
+            number,
             step,
             req: ours,
             reply: our_reply,
@@ -171,6 +173,7 @@ impl<M: Machine> Kept<M> {
             stamp,
             place,
             actor,
+            number,
             step,
             req: theirs,
             reply: their_reply,

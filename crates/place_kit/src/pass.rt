@@ -27,8 +27,8 @@ pub struct Pass {
 }
 
 impl Pass {
-    ghost use Rattle.place_kit.specs.Commits.{IsFull, IsFullForOp, MayNote, begins, local_of, pass_place, spare_of, used};
-    ghost use Rattle.place_kit.specs.Moments.{running_after};
+    ghost use Rattle.place_kit.specs.Commits.{IsFull, IsFullForBegin, MayNote, begins, local_of, op_number, pass_place, spare_of, used};
+    ghost use Rattle.place_kit.specs.Moments.{running_after, op_of, moment_cost};
 
     /// A pass in which nothing was done. It takes no memory.
     pub fn start(alloc: Global, actor: u32) -> Pass
@@ -67,6 +67,30 @@ impl Pass {
         self.moments.as_slice()
     }
 
+    /// The op that has begun and not ended. It takes no memory.
+    pub fn running(&self) -> Option<OpId>
+        ensures { result ≡ self.now.running }
+    {
+        self.running
+    }
+
+    /// The bytes of the replies that are kept: those of names, and 32 for each item of a list. It takes no memory.
+    pub fn bytes(&self) -> u128
+        ensures { result ≡ self.now.bytes }
+    {
+        self.bytes
+    }
+
+    // The number of the op that is running.
+    pub(crate) fn number(&self) -> u32
+        ensures { result ≡ op_number self.now.running }
+    {
+        match self.running {
+            None => 0,
+            Some(op) => op.number,
+        }
+    }
+
     // How many moments are put aside for the end of a running op.
     pub(crate) fn aside(&self) -> usize
         ensures { result ≡ aside self.now.running }
@@ -88,7 +112,8 @@ impl Pass {
         let _pass = self;
     }
 
-    fn used(&self) -> usize
+    /// How many moments there are, and the one that is put aside for the end of a running op. It takes no memory.
+    pub fn used(&self) -> usize
         ensures { result ≡ used self.now }
     {
         self.is_small();
@@ -111,8 +136,10 @@ impl Pass {
         self.used() >= MOST_MOMENTS as usize || self.bytes >= MOST_BYTES || self.clock >= 1 << 63
     }
 
-    fn is_full_for_op(&self) -> bool
-        ensures { IsTrue result ↔ IsFullForOp self.now }
+    /// Whether the beginning of an op would be refused as full: there is not room for it and for the end of the op, or the
+    /// clock has come to its limit. It takes no memory.
+    pub fn is_full_for_begin(&self) -> bool
+        ensures { IsTrue result ↔ IsFullForBegin self.now }
     {
         self.is_small();
         self.used() + 1 >= MOST_MOMENTS as usize || self.clock >= 1 << 63
@@ -140,6 +167,20 @@ impl Pass {
             Ok(()) => Ok(()),
             Err(NoMemory) => Err(NoMemory),
         }
+    }
+
+    /// Makes room for the beginning of an op and for its end, so that a note of the beginning is refused only as full. For
+    /// want of memory nothing is changed.
+    pub fn reserve_begin(&mut self) -> Result<(), NoMemory>
+        ensures room { OnOk result (2 ≤ spare_of self.new) }
+        ensures keeps { spare_of self.old ≤ spare_of self.new }
+        ensures moments { self.new.moments.items ≡ self.old.moments.items }
+        ensures same { (self.new.actor ≡ self.old.actor) × (self.new.clock ≡ self.old.clock) × (self.new.steps ≡ self.old.steps)
+            × (self.new.bytes ≡ self.old.bytes) × (self.new.running ≡ self.old.running) }
+        ensures enough { 2 ≤ spare_of self.old → IsOk result × (self.new ≡ self.old) }
+        ensures err { OnErr result (self.new ≡ self.old) }
+    {
+        self.reserve(2)
     }
 
     // Lets sure room go.
@@ -178,8 +219,9 @@ impl Pass {
         ensures clock { OnOk result (self.new.clock ≡ self.old.clock + 1) }
         ensures same { OnOk result ((self.new.actor ≡ self.old.actor) × (self.new.steps ≡ self.old.steps) × (self.new.bytes ≡ self.old.bytes)) }
         ensures spare { OnOk result (begins note ≡ false → spare_of self.new ≡ spare_of self.old) }
-        ensures full { (result ≡ Err (Refused.HistoryFull pass_place)) ↔ ((begins note ≡ true) × IsFullForOp self.old) }
-        ensures memory { OnErr result (¬ IsFullForOp self.old → result ≡ Err Refused.NoMemory) }
+        ensures full { (result ≡ Err (Refused.HistoryFull pass_place)) ↔ ((begins note ≡ true) × IsFullForBegin self.old) }
+        ensures memory { OnErr result (¬ IsFullForBegin self.old → result ≡ Err Refused.NoMemory) }
+        ensures begin_free { begins note ≡ true → 2 ≤ spare_of self.old → ¬ IsFullForBegin self.old → IsOk result × (spare_of self.new + 2 ≡ spare_of self.old) }
         ensures ends { begins note ≡ false → IsOk result }
         ensures err { OnErr result (self.new ≡ self.old) }
     {
@@ -197,19 +239,21 @@ impl Pass {
     }
 
     fn begin(&mut self, op: OpId, command: Command) -> Result<(), Refused>
-        requires { self.old.running ≡ None }
+        requires none { self.old.running ≡ None }
+        requires own { op.actor ≡ self.old.actor }
         ensures moments { OnOk result (self.new.moments.items ≡ self.old.moments.items ++ local_of self.old (Note.Began op command) ∷ []) }
         ensures running { OnOk result (self.new.running ≡ Some op) }
         ensures clock { OnOk result (self.new.clock ≡ self.old.clock + 1) }
         ensures same { OnOk result ((self.new.actor ≡ self.old.actor) × (self.new.steps ≡ self.old.steps) × (self.new.bytes ≡ self.old.bytes)) }
-        ensures full { (result ≡ Err (Refused.HistoryFull pass_place)) ↔ IsFullForOp self.old }
-        ensures memory { OnErr result (¬ IsFullForOp self.old → result ≡ Err Refused.NoMemory) }
+        ensures full { (result ≡ Err (Refused.HistoryFull pass_place)) ↔ IsFullForBegin self.old }
+        ensures memory { OnErr result (¬ IsFullForBegin self.old → result ≡ Err Refused.NoMemory) }
+        ensures free { 2 ≤ spare_of self.old → ¬ IsFullForBegin self.old → IsOk result × (spare_of self.new + 2 ≡ spare_of self.old) }
         ensures err { OnErr result (self.new ≡ self.old) }
     {
-        if self.is_full_for_op() {
+        if self.is_full_for_begin() {
             return Err(Refused::HistoryFull { place: Place(256) });
         }
-        let Ok(()) = self.reserve(2) else {
+        let Ok(()) = self.reserve_begin() else {
             return Err(Refused::NoMemory);
         };
         self.add_note(Note::Began { op, command }, Some(op));
@@ -217,7 +261,7 @@ impl Pass {
     }
 
     fn end(&mut self, note: Note)
-        requires running { aside self.old.running ≡ 1 }
+        requires running { self.old.running ≡ Some (op_of note) }
         requires end { begins note ≡ false }
         ensures moments { self.new.moments.items ≡ self.old.moments.items ++ local_of self.old note ∷ [] }
         ensures running { self.new.running ≡ None }
@@ -232,6 +276,8 @@ impl Pass {
     // Adds a note after which that op is running. There is room for it, and for the end of the op.
     fn add_note(&mut self, note: Note, running: Option<OpId>)
         requires running { running ≡ running_after self.old.running (local_of self.old note) }
+        requires own { (op_of note).actor ≡ self.old.actor }
+        requires cost { 1 + aside running ≡ aside self.old.running + moment_cost (local_of self.old note) }
         requires few { length self.old.moments.items + 1 + aside running ≤ MOST_MOMENTS }
         requires room { 1 + aside running ≤ self.old.moments.spare }
         requires early { self.old.clock + 1 + aside running < 2 ^ 64 }

@@ -34,7 +34,7 @@ invariant_of-self-2 g c = record {
       let bounded = k.kept.bounded in
       let max = c.max-stamp.ensures in
       let i = c.in-Ok.ensures.items in
-      let e : Entry = record { stamp = c.max-stamp.result + 1; place = k.label.place; actor = c.make_room.new.pass.actor; step = c.make_room.new.pass.steps; req = c.in_ok-ours.ours; reply = c.in_ok-ours.our_reply } in
+      let e : Entry = record { stamp = c.max-stamp.result + 1; place = k.label.place; actor = c.make_room.new.pass.actor; number = c.number-number.result; step = c.make_room.new.pass.steps; req = c.in_ok-ours.ours; reply = c.in_ok-ours.our_reply } in
       let w = c.in_ok-ours.ensures.ok in
       let r = c.in_ok-reply.ensures.ok in
       let s = c.in-Ok-step.ensures.ok in
