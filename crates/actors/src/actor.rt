@@ -4,7 +4,7 @@ ghost use Rattle.tect_ids.specs.declared.ids.Counts.{Counts};
 ghost use Rattle.store_rules.specs.declared.any.AnyReq.{AnyReq};
 ghost use Rattle.store_rules.specs.Places.{request_place};
 ghost use Rattle.tect_calls.specs.Knowing.{IsActor};
-ghost use Rattle.world_runs.specs.Moments.{idle_actor, begun, went_on, program_ask, program_answer};
+ghost use Rattle.world_runs.specs.Moments.{idle_actor, begun, refused, went_on, next_serial, program_ask, program_answer};
 ghost use Rattle.actors.specs.ActorState.{op_of, next_op_of};
 ghost use Rattle.actors.specs.Hearing.{IsOfIts, gone_on};
 
@@ -97,6 +97,22 @@ impl Actor {
         Ok(())
     }
 
+    /// Begins its next op with that command, which has its answer from the first: there is no room to note that it begins.
+    /// It takes no memory.
+    pub fn begin_refused(&mut self, command: Command)
+        requires idle { IsNone self.old.state.running }
+        requires goes_on { self.old.state.stopped ≡ false }
+        requires few { self.old.state.number + 1 < 2 ^ 32 }
+        ensures { self.new ≡ record self.old { state = refused self.old.state (next_op_of self.old) command } }
+    {
+        let op = OpId {
+            actor: self.memory.actor(),
+            number: self.number + 1,
+        };
+        self.number += 1;
+        self.running = Some(Running::refused(self.alloc, op, command));
+    }
+
     /// The request that its command makes next, with the tokens that it needs; none where it has its answer, or where no
     /// command runs. Nothing is changed.
     pub fn next(&mut self) -> Result<Option<Asked>, NoMemory>
@@ -146,6 +162,23 @@ impl Actor {
         let heard = self.heard(place, reply)?;
         self.go_on(heard);
         Ok(())
+    }
+
+    /// Its command ends at the reply to its request, for want of memory to go on. Where an object was made, a serial is
+    /// taken all the same. It takes no memory.
+    pub fn drop_after(&mut self, reply: &AnyReply)
+        requires few { self.old.state.serial + 1 < 2 ^ 32 }
+        ensures { self.new ≡ record self.old {
+          state = record self.old.state {
+            serial = next_serial self.old.state.serial reply.now;
+            running = None;
+          };
+        } }
+    {
+        if reply.is_made() {
+            self.memory.take_serial();
+        }
+        self.running = None;
     }
 
     /// The answer that its command has come to, if it has.
