@@ -79,6 +79,17 @@ impl Actor {
         self.stopped
     }
 
+    // The op of its next command.
+    fn next_op(&self) -> OpId
+        requires { self.now.state.number + 1 < 2 ^ 32 }
+        ensures { result ≡ next_op_of self.now }
+    {
+        OpId {
+            actor: self.memory.actor(),
+            number: self.number + 1,
+        }
+    }
+
     /// Begins its next op with that command. For want of memory it stays as it was.
     pub fn begin(&mut self, command: Command) -> Result<(), NoMemory>
         requires idle { IsNone self.old.state.running }
@@ -87,10 +98,7 @@ impl Actor {
         ensures ok { OnOk result (self.new ≡ record self.old { state = begun self.old.state (next_op_of self.old) command }) }
         ensures err { OnErr result (self.new ≡ self.old) }
     {
-        let op = OpId {
-            actor: self.memory.actor(),
-            number: self.number + 1,
-        };
+        let op = self.next_op();
         let running = Running::start(self.alloc, op, command)?;
         self.number += 1;
         self.running = Some(running);
@@ -105,10 +113,7 @@ impl Actor {
         requires few { self.old.state.number + 1 < 2 ^ 32 }
         ensures { self.new ≡ record self.old { state = refused self.old.state (next_op_of self.old) command } }
     {
-        let op = OpId {
-            actor: self.memory.actor(),
-            number: self.number + 1,
-        };
+        let op = self.next_op();
         self.number += 1;
         self.running = Some(Running::refused(self.alloc, op, command));
     }
