@@ -1,0 +1,3 @@
+pub mod IsKeyed
+pub mod Keyed
+pub mod Merged

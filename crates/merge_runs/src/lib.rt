@@ -1,4 +1,6 @@
 //! One history of all places and of all actors.
 #![tactic(auto)]
 
+mod keyed;
 mod same;
+mod sorted;
