@@ -6,4 +6,5 @@ pub mod Search
 pub mod Trails
 pub mod Places
 pub mod Known
+pub mod Keys
 pub mod Gathers
