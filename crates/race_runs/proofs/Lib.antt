@@ -1,0 +1,9 @@
+pub mod Lists
+pub mod Owned
+pub mod ClientLines
+pub mod Timing
+pub mod OwnLines
+pub mod Stores
+pub mod Parts
+pub mod Cuts
+pub mod Told
