@@ -52,7 +52,7 @@ pub quiet_now : (counts : Counts) (names : List (List ℕ)) (low k : ℕ) (ks : 
     → AllGoOn counts names low (k ∷ ks) before ms ss → AllByRecursion IsSilent (silent_now ss)
 quiet_now counts names low k ks before ms ss go = every_piece IsSilent (λ s. (part_of s).silent) ss (λ i s e. (now_own counts names low k ks before ms s (go i s e).1).quiet)
 
-quiet_last : (counts : Counts) (names : List (List ℕ)) (low : ℕ) (clocks : List ℕ) (before : List Event) (ms : List Moment) (ss : List Story)
+pub quiet_last : (counts : Counts) (names : List (List ℕ)) (low : ℕ) (clocks : List ℕ) (before : List Event) (ms : List Moment) (ss : List Story)
     → AllGoOn counts names low clocks before ms ss → AllByRecursion IsSilent (silent_last ss)
 quiet_last counts names low clocks before ms ss go = every_piece IsSilent (λ s. s.last.silent) ss (λ i s e. (go i s e).1.owned.1.quiet)
 
@@ -107,6 +107,15 @@ all_go_on counts names low k ks before ms ss go notes i t e =
     let next : GoesOn counts names k ks ((before ++ part_now k ms ss) ++ Dumped ∷ []) (filter (is_late k) ms) (rest_of s) =
         goes_on counts names low k ks before (part_now k ms ss) ms s here.1 (own_now counts names low k ks before ms ss go notes i s at.1) in
     subst (λ (r : Story). (r.actor ≡ 1 + i) × GoesOn counts names k ks ((before ++ part_now k ms ss) ++ Dumped ∷ []) (filter (is_late k) ms) r) (sym at.2) (here.0, next)
+
+-- the events of refused ops before each dump
+pub quiet_cuts : (counts : Counts) (names : List (List ℕ)) (low : ℕ) (clocks : List ℕ) (before : List Event) (ms : List Moment) (ss : List Story)
+    → AllGoOn counts names low clocks before ms ss → AllByRecursion IsOwnNote ms → AllByRecursion (λ c. AllByRecursion IsSilent c.silent) (cuts_of clocks ss)
+quiet_cuts counts names low [] before ms ss go notes = tt
+quiet_cuts counts names low (k ∷ ks) before ms ss go notes =
+    (quiet_now counts names low k ks before ms ss go,
+     quiet_cuts counts names k ks ((before ++ part_now k ms ss) ++ Dumped ∷ []) (filter (is_late k) ms) (map rest_of ss)
+     (all_go_on counts names low k ks before ms ss go notes) (every-filter IsOwnNote (is_late k) ms notes))
 
 -- ---- what concerns one actor
 

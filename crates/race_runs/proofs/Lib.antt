@@ -7,3 +7,4 @@ pub mod Stores
 pub mod Parts
 pub mod Cuts
 pub mod Told
+pub mod Gathered

@@ -1,7 +1,8 @@
 -- facts of each element of a list, by recursion on it; and filters
-use Rattle.std.proofs.Common.{◌≡◌, ℕ, ◌+◌, ◌<◌, ◌≤◌, Bool, true, false, cond, if◌then◌else◌, Option, Some, None, List, [], ◌∷◌, ◌++◌, length, get_or, refl, sym, ap, ◌∙◌, subst, map, zero, suc, arith}
+use Rattle.std.proofs.Common.{◌≡◌, ℕ, ◌+◌, ◌<◌, ◌≤◌, Bool, true, false, cond, if◌then◌else◌, Option, Some, None, List, [], ◌∷◌, ◌++◌, length, get_or, refl, sym, ap, ◌∙◌, subst, map, zero, suc, eqb, arith}
 use Rattle.std.specs.List.{AllByRecursion, All, filter, slice_get, flat_map}
 use Rattle.std.proofs.lemmas.List.Elements.{filter_passes, recursion_from_All}
+use Rattle.noted_runs.proofs.Actors.{same_number}
 use Rattle.std.proofs.lemmas.Option.{get_or_from_slice_get, slice_get_within}
 
 pub every-append : {X : Type 0} (P : X → Type 0) (xs ys : List X) → AllByRecursion P xs → AllByRecursion P ys → AllByRecursion P (xs ++ ys)
@@ -93,3 +94,19 @@ pub has_place : {X : Type 0} (xs : List X) (i : ℕ) → i < length xs → (x : 
 has_place [] i h = absurd (omega arith)
 has_place (x ∷ xs) zero h = (x, refl)
 has_place (x ∷ xs) (suc i) h = has_place xs i (omega arith)
+
+-- what holds of the elements of each kind holds of all, where the kinds are all that there are
+every_of_kinds : {X : Type 0} (P : X → Type 0) (b : Bool) (x : X) (xs : List X) → AllByRecursion P (if b then x ∷ xs else xs) → AllByRecursion P xs
+every_of_kinds P true x xs h = h.1
+every_of_kinds P false x xs h = h
+
+first_of_kind : {X : Type 0} (P : X → Type 0) (b : Bool) (x : X) (xs : List X) → b ≡ true → AllByRecursion P (if b then x ∷ xs else xs) → P x
+first_of_kind P true x xs e h = h.0
+first_of_kind P false x xs e h = absurd (cc)
+
+pub every_kind : {X : Type 0} (P : X → Type 0) (kind : X → ℕ) (K : ℕ → Type 0) (xs : List X) → ((n : ℕ) → K n → AllByRecursion P (filter (λ x. eqb (kind x) n) xs))
+    → AllByRecursion (λ x. K (kind x)) xs → AllByRecursion P xs
+every_kind P kind K [] h known = tt
+every_kind P kind K (x ∷ xs) h known =
+    (first_of_kind P (eqb (kind x) (kind x)) x (filter (λ y. eqb (kind y) (kind x)) xs) (same_number (kind x)) (h (kind x) known.0),
+     every_kind P kind K xs (λ n k. every_of_kinds P (eqb (kind x) n) x (filter (λ y. eqb (kind y) n) xs) (h n k)) known.1)
