@@ -1,5 +1,5 @@
 -- what a client's lines ask for concerns that client alone; and the dumps alone follow the lines of an actor that is no client
-use Rattle.std.proofs.Common.{◌≡◌, ◌≢◌, ◌⊎◌, inl, inr, ℕ, ◌+◌, ◌<◌, ◌≤◌, Bool, true, false, Option, Some, None, List, [], ◌∷◌, ◌++◌, length, refl, sym, ap, ◌∙◌, subst, eqb, map, arith}
+use Rattle.std.proofs.Common.{◌≡◌, ◌≢◌, ◌⊎◌, inl, inr, ℕ, ◌<◌, ◌≤◌, true, Option, Some, None, List, [], ◌∷◌, ◌++◌, length, refl, sym, ap, ◌∙◌, subst, eqb, map, arith}
 use Rattle.std.proofs.lemmas.List.Sums.{length-filter}
 use Rattle.std.specs.List.{AllByRecursion, filter, count_by}
 use Rattle.tect_ids.specs.declared.ids.OpId.{OpId}
@@ -11,7 +11,7 @@ use Rattle.tect_ids.specs.declared.script.Line.TheVariants as lines
 use Rattle.world_runs.specs.declared.event.Event.{Event}
 use Rattle.world_runs.specs.declared.event.Event.TheVariants.{Began, Refused, Acted, Ended, Stopped, Failed, Dumped}
 use Rattle.world_runs.specs.Races.{concerns, line_concerns}
-use Rattle.world_runs.specs.Follows.{Acts, IsEndOf, EndsAfter, RunsToEnd, IsBeginOf, DoesLine}
+use Rattle.world_runs.specs.Follows.{Acts, IsEndOf, EndsAfter, IsBeginOf, DoesLine}
 use Rattle.noted_runs.specs.ClientLines.{DoesLines}
 use Rattle.noted_runs.proofs.Actors.{same_number, other_number}
 use Rattle.race_runs.specs.Gathered.{IsLineOf, is_dump}

@@ -1,10 +1,9 @@
 -- the events of all up to the next dump, and what of the whole history concerns one actor
-use Rattle.std.proofs.Common.{◌≡◌, ◌≢◌, ◌⊎◌, inl, inr, ℕ, ◌+◌, ◌<◌, ◌≤◌, Bool, true, false, Option, Some, None, List, [], ◌∷◌, ◌++◌, length, map, refl, sym, ap, ◌∙◌, subst, zero, suc, arith}
-use Rattle.std.proofs.lemmas.List.{append-nil, append_assoc}
+use Rattle.std.proofs.Common.{◌≡◌, ◌≢◌, ℕ, ◌+◌, false, Option, Some, List, [], ◌∷◌, ◌++◌, map, refl, sym, ap, ◌∙◌, subst}
 use Rattle.std.proofs.lemmas.List.Elements.{filter-append}
 use Rattle.std.proofs.lemmas.Option.{slice_get-map}
 use Rattle.std.specs.Option.{option_map}
-use Rattle.std.specs.List.{AllByRecursion, filter, flat_map, slice_get}
+use Rattle.std.specs.List.{AllByRecursion, filter, slice_get}
 use Rattle.tect_ids.specs.declared.ids.Counts.{Counts}
 use Rattle.place_kit.specs.declared.entry.Moment.{Moment}
 use Rattle.place_kit.specs.Moments.{is_of}
@@ -15,11 +14,12 @@ use Rattle.noted_runs.specs.Events.{events_of, own}
 use Rattle.noted_runs.specs.Laws.{IsOwnNote, IsSilent}
 use Rattle.noted_runs.specs.Woven.{is_early, is_late, woven}
 use Rattle.noted_runs.proofs.Actors.{own-append}
-use Rattle.race_runs.specs.Stories.{Part, Story, Timely, part_events, all_moments, with_dumps}
+use Rattle.noted_runs.proofs.Shown.{IsNoDump, silent_no_dump}
+use Rattle.race_runs.specs.Stories.{Part, Story, part_events, all_moments, with_dumps}
 use Rattle.race_runs.specs.Gathered.{part_of, rest_of, silent_now, silent_last, cuts_of, history_of_race}
 use Rattle.race_runs.proofs.ClientLines.{dumps_at}
-use Rattle.race_runs.proofs.Lists.{every-append, every-filter, every_weaker, every_piece, filter_none, filter_swap, mapped_at}
-use Rattle.race_runs.proofs.Owned.{AreOwn, ArePlain, IsPlain, silent_is_plain, moments_are_plain, plain_own, own_moments}
+use Rattle.race_runs.proofs.Lists.{every-append, every-filter, every_weaker, every_piece, filter_none, mapped_at}
+use Rattle.race_runs.proofs.Owned.{ArePlain, moments_are_plain, plain_own, own_moments}
 use Rattle.race_runs.proofs.Parts.{OwnPart, OwnParts, GoesOn, EachHas, ended_is, none_ended, news_now, goes_on, own_of_one, own_of_none}
 
 -- so each client goes on, and they are numbered from 1 on
@@ -57,7 +57,7 @@ pub quiet_last : (counts : Counts) (names : List (List ℕ)) (low : ℕ) (clocks
 quiet_last counts names low clocks before ms ss go = every_piece IsSilent (λ s. s.last.silent) ss (λ i s e. (go i s e).1.owned.1.quiet)
 
 with_silent : (ms : List Moment) (silent : List Event) → AllByRecursion IsSilent silent → ArePlain (events_of ms ++ silent)
-with_silent ms silent q = every-append IsPlain (events_of ms) silent (moments_are_plain ms) (every_weaker IsSilent IsPlain silent_is_plain silent q)
+with_silent ms silent q = every-append IsNoDump (events_of ms) silent (moments_are_plain ms) (every_weaker IsSilent IsNoDump silent_no_dump silent q)
 
 pub plain_now : (counts : Counts) (names : List (List ℕ)) (low k : ℕ) (ks : List ℕ) (before : List Event) (ms : List Moment) (ss : List Story)
     → AllGoOn counts names low (k ∷ ks) before ms ss → ArePlain (part_now k ms ss)
@@ -74,8 +74,11 @@ pub own_now : (counts : Counts) (names : List (List ℕ)) (low k : ℕ) (ks : Li
     → own s.actor (part_now k ms ss) ≡ part_events (part_of s)
 own_now counts names low k ks before ms ss go notes i s e =
     own-append s.actor (events_of (filter (is_early k) ms)) (silent_now ss)
-    ∙ rw (own_moments s.actor (filter (is_early k) ms) (every-filter IsOwnNote (is_early k) ms notes), news_now counts names low k ks before ms s (go i s e).1,
-          own_of_one (λ t. (part_of t).silent) 1 ss (now_silent counts names low k ks before ms ss go) i s e) refl
+    ∙ rw (
+      own_moments s.actor (filter (is_early k) ms) (every-filter IsOwnNote (is_early k) ms notes),
+      news_now counts names low k ks before ms s (go i s e).1,
+      own_of_one (λ t. (part_of t).silent) 1 ss (now_silent counts names low k ks before ms ss go) i s e,
+    ) refl
 
 pub own_last : (counts : Counts) (names : List (List ℕ)) (low : ℕ) (before : List Event) (ms : List Moment) (ss : List Story)
     → AllGoOn counts names low [] before ms ss → AllByRecursion IsOwnNote ms → (i : ℕ) (s : Story) → slice_get ss i ≡ Some s
@@ -105,17 +108,18 @@ all_go_on counts names low k ks before ms ss go notes i t e =
     let s : Story = at.0 in
     let here : (s.actor ≡ 1 + i) × GoesOn counts names low (k ∷ ks) before ms s = go i s at.1 in
     let next : GoesOn counts names k ks ((before ++ part_now k ms ss) ++ Dumped ∷ []) (filter (is_late k) ms) (rest_of s) =
-        goes_on counts names low k ks before (part_now k ms ss) ms s here.1 (own_now counts names low k ks before ms ss go notes i s at.1) in
+    goes_on counts names low k ks before (part_now k ms ss) ms s here.1 (own_now counts names low k ks before ms ss go notes i s at.1) in
     subst (λ (r : Story). (r.actor ≡ 1 + i) × GoesOn counts names k ks ((before ++ part_now k ms ss) ++ Dumped ∷ []) (filter (is_late k) ms) r) (sym at.2) (here.0, next)
 
 -- the events of refused ops before each dump
 pub quiet_cuts : (counts : Counts) (names : List (List ℕ)) (low : ℕ) (clocks : List ℕ) (before : List Event) (ms : List Moment) (ss : List Story)
     → AllGoOn counts names low clocks before ms ss → AllByRecursion IsOwnNote ms → AllByRecursion (λ c. AllByRecursion IsSilent c.silent) (cuts_of clocks ss)
 quiet_cuts counts names low [] before ms ss go notes = tt
-quiet_cuts counts names low (k ∷ ks) before ms ss go notes =
-    (quiet_now counts names low k ks before ms ss go,
-     quiet_cuts counts names k ks ((before ++ part_now k ms ss) ++ Dumped ∷ []) (filter (is_late k) ms) (map rest_of ss)
-     (all_go_on counts names low k ks before ms ss go notes) (every-filter IsOwnNote (is_late k) ms notes))
+quiet_cuts counts names low (k ∷ ks) before ms ss go notes = (
+  quiet_now counts names low k ks before ms ss go,
+  quiet_cuts counts names k ks ((before ++ part_now k ms ss) ++ Dumped ∷ []) (filter (is_late k) ms) (map rest_of ss)
+      (all_go_on counts names low k ks before ms ss go notes) (every-filter IsOwnNote (is_late k) ms notes),
+)
 
 -- ---- what concerns one actor
 
@@ -144,10 +148,10 @@ client_concerns counts names low [] before ms ss go notes i s e =
     ∙ ap (λ (ps : List Part). with_dumps ps s.last) (sym (none_ended low s.ended s.last (go i s e).1.timely))
 client_concerns counts names low (k ∷ ks) before ms ss go notes i s e =
     let next : AllGoOn counts names k ks ((before ++ part_now k ms ss) ++ Dumped ∷ []) (filter (is_late k) ms) (map rest_of ss) =
-        all_go_on counts names low k ks before ms ss go notes in
+    all_go_on counts names low k ks before ms ss go notes in
     let rest : filter (concerns s.actor) (history_of_race ks (map rest_of ss) (filter (is_late k) ms)) ≡ with_dumps (rest_of s).ended s.last =
-        client_concerns counts names k ks ((before ++ part_now k ms ss) ++ Dumped ∷ []) (filter (is_late k) ms) (map rest_of ss) next
-        (every-filter IsOwnNote (is_late k) ms notes) i (rest_of s) (mapped_here ss i s e) in
+    client_concerns counts names k ks ((before ++ part_now k ms ss) ++ Dumped ∷ []) (filter (is_late k) ms) (map rest_of ss) next
+    (every-filter IsOwnNote (is_late k) ms notes) i (rest_of s) (mapped_here ss i s e) in
     ap (λ (es : List Event). filter (concerns s.actor) es) (history_next k ks ss ms)
     ∙ concerns_dump s.actor (part_now k ms ss) (history_of_race ks (map rest_of ss) (filter (is_late k) ms)) (plain_now counts names low k ks before ms ss go)
     ∙ rw (own_now counts names low k ks before ms ss go notes i s e, rest) (ap (λ (ps : List Part). with_dumps ps s.last) (sym (ended_is low k ks s (go i s e).1.timely)))
@@ -164,13 +168,13 @@ stranger_concerns counts names low [] before ms ss go notes b stranger others =
     ∙ own_stranger b ms (silent_last ss) notes others (own_of_none (λ t. t.last.silent) 1 ss (last_silent counts names low [] before ms ss go) b stranger)
 stranger_concerns counts names low (k ∷ ks) before ms ss go notes b stranger others =
     let next : AllGoOn counts names k ks ((before ++ part_now k ms ss) ++ Dumped ∷ []) (filter (is_late k) ms) (map rest_of ss) =
-        all_go_on counts names low k ks before ms ss go notes in
+    all_go_on counts names low k ks before ms ss go notes in
     let rest : filter (concerns b) (history_of_race ks (map rest_of ss) (filter (is_late k) ms)) ≡ dumps_at ks =
-        stranger_concerns counts names k ks ((before ++ part_now k ms ss) ++ Dumped ∷ []) (filter (is_late k) ms) (map rest_of ss) next
-        (every-filter IsOwnNote (is_late k) ms notes) b (stranger_stays b ss stranger) (every-filter (λ m. is_of b m ≡ false) (is_late k) ms others) in
+    stranger_concerns counts names k ks ((before ++ part_now k ms ss) ++ Dumped ∷ []) (filter (is_late k) ms) (map rest_of ss) next
+    (every-filter IsOwnNote (is_late k) ms notes) b (stranger_stays b ss stranger) (every-filter (λ m. is_of b m ≡ false) (is_late k) ms others) in
     let none : own b (part_now k ms ss) ≡ [] =
-        own_stranger b (filter (is_early k) ms) (silent_now ss) (every-filter IsOwnNote (is_early k) ms notes) (every-filter (λ m. is_of b m ≡ false) (is_early k) ms others)
-        (own_of_none (λ t. (part_of t).silent) 1 ss (now_silent counts names low k ks before ms ss go) b stranger) in
+    own_stranger b (filter (is_early k) ms) (silent_now ss) (every-filter IsOwnNote (is_early k) ms notes) (every-filter (λ m. is_of b m ≡ false) (is_early k) ms others)
+    (own_of_none (λ t. (part_of t).silent) 1 ss (now_silent counts names low k ks before ms ss go) b stranger) in
     ap (λ (es : List Event). filter (concerns b) es) (history_next k ks ss ms)
     ∙ concerns_dump b (part_now k ms ss) (history_of_race ks (map rest_of ss) (filter (is_late k) ms)) (plain_now counts names low k ks before ms ss go)
     ∙ rw (none, rest) refl

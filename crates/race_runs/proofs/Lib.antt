@@ -2,7 +2,7 @@ pub mod Lists
 pub mod Owned
 pub mod ClientLines
 pub mod Timing
-pub mod OwnLines
+pub mod PartLines
 pub mod Stores
 pub mod Parts
 pub mod Cuts

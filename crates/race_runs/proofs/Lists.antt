@@ -1,5 +1,5 @@
 -- facts of each element of a list, by recursion on it; and filters
-use Rattle.std.proofs.Common.{◌≡◌, ℕ, ◌+◌, ◌<◌, ◌≤◌, Bool, true, false, cond, if◌then◌else◌, Option, Some, None, List, [], ◌∷◌, ◌++◌, length, get_or, refl, sym, ap, ◌∙◌, subst, map, zero, suc, eqb, arith}
+use Rattle.std.proofs.Common.{◌≡◌, ℕ, ◌<◌, Bool, true, false, if◌then◌else◌, Some, List, [], ◌∷◌, ◌++◌, length, refl, ap, subst, map, zero, suc, eqb, arith}
 use Rattle.std.specs.List.{AllByRecursion, All, filter, slice_get, flat_map}
 use Rattle.std.proofs.lemmas.List.Elements.{filter_passes, recursion_from_All}
 use Rattle.noted_runs.proofs.Actors.{same_number}
@@ -43,37 +43,8 @@ pub filter_none : {X : Type 0} (p : X → Bool) (xs : List X) → AllByRecursion
 filter_none p [] h = refl
 filter_none p (x ∷ xs) h = rw h.0 (filter_none p xs h.1)
 
--- two tests that agree at each element of the list
-pub filter_same : {X : Type 0} (p q : X → Bool) (xs : List X) → AllByRecursion (λ x. p x ≡ q x) xs → filter p xs ≡ filter q xs
-filter_same p q [] h = refl
-filter_same p q (x ∷ xs) h = rw (h.0, filter_same p q xs h.1) refl
-
 pub passes : {X : Type 0} (p : X → Bool) (xs : List X) → AllByRecursion (λ x. p x ≡ true) (filter p xs)
 passes p xs = recursion_from_All (λ x. p x ≡ true) (filter p xs) (filter_passes p xs)
-
-swap_step : {X : Type 0} (p q : X → Bool) (x : X) (ys zs : List X) → filter p ys ≡ filter q zs → (a b : Bool) → p x ≡ a → q x ≡ b
-    → filter p (if b then x ∷ ys else ys) ≡ filter q (if a then x ∷ zs else zs)
-swap_step p q x ys zs e true true h k = rw (h, k) (ap (λ r. x ∷ r) e)
-swap_step p q x ys zs e true false h k = rw k e
-swap_step p q x ys zs e false true h k = rw h e
-swap_step p q x ys zs e false false h k = e
-
-pub filter_swap : {X : Type 0} (p q : X → Bool) (xs : List X) → filter p (filter q xs) ≡ filter q (filter p xs)
-filter_swap p q [] = refl
-filter_swap p q (x ∷ xs) = swap_step p q x (filter q xs) (filter p xs) (filter_swap p q xs) (p x) (q x) refl refl
-
--- a test that passes no more than another
-pub filter_within : {X : Type 0} (p q : X → Bool) → ((x : X) → p x ≡ true → q x ≡ true) → (xs : List X) → filter p (filter q xs) ≡ filter p xs
-filter_within p q f [] = refl
-filter_within {X} p q f (x ∷ xs) =
-    let rest : filter p (filter q xs) ≡ filter p xs = filter_within p q f xs in
-    elim (q x) as (λ b. q x ≡ b → filter p (if b then x ∷ filter q xs else filter q xs) ≡ filter p (x ∷ xs)) [
-      | true ↦ λ h. ap (λ (r : List X). if p x then x ∷ r else r) rest
-      | false ↦ λ h. elim (p x) as (λ a. p x ≡ a → filter p (filter q xs) ≡ (if a then x ∷ filter p xs else filter p xs)) [
-            | true ↦ λ k. let t : q x ≡ true = f x k in absurd (cc)
-            | false ↦ λ k. rest
-        ] refl
-    ] refl
 
 -- ---- by places
 
@@ -107,6 +78,7 @@ first_of_kind P false x xs e h = absurd (cc)
 pub every_kind : {X : Type 0} (P : X → Type 0) (kind : X → ℕ) (K : ℕ → Type 0) (xs : List X) → ((n : ℕ) → K n → AllByRecursion P (filter (λ x. eqb (kind x) n) xs))
     → AllByRecursion (λ x. K (kind x)) xs → AllByRecursion P xs
 every_kind P kind K [] h known = tt
-every_kind P kind K (x ∷ xs) h known =
-    (first_of_kind P (eqb (kind x) (kind x)) x (filter (λ y. eqb (kind y) (kind x)) xs) (same_number (kind x)) (h (kind x) known.0),
-     every_kind P kind K xs (λ n k. every_of_kinds P (eqb (kind x) n) x (filter (λ y. eqb (kind y) n) xs) (h n k)) known.1)
+every_kind P kind K (x ∷ xs) h known = (
+  first_of_kind P (eqb (kind x) (kind x)) x (filter (λ y. eqb (kind y) (kind x)) xs) (same_number (kind x)) (h (kind x) known.0),
+  every_kind P kind K xs (λ n k. every_of_kinds P (eqb (kind x) n) x (filter (λ y. eqb (kind y) n) xs) (h n k)) known.1,
+)

@@ -1,6 +1,6 @@
 -- events that are all one actor's own
-use Rattle.std.proofs.Common.{◌≡◌, ◌≢◌, ◌⊎◌, inl, inr, ℕ, ◌+◌, Bool, true, false, if◌then◌else◌, Option, Some, None, List, [], ◌∷◌, ◌++◌, refl, sym, ap, ◌∙◌, subst, eqb, map, arith}
-use Rattle.std.specs.List.{AllByRecursion, All, filter}
+use Rattle.std.proofs.Common.{◌≡◌, ◌≢◌, ℕ, true, false, if◌then◌else◌, List, [], ◌∷◌, refl, sym, ap, ◌∙◌, eqb}
+use Rattle.std.specs.List.{AllByRecursion, filter}
 use Rattle.tect_ids.specs.declared.ids.OpId.{OpId}
 use Rattle.tect_ids.specs.declared.answer.Answer.{Answer}
 use Rattle.tect_ids.specs.declared.answer.Answer.TheVariants as answers
@@ -9,12 +9,13 @@ use Rattle.place_kit.specs.declared.entry.Moment.TheVariants.{Act, Local}
 use Rattle.place_kit.specs.declared.entry.Note.TheVariants as notes
 use Rattle.place_kit.specs.Moments.{is_of}
 use Rattle.world_runs.specs.declared.event.Event.{Event}
-use Rattle.world_runs.specs.declared.event.Event.TheVariants.{Began, Refused, Acted, Ended, Stopped, Failed, Dumped}
 use Rattle.world_runs.specs.Races.{is_own, concerns}
 use Rattle.noted_runs.specs.Events.{end_event, event_of, events_of, own}
-use Rattle.noted_runs.specs.Laws.{IsOwnNote, IsSilent}
-use Rattle.noted_runs.proofs.Actors.{actor_of_own, same_number}
-use Rattle.race_runs.proofs.Lists.{filter_all, filter_none, filter_same, every_weaker, every_always}
+use Rattle.noted_runs.specs.Laws.{IsOwnNote}
+use Rattle.noted_runs.proofs.Actors.{actor_of_own}
+use Rattle.noted_runs.proofs.Shown.{IsNoDump, moment_no_dump, no_dump_own}
+use Rattle.noted_runs.proofs.Weaving.{filter_agree_where}
+use Rattle.race_runs.proofs.Lists.{filter_all, filter_none, every_weaker}
 
 abbrev pub AreOwn : ℕ → List Event → Type 0
 AreOwn actor es = AllByRecursion (λ e. is_own actor e ≡ true) es
@@ -22,13 +23,8 @@ AreOwn actor es = AllByRecursion (λ e. is_own actor e ≡ true) es
 abbrev pub AllConcern : ℕ → List Event → Type 0
 AllConcern actor es = AllByRecursion (λ e. concerns actor e ≡ true) es
 
--- no dump
-abbrev pub IsPlain : Event → Type 0
-IsPlain Dumped = ⊥
-IsPlain _ = Unit {0}
-
 abbrev pub ArePlain : List Event → Type 0
-ArePlain es = AllByRecursion IsPlain es
+ArePlain es = AllByRecursion IsNoDump es
 
 pub own_of_own : (a : ℕ) (es : List Event) → AreOwn a es → own a es ≡ es
 own_of_own a es h = filter_all (is_own a) es h
@@ -42,46 +38,18 @@ others_own a b es d h = filter_none (is_own b) es (every_weaker (λ e. is_own a 
 
 -- ---- what is no dump concerns its own actor alone
 
-pub own_is_plain : (a : ℕ) (e : Event) → is_own a e ≡ true → IsPlain e
-own_is_plain a Dumped h = absurd (cc)
-own_is_plain a _ h = tt
-
-pub silent_is_plain : (e : Event) → IsSilent e → IsPlain e
-silent_is_plain Dumped h = h
-silent_is_plain _ h = tt
-
-pub plain_concerns : (a : ℕ) (e : Event) → IsPlain e → concerns a e ≡ is_own a e
-plain_concerns a Dumped h = absurd h
-plain_concerns a (Began op c) h = refl
-plain_concerns a (Refused op c) h = refl
-plain_concerns a (Acted op q x) h = refl
-plain_concerns a (Ended op x) h = refl
-plain_concerns a (Stopped op) h = refl
-plain_concerns a (Failed op x) h = refl
-
 pub plain_own : (a : ℕ) (es : List Event) → ArePlain es → filter (concerns a) es ≡ own a es
-plain_own a es h = filter_same (concerns a) (is_own a) es (every_weaker IsPlain (λ e. concerns a e ≡ is_own a e) (λ e k. plain_concerns a e k) es h)
+plain_own a es h = filter_agree_where IsNoDump (concerns a) (is_own a) (λ e k. sym (no_dump_own a e k)) es h
 
 pub concerned_own : (a : ℕ) (es : List Event) → ArePlain es → AllConcern a es → AreOwn a es
 concerned_own a [] h k = tt
-concerned_own a (e ∷ es) h k = (sym (plain_concerns a e h.0) ∙ k.0, concerned_own a es h.1 k.1)
+concerned_own a (e ∷ es) h k = (no_dump_own a e h.0 ∙ k.0, concerned_own a es h.1 k.1)
 
 -- ---- moments
 
-end_is_plain : (op : OpId) (x : Answer) → IsPlain (end_event op x)
-end_is_plain op answers.NoMemory = tt
-end_is_plain op (answers.HistoryFull p) = tt
-end_is_plain op _ = tt
-
-moment_is_plain : (m : Moment) → IsPlain (event_of m)
-moment_is_plain (Act e) = tt
-moment_is_plain (Local stamp actor (notes.Began op c)) = tt
-moment_is_plain (Local stamp actor (notes.Ended op a)) = end_is_plain op a
-moment_is_plain (Local stamp actor (notes.Stopped op)) = tt
-
 pub moments_are_plain : (ms : List Moment) → ArePlain (events_of ms)
 moments_are_plain [] = tt
-moments_are_plain (m ∷ ms) = (moment_is_plain m, moments_are_plain ms)
+moments_are_plain (m ∷ ms) = (moment_no_dump m, moments_are_plain ms)
 
 own_end : (a : ℕ) (op : OpId) (x : Answer) → is_own a (end_event op x) ≡ eqb op.actor a
 own_end a op answers.NoMemory = refl

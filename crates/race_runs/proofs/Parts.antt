@@ -1,22 +1,23 @@
 -- what each client did up to the next dump, and from then on
-use Rattle.std.proofs.Common.{◌≡◌, ◌≢◌, ◌⊎◌, inl, inr, ℕ, ◌+◌, ◌<◌, ◌≤◌, Bool, true, false, Option, Some, None, List, [], ◌∷◌, ◌++◌, length, map, refl, sym, ap, ◌∙◌, subst, add-zero, zero, suc, arith}
-use Rattle.std.proofs.lemmas.List.{append-nil, append_assoc}
-use Rattle.std.specs.List.{AllByRecursion, All, filter, flat_map, slice_get}
+use Rattle.std.proofs.Common.{◌≡◌, ◌≢◌, ℕ, ◌+◌, true, Some, List, [], ◌∷◌, ◌++◌, refl, sym, ap, ◌∙◌, subst, zero, suc, arith}
+use Rattle.std.proofs.lemmas.List.{append-nil}
+use Rattle.std.specs.List.{AllByRecursion, filter, flat_map, slice_get}
 use Rattle.tect_ids.specs.declared.ids.Counts.{Counts}
-use Rattle.tect_ids.specs.declared.script.ReportLine.{ReportLine}
 use Rattle.place_kit.specs.declared.entry.Moment.{Moment}
 use Rattle.place_kit.specs.Moments.{is_of}
 use Rattle.world_runs.specs.declared.event.Event.{Event}
 use Rattle.world_runs.specs.declared.event.Event.TheVariants.{Dumped}
-use Rattle.world_runs.specs.Races.{is_own, concerns, own_lines}
+use Rattle.world_runs.specs.Races.{is_own, concerns}
 use Rattle.noted_runs.specs.Events.{events_of, own}
-use Rattle.noted_runs.specs.Laws.{IsOwnNote, IsSilent}
+use Rattle.noted_runs.specs.Laws.{IsSilent}
 use Rattle.noted_runs.specs.Woven.{is_early, is_late}
 use Rattle.noted_runs.proofs.Actors.{own-append}
+use Rattle.noted_runs.proofs.Shown.{IsNoDump, silent_no_dump}
+use Rattle.noted_runs.proofs.Weaving.{filter-swap}
 use Rattle.race_runs.specs.Stories.{Part, Story, Timely, Answers, part_events, all_moments, all_events, with_dumps}
-use Rattle.race_runs.specs.Gathered.{part_of, rest_of, silent_now, silent_last}
-use Rattle.race_runs.proofs.Lists.{every-append, every-front, every-rest, every-filter, every_weaker, every_piece, filter_swap, mapped_at}
-use Rattle.race_runs.proofs.Owned.{AreOwn, AllConcern, ArePlain, IsPlain, own_of_own, others_own, silent_is_plain, moments_are_plain, concerned_own, own_moments}
+use Rattle.race_runs.specs.Gathered.{part_of, rest_of}
+use Rattle.race_runs.proofs.Lists.{every-append, every-front, every-rest, every_weaker}
+use Rattle.race_runs.proofs.Owned.{AreOwn, AllConcern, own_of_own, others_own, moments_are_plain, concerned_own}
 use Rattle.race_runs.proofs.Timing.{early_news, late_news}
 
 -- a part's events are the actor's, and those that no moment notes are of refused ops
@@ -31,7 +32,7 @@ OwnParts actor ended last = AllByRecursion (OwnPart actor) ended × OwnPart acto
 own_part : (a : ℕ) (p : Part) → AllByRecursion IsSilent p.silent → AllConcern a (part_events p) → OwnPart a p
 own_part a p quiet all = record {
   noted = concerned_own a (events_of p.news) (moments_are_plain p.news) (every-front (λ e. concerns a e ≡ true) (events_of p.news) p.silent all);
-  silent = concerned_own a p.silent (every_weaker IsSilent IsPlain silent_is_plain p.silent quiet) (every-rest (λ e. concerns a e ≡ true) (events_of p.news) p.silent all);
+  silent = concerned_own a p.silent (every_weaker IsSilent IsNoDump silent_no_dump p.silent quiet) (every-rest (λ e. concerns a e ≡ true) (events_of p.news) p.silent all);
   quiet = quiet;
 }
 
@@ -79,7 +80,7 @@ pub news_now : (counts : Counts) (names : List (List ℕ)) (low k : ℕ) (ks : L
 news_now counts names low k ks before ms s g =
     let is : s.ended ≡ part_of s ∷ (rest_of s).ended = ended_is low k ks s g.timely in
     let t : Timely low (k ∷ ks) (part_of s ∷ (rest_of s).ended) s.last = subst (λ (ps : List Part). Timely low (k ∷ ks) ps s.last) is g.timely in
-    filter_swap (is_of s.actor) (is_early k) ms ∙ ap (λ (ns : List Moment). filter (is_early k) ns) g.trail
+    filter-swap (is_of s.actor) (is_early k) ms ∙ ap (λ (ns : List Moment). filter (is_early k) ns) g.trail
     ∙ ap (λ (ps : List Part). filter (is_early k) (all_moments ps s.last)) is ∙ early_news low k ks (part_of s) (rest_of s).ended s.last t
 
 pub goes_on : (counts : Counts) (names : List (List ℕ)) (low k : ℕ) (ks : List ℕ) (before part : List Event) (ms : List Moment) (s : Story)
@@ -90,15 +91,15 @@ goes_on counts names low k ks before part ms s g own_is =
     let t : Timely low (k ∷ ks) (part_of s ∷ (rest_of s).ended) s.last = subst (λ (ps : List Part). Timely low (k ∷ ks) ps s.last) is g.timely in
     let o : OwnParts s.actor (part_of s ∷ (rest_of s).ended) s.last = subst (λ (ps : List Part). OwnParts s.actor ps s.last) is g.owned in
     let a : Answers counts names s.actor (own s.actor before) (part_of s ∷ (rest_of s).ended) s.last =
-        subst (λ (ps : List Part). Answers counts names s.actor (own s.actor before) ps s.last) is g.answers in
+    subst (λ (ps : List Part). Answers counts names s.actor (own s.actor before) ps s.last) is g.answers in
     let past : own s.actor ((before ++ part) ++ Dumped ∷ []) ≡ own s.actor before ++ part_events (part_of s) =
-        own-append s.actor (before ++ part) (Dumped ∷ []) ∙ append-nil (own s.actor (before ++ part)) ∙ own-append s.actor before part
-        ∙ ap (λ (es : List Event). own s.actor before ++ es) own_is in
+    own-append s.actor (before ++ part) (Dumped ∷ []) ∙ append-nil (own s.actor (before ++ part)) ∙ own-append s.actor before part
+    ∙ ap (λ (es : List Event). own s.actor before ++ es) own_is in
     record {
       timely = t.2;
       owned = (o.0.1, o.1);
-      trail = filter_swap (is_of s.actor) (is_late k) ms ∙ ap (λ (ns : List Moment). filter (is_late k) ns) g.trail
-              ∙ ap (λ (ps : List Part). filter (is_late k) (all_moments ps s.last)) is ∙ late_news low k ks (part_of s) (rest_of s).ended s.last t;
+      trail = filter-swap (is_of s.actor) (is_late k) ms ∙ ap (λ (ns : List Moment). filter (is_late k) ns) g.trail
+          ∙ ap (λ (ps : List Part). filter (is_late k) (all_moments ps s.last)) is ∙ late_news low k ks (part_of s) (rest_of s).ended s.last t;
       answers = subst (λ (es : List Event). Answers counts names s.actor es (rest_of s).ended s.last) (sym past) a.1;
     }
 

@@ -1,5 +1,5 @@
 -- the store behind the moments up to a dump's clock
-use Rattle.std.proofs.Common.{◌≡◌, ℕ, ◌+◌, ◌<◌, ◌≤◌, Bool, true, false, List, [], ◌∷◌, ◌++◌, refl, sym, ap, ◌∙◌, subst, arith}
+use Rattle.std.proofs.Common.{◌≡◌, ℕ, ◌≤◌, List, [], ◌∷◌, ◌++◌, sym, ap, ◌∙◌, arith}
 use Rattle.std.proofs.lemmas.List.Elements.{filter-append}
 use Rattle.std.proofs.lemmas.List.{append_assoc, map-append}
 use Rattle.std.specs.List.{AllByRecursion, filter}
@@ -7,27 +7,17 @@ use Rattle.store_rules.specs.Store.{Store, opening_store}
 use Rattle.place_kit.specs.declared.entry.Moment.{Moment}
 use Rattle.place_kit.specs.Moments.{stamp_of}
 use Rattle.world_runs.specs.declared.event.Event.{Event}
-use Rattle.world_runs.specs.declared.event.Event.TheVariants.{Began, Refused, Acted, Ended, Stopped, Failed, Dumped}
+use Rattle.world_runs.specs.declared.event.Event.TheVariants.{Dumped}
 use Rattle.noted_runs.specs.Events.{event_of, events_of}
 use Rattle.noted_runs.specs.Laws.{IsSilent, StampsRise}
 use Rattle.noted_runs.specs.OwnRuns.{stored_after}
 use Rattle.noted_runs.specs.Woven.{is_early, is_late}
 use Rattle.noted_runs.proofs.Actors.{stored_after-append}
+use Rattle.noted_runs.proofs.Weaving.{silent_replies, stamps_split}
 use Rattle.race_runs.specs.Gathered.{store_at}
 use Rattle.race_runs.specs.Stories.{Part, Timely}
-use Rattle.race_runs.proofs.Timing.{AllUpTo, early_all, early_first, early_up_to}
+use Rattle.race_runs.proofs.Timing.{AllUpTo, early_all, early_up_to}
 use Rattle.race_runs.proofs.Lists.{every-append, every_always}
-
--- events of refused ops change no store
-pub silent_stores : (s : Store) (es : List Event) → AllByRecursion IsSilent es → stored_after s es ≡ s
-silent_stores s [] h = refl
-silent_stores s (Refused op c ∷ es) h = silent_stores s es h.1
-silent_stores s (Ended op a ∷ es) h = silent_stores s es h.1
-silent_stores s (Stopped op ∷ es) h = silent_stores s es h.1
-silent_stores s (Failed op a ∷ es) h = silent_stores s es h.1
-silent_stores s (Began op c ∷ es) h = absurd h.0
-silent_stores s (Acted op q x ∷ es) h = absurd h.0
-silent_stores s (Dumped ∷ es) h = absurd h.0
 
 -- What was done before is what these moments say, all of which came up to the clock; then it is so of the part up to the clock too.
 part_stores : (s : Store) (before : List Event) (past now : List Moment) (silent : List Event) → AllByRecursion IsSilent silent
@@ -36,7 +26,7 @@ part_stores : (s : Store) (before : List Event) (past now : List Moment) (silent
 part_stores s before past now silent quiet e =
     stored_after-append s before (events_of now ++ silent) ∙ ap (λ (t : Store). stored_after t (events_of now ++ silent)) e
     ∙ stored_after-append (stored_after s (events_of past)) (events_of now) silent
-    ∙ silent_stores (stored_after (stored_after s (events_of past)) (events_of now)) silent quiet
+    ∙ (silent_replies (stored_after (stored_after s (events_of past)) (events_of now)) silent quiet).1
     ∙ sym (stored_after-append s (events_of past) (events_of now))
     ∙ ap (λ (es : List Event). stored_after s es) (sym (map-append event_of past now))
 
@@ -45,7 +35,7 @@ pub part_store : (k : ℕ) (before : List Event) (past rest : List Moment) (sile
     → stored_after opening_store (before ++ (events_of (filter (is_early k) rest) ++ silent)) ≡ store_at k (past ++ rest)
 part_store k before past rest silent quiet up e =
     let early : filter (is_early k) (past ++ rest) ≡ past ++ filter (is_early k) rest =
-        filter-append (is_early k) past rest ∙ ap (λ (ms : List Moment). ms ++ filter (is_early k) rest) (early_all k past up) in
+    filter-append (is_early k) past rest ∙ ap (λ (ms : List Moment). ms ++ filter (is_early k) rest) (early_all k past up) in
     part_stores opening_store before past (filter (is_early k) rest) silent quiet e ∙ ap (λ (ms : List Moment). stored_after opening_store (events_of ms)) (sym early)
 
 pub dumped_store : (k : ℕ) (before : List Event) (past rest : List Moment) (silent : List Event) → AllByRecursion IsSilent silent
@@ -60,7 +50,7 @@ dumped_store k before past rest silent quiet e =
 
 pub all_moments_stay : (k : ℕ) (past rest : List Moment) → StampsRise rest → (past ++ filter (is_early k) rest) ++ filter (is_late k) rest ≡ past ++ rest
 all_moments_stay k past rest rise =
-    append_assoc past (filter (is_early k) rest) (filter (is_late k) rest) ∙ ap (λ (ms : List Moment). past ++ ms) (early_first k rest rise)
+    append_assoc past (filter (is_early k) rest) (filter (is_late k) rest) ∙ ap (λ (ms : List Moment). past ++ ms) (stamps_split k rest rise)
 
 pub past_up_to : (k : ℕ) (past rest : List Moment) → AllUpTo k past → AllUpTo k (past ++ filter (is_early k) rest)
 past_up_to k past rest up = every-append (λ m. stamp_of m ≤ k) past (filter (is_early k) rest) up (early_up_to k rest)

@@ -1,15 +1,13 @@
 -- the moments up to a dump's clock, and those behind it
-use Rattle.std.proofs.Common.{◌≡◌, ◌≢◌, ◌⊎◌, inl, inr, ℕ, ◌+◌, ◌<◌, ◌≤◌, Bool, true, false, not, nat_le, if◌then◌else◌, Option, Some, None, List, [], ◌∷◌, ◌++◌, length, refl, sym, ap, ◌∙◌, subst, arith}
-use Rattle.std.proofs.lemmas.List.Elements.{filter-append, recursion_from_All, All-from_recursion}
-use Rattle.std.proofs.lemmas.List.{append-nil, append_assoc}
-use Rattle.std.proofs.lemmas.Bool.{cases_lt}
-use Rattle.std.specs.List.{AllByRecursion, All, filter}
+use Rattle.std.proofs.Common.{◌≡◌, ℕ, ◌<◌, ◌≤◌, true, false, not, List, [], ◌∷◌, refl, ap, ◌∙◌, arith}
+use Rattle.std.proofs.lemmas.List.Elements.{filter-append, recursion_from_All}
+use Rattle.std.proofs.lemmas.List.{append-nil}
+use Rattle.std.specs.List.{AllByRecursion, filter}
 use Rattle.place_kit.specs.declared.entry.Moment.{Moment}
 use Rattle.place_kit.specs.Moments.{stamp_of}
-use Rattle.noted_runs.specs.Laws.{StampsRise}
 use Rattle.noted_runs.specs.Woven.{is_early, is_late}
 use Rattle.race_runs.specs.Stories.{Part, Timely, all_moments}
-use Rattle.race_runs.proofs.Lists.{every-append, every-filter, every_weaker, filter_all, filter_none, passes}
+use Rattle.race_runs.proofs.Lists.{every-append, every_weaker, filter_all, filter_none, passes}
 
 -- each is stamped up to the number, or above it
 abbrev pub AllUpTo : ℕ → List Moment → Type 0
@@ -64,36 +62,8 @@ late_news low k ks p ps last t =
     filter-append (is_late k) p.news (all_moments ps last)
     ∙ rw (late_none k p.news (news_up_to low k ks p ps last t), late_all k (all_moments ps last) (later k ks ps last t.2)) refl
 
--- ---- what all noted, in the order of the stamps
-
-above_from : (k : ℕ) (m : Moment) (ms : List Moment) → k < stamp_of m → AllByRecursion (λ n. stamp_of m ≤ stamp_of n) ms → AllAbove k ms
-above_from k m ms h rise = every_weaker (λ n. stamp_of m ≤ stamp_of n) (λ n. k < stamp_of n) (λ n u. omega arith) ms rise
-
--- the moments up to a clock stand before the others
-pub early_first : (k : ℕ) (ms : List Moment) → StampsRise ms → filter (is_early k) ms ++ filter (is_late k) ms ≡ ms
-early_first k [] rise = refl
-early_first k (m ∷ ms) rise =
-    elim (cases_lt k (stamp_of m)) [
-      | inl h ↦ (let above : AllAbove k ms = above_from k m ms h (recursion_from_All (λ n. stamp_of m ≤ stamp_of n) ms rise.0) in
-                rw (early_none k (m ∷ ms) (h, above), late_all k (m ∷ ms) (h, above)) refl)
-      | inr h ↦ (let e : is_early k m ≡ true = up_to_is_early k m h in
-                rw e (ap (λ ns. m ∷ ns) (early_first k ms rise.1)))
-    ]
-
 early_is_up_to : (k : ℕ) (m : Moment) → is_early k m ≡ true → stamp_of m ≤ k
 early_is_up_to k m h = grind arith
 
 pub early_up_to : (k : ℕ) (ms : List Moment) → AllUpTo k (filter (is_early k) ms)
 early_up_to k ms = every_weaker (λ m. is_early k m ≡ true) (λ m. stamp_of m ≤ k) (early_is_up_to k) (filter (is_early k) ms) (passes (is_early k) ms)
-
--- those behind a clock rise too
-rise_filter : (p : Moment → Bool) (ms : List Moment) → StampsRise ms → StampsRise (filter p ms)
-rise_filter p [] rise = tt
-rise_filter p (m ∷ ms) rise =
-    let rest : StampsRise (filter p ms) = rise_filter p ms rise.1 in
-    let from : All (λ n. stamp_of m ≤ stamp_of n) (filter p ms) =
-        All-from_recursion (λ n. stamp_of m ≤ stamp_of n) (filter p ms) (every-filter (λ n. stamp_of m ≤ stamp_of n) p ms (recursion_from_All (λ n. stamp_of m ≤ stamp_of n) ms rise.0)) in
-    elim (p m) as (λ b. StampsRise (if b then m ∷ filter p ms else filter p ms)) [ true ↦ (from, rest) | false ↦ rest ]
-
-pub late_rise : (k : ℕ) (ms : List Moment) → StampsRise ms → StampsRise (filter (is_late k) ms)
-late_rise k ms rise = rise_filter (is_late k) ms rise
