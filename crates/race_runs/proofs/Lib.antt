@@ -8,3 +8,4 @@ pub mod Parts
 pub mod Cuts
 pub mod Told
 pub mod Gathered
+pub mod Growing
