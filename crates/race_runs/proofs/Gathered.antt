@@ -199,3 +199,8 @@ module _ (counts : Counts) (names : List (List ℕ)) (lines : List Line) (clocks
 
 pub gathered_stories_are_run : GatheredStoriesAreRun
 gathered_stories_are_run counts names lines clocks ss ks ms g = gathered counts names lines clocks ss ks ms g
+
+-- what no moment notes is of refused ops
+pub gathered_silent : (counts : Counts) (names : List (List ℕ)) (lines : List Line) (clocks : List ℕ) (ss : List Story) (ks : List AnyKept) (ms : List Moment)
+    → AreGathered counts names lines clocks ss ks ms → AreSilent (cuts_of clocks ss) (silent_last ss)
+gathered_silent counts names lines clocks ss ks ms g = silent counts names lines clocks ss ks ms g
