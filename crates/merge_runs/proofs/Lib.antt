@@ -10,4 +10,6 @@ pub mod Keys
 pub mod Firsts
 pub mod Splits
 pub mod Matches
+pub mod Distinct
+pub mod Agreement
 pub mod Gathers

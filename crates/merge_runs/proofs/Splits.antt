@@ -18,7 +18,7 @@ use Rattle.merge_runs.proofs.Places.{stored_from_histories}
 use Rattle.merge_runs.proofs.Known.{one_pass}
 
 -- the steps of a pass rise
-from_step : (first next : ℕ) (es : List Entry) (e : Entry) → steps_count first next es ≡ true → In e es → first ≤ e.step
+pub from_step : (first next : ℕ) (es : List Entry) (e : Entry) → steps_count first next es ≡ true → In e es → first ≤ e.step
 from_step first next [] e h i = absurd i
 from_step first next (x ∷ xs) e h (inl q) =
     let s : x.step ≡ first = eqb-true x.step first (both (eqb x.step first) (steps_count (first + 1) next xs) h).0 in
