@@ -13,3 +13,4 @@ pub mod Matches
 pub mod Distinct
 pub mod Agreement
 pub mod Gathers
+pub mod Laws
