@@ -9,3 +9,5 @@ pub mod Begins
 pub mod RefusedSteps
 pub mod TurnCases
 pub mod Closings
+pub mod Ranks
+pub mod Following

@@ -237,6 +237,7 @@ impl Client {
         ensures counts { C.counts at.new ≡ C.counts at.old }
         ensures step { MatchResult result (OwnStep C.done at.old at.new self.old self.new)
             (λ e. WentAstray C.done at.old at.new self.old self.new (refusals.Astray e.want e.found)) }
+        ensures same { (self.new.counts ≡ self.old.counts) × (op_in self.new ≡ op_in self.old) }
         ensures life { IsLife self.new }
     {
         let turned = if self.refused.is_empty() {
