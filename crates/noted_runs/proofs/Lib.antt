@@ -1,3 +1,8 @@
 pub mod Actors
 pub mod Owns
 pub mod Limits
+pub mod Replies
+pub mod Following
+pub mod Weaving
+pub mod Shown
+pub mod Rooms

@@ -45,6 +45,10 @@ impl Machine for FileShard {
         FileShard::step(self, req)
     }
 
+    fn own(req: FileReq, reply: FileReply) -> (AnyReq, AnyReply) {
+        (AnyReq::File(req), AnyReply::File(reply))
+    }
+
     fn widen(
         alloc: Global,
         req: &FileReq,

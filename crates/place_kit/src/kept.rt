@@ -116,39 +116,37 @@ impl<M: Machine> Kept<M> {
                 place: self.label.place,
             });
         }
-        match self.do_step(pass, &req) {
+        match self.do_step(pass, req) {
             Ok(reply) => Ok(reply),
             Err(NoMemory) => Err(Refused::NoMemory),
         }
     }
 
     // The transaction of a pass that is not full.
-    fn do_step(&mut self, pass: &mut Pass, req: &M::Req) -> Result<M::Reply, NoMemory>
+    fn do_step(&mut self, pass: &mut Pass, req: M::Req) -> Result<M::Reply, NoMemory>
         requires few { used pass.old < MOST_MOMENTS }
         requires light { pass.old.bytes < MOST_BYTES }
         requires early { pass.old.clock < 2 ^ 63 }
         ensures label { (self.new.label ≡ self.old.label) × (self.new.base.value ≡ self.old.base.value) }
         ensures pass { (pass.new.actor ≡ pass.old.actor) × (pass.new.running ≡ pass.old.running) }
-        ensures reply { IfOk result (λ r. M.wide_reply r ≡ M.answer self.old.machine (M.wide req.now)) }
-        ensures state { OnOk result (self.new.machine ≡ M.after self.old.machine (M.wide req.now)) }
-        ensures history { IfOk result (λ r. self.new.history.items ≡ self.old.history.items ++ entry_of self.old.label self.old.clock pass.old (M.wide req.now) (M.wide_reply r) ∷ []) }
-        ensures trail { IfOk result (λ r. pass.new.moments.items ≡ pass.old.moments.items ++ Moment.Act (entry_of self.old.label self.old.clock pass.old (M.wide req.now) (M.wide_reply r)) ∷ []) }
+        ensures reply { IfOk result (λ r. M.wide_reply r ≡ M.answer self.old.machine (M.wide req)) }
+        ensures state { OnOk result (self.new.machine ≡ M.after self.old.machine (M.wide req)) }
+        ensures history { IfOk result (λ r. self.new.history.items ≡ self.old.history.items ++ entry_of self.old.label self.old.clock pass.old (M.wide req) (M.wide_reply r) ∷ []) }
+        ensures trail { IfOk result (λ r. pass.new.moments.items ≡ pass.old.moments.items ++ Moment.Act (entry_of self.old.label self.old.clock pass.old (M.wide req) (M.wide_reply r)) ∷ []) }
         ensures clocks { OnOk result ((self.new.clock ≡ next_stamp self.old.clock pass.old) × (pass.new.clock ≡ next_stamp self.old.clock pass.old) × (pass.new.steps ≡ pass.old.steps + 1)) }
         ensures spares { OnOk result (0 < self.old.history.spare → 0 < spare_of pass.old → (self.new.history.spare + 1 ≡ self.old.history.spare) × (spare_of pass.new + 1 ≡ spare_of pass.old)) }
-        ensures free { M.is_free self.old.machine (M.wide req.now) ≡ true → 0 < self.old.history.spare → 0 < spare_of pass.old → IsOk result }
+        ensures free { M.is_free self.old.machine (M.wide req) ≡ true → 0 < self.old.history.spare → 0 < spare_of pass.old → IsOk result }
         ensures err { OnErr result ((self.new ≡ self.old) × (pass.new ≡ pass.old)) }
     {
         let alloc = self.history.allocator();
-        let reply = self.machine.reply(req)?;
-        let (ours, our_reply) = M::widen(alloc, req, &reply)?;
-        let (theirs, their_reply) = M::widen(alloc, req, &reply)?;
+        let reply = self.machine.reply(&req)?;
+        let (their_req, their_reply) = M::widen(alloc, &req, &reply)?;
         let Ok(room) = make_room(&mut self.history, pass) else {
             return Err(NoMemory);
         };
         is_short(self.history.as_slice());
         let stamp = self.clock.max(pass.clock) + 1;
-        let step = pass.steps;
-        let answer = match self.machine.step(req) {
+        let answer = match self.machine.step(&req) {
             Ok(answer) => answer,
             Err(NoMemory) => {
                 give_room(&mut self.history, pass, room);
@@ -156,28 +154,13 @@ impl<M: Machine> Kept<M> {
             }
         };
         let place = self.label.place;
-        let actor = pass.actor;
-        let number = pass.number();
-        self.history.push(Entry {
-            stamp,
-            place,
-            actor,
-            number,
-            step,
-            req: ours,
-            reply: our_reply,
-        });
+        let (our_req, our_reply) = M::own(req, reply);
+        let ours = pass.entry(stamp, place, our_req, our_reply);
+        let theirs = pass.entry(stamp, place, their_req, their_reply);
+        self.history.push(ours);
         self.clock = stamp;
         self.count += 1;
-        pass.record(Entry {
-            stamp,
-            place,
-            actor,
-            number,
-            step,
-            req: theirs,
-            reply: their_reply,
-        });
+        pass.record(theirs);
         Ok(answer)
     }
 }

@@ -8,6 +8,7 @@ mod files;
 mod kept;
 mod log;
 mod machine;
+mod moment_copies;
 mod names;
 mod opening;
 mod pass;

@@ -45,6 +45,10 @@ pub trait Machine: Drop {
         ensures err { OnErr result (self.new ≡ self.old) }
         ensures free { is_free self.old (wide req.now) ≡ true → IsOk result };
 
+    /// The request and its reply themselves, as all places know them. It takes no memory.
+    fn own(req: Self::Req, reply: Self::Reply) -> (AnyReq, AnyReply)
+        ensures { (result.0 ≡ wide req) × (result.1 ≡ wide_reply reply) };
+
     /// The request and its reply once more, as all places know them.
     fn widen(
         alloc: Global,

@@ -47,6 +47,10 @@ impl Machine for NameShard {
         NameShard::step(self, req)
     }
 
+    fn own(req: NameReq, reply: NameReply) -> (AnyReq, AnyReply) {
+        (AnyReq::Name(req), AnyReply::Name(reply))
+    }
+
     fn widen(
         alloc: Global,
         req: &NameReq,

@@ -6,6 +6,7 @@ use crate::entry::{Entry, Moment, Note, Refused};
 use crate::log::Log;
 use crate::reply_bytes::reply_bytes;
 use std::alloc::Global;
+use tect_calls::{AnyReply, AnyReq};
 use tect_ids::{Command, NoMemory, OpId, Place};
 
 /// The most entries and notes of a pass.
@@ -82,7 +83,7 @@ impl Pass {
     }
 
     // The number of the op that is running.
-    pub(crate) fn number(&self) -> u32
+    fn number(&self) -> u32
         ensures { result ≡ op_number self.now.running }
     {
         match self.running {
@@ -291,6 +292,21 @@ impl Pass {
         self.clock = stamp;
         self.running = running;
         self.moments.push(Moment::Local { stamp, actor, note });
+    }
+
+    // The entry of a transaction that the actor does next.
+    pub(crate) fn entry(&self, stamp: u64, place: Place, req: AnyReq, reply: AnyReply) -> Entry
+        ensures { result ≡ record { stamp = stamp; place = place; actor = self.now.actor; number = op_number self.now.running; step = self.now.steps; req = req; reply = reply } }
+    {
+        Entry {
+            stamp,
+            place,
+            actor: self.actor,
+            number: self.number(),
+            step: self.steps,
+            req,
+            reply,
+        }
     }
 
     // Adds the entry of a transaction. There is room for it, beside what is put aside.

@@ -1,9 +1,11 @@
 use crate::{
-    BytesSink, BytesSource, Failed, ReadFault, Sink, Source, StdSink, StdSource, SureSink,
-    SureSource, put_all, read_input,
+    BytesSink, BytesSource, Failed, Gate, MeetGate, OpenGate, ReadFault, Sink, Source, StdSink,
+    StdSource, SureSink, SureSource, put_all, read_input,
 };
 use std::alloc::{AllocError, Global};
 use std::test::Fail;
+use std::thread::join;
+use tect_ids::Place;
 
 /// A source of `length` bytes 7, some of whose calls fail.
 fn sevens(alloc: Global, length: usize, failing: &[u64]) -> Result<BytesSource, AllocError> {
@@ -89,4 +91,30 @@ fn full_writer_is_a_fault(rt: HostRuntime) -> Result<(), Fail> {
     assert_eq!(rt; put_all(&mut sink, b"abcde"), Err(Failed));
     assert_eq!(rt; sink.faults(), 1);
     Ok(())
+}
+
+/// What a gate is told of one commit.
+fn tell_commit<G: Gate>(gate: &G, worker: u32) {
+    gate.pass(worker, Place(worker), false);
+    gate.pass(worker, Place(worker), true);
+    gate.pass(worker, Place(worker), false);
+}
+
+#[test]
+fn workers_one_after_another_do_not_meet(rt: HostRuntime) {
+    tell_commit(&OpenGate, 0);
+    for (first, second) in [(0, 1), (1, 0)] {
+        let gate = MeetGate::start(10);
+        tell_commit(&gate, first);
+        tell_commit(&gate, second);
+        assert!(rt; !gate.met(), "{first} before {second}");
+    }
+}
+
+#[test]
+fn workers_side_by_side_meet(rt: HostRuntime) {
+    let gate = MeetGate::start(200_000_000);
+    assert!(rt; !gate.met());
+    join(&rt, || tell_commit(&gate, 0), || tell_commit(&gate, 1));
+    assert!(rt; gate.met());
 }

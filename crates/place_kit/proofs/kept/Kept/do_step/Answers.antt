@@ -1,6 +1,7 @@
 use Rattle.std.proofs.Common.{arith, sym, ap, ◌∙◌, refl, ◌+◌}
 use Rattle.place_kit.proofs.Keeping.{IsKept-push, same_kept, same_pass_by_spare, same_log}
 use Rattle.place_kit.specs.declared.entry.Entry.{Entry}
+use Rattle.place_kit.specs.Commits.{op_number}
 use Rattle.place_kit.proofs.kept.Kept.do_step.Goals as goal
 
 pub overflow_add-stamp : goal.overflow_add-stamp
@@ -34,10 +35,11 @@ invariant_of-self-2 g c = record {
       let bounded = k.kept.bounded in
       let max = c.max-stamp.ensures in
       let i = c.in-Ok.ensures.items in
-      let e : Entry = record { stamp = c.max-stamp.result + 1; place = k.label.place; actor = c.make_room.new.pass.actor; number = c.number-number.result; step = c.make_room.new.pass.steps; req = c.in_ok-ours.ours; reply = c.in_ok-ours.our_reply } in
-      let w = c.in_ok-ours.ensures.ok in
+      let w = c.own-our_req.ensures in
       let r = c.in_ok-reply.ensures.ok in
       let s = c.in-Ok-step.ensures.ok in
-      rw (c.push.ensures, i.0) (IsKept-push m.after m.answer m.opening k.label k.machine c.step.new.self k.base.value k.history.items k.clock k.count e k.kept
+      let p = c.make_room.new.pass in
+      let e : Entry = record { stamp = c.max-stamp.result + 1; place = k.label.place; actor = p.actor; number = op_number p.running; step = p.steps; req = c.own-our_req.result.0; reply = c.own-our_req.result.1 } in
+      rw (c.push.ensures, i.0, c.entry-ours.ensures) (IsKept-push m.after m.answer m.opening k.label k.machine c.step.new.self k.base.value k.history.items k.clock k.count e k.kept
       (s.1 ∙ ap (λ q. m.after k.machine q) (sym w.0)) (w.1 ∙ r ∙ ap (λ q. m.answer k.machine q) (sym w.0)) refl (omega (arith, max)) (omega (arith, max, c.requires.early, bounded)));
 }
