@@ -60,8 +60,13 @@ EndsSo s (Did q x) (Some a) = (program_answer s.running ≡ Some a) ⊎ (a ≡ a
 -- the transaction, at its place, with that stamp
 abbrev pub entry_in : ClientLife → ℕ → AnyReq → AnyReply → Entry
 entry_in life stamp q x = record {
-  stamp = stamp; place = request_place life.counts q; actor = life.actor; number = (state_in life).number;
-  step = length (trail_of life.moments); req = q; reply = x;
+  stamp = stamp;
+  place = request_place life.counts q;
+  actor = life.actor;
+  number = (state_in life).number;
+  step = length (trail_of life.moments);
+  req = q;
+  reply = x;
 }
 
 abbrev pub tried_life : ClientLife → ℕ → Tried → ClientLife
