@@ -2,7 +2,7 @@ use Rattle.std.proofs.Common.{ap, ◌∙◌, arith}
 use Rattle.std.proofs.lemmas.List.{take_all}
 use Rattle.std.specs.List.{flat_map}
 use Rattle.all_shards.proofs.Dumped.{file_dump, each_file_dump}
-use Rattle.all_shards.proofs.shards.Shards.dump_files.Goals as goal
+use Rattle.all_shards.proofs.dump.LentShards.dump_files.Goals as goal
 
 pub returns : goal.returns
 returns c =

@@ -3,7 +3,7 @@ use Rattle.std.proofs.lemmas.List.{take_all}
 use Rattle.std.specs.List.{flat_map}
 use Rattle.name_shard.specs.DirDumps.{dir_dump}
 use Rattle.all_shards.proofs.Dumped.{dirs_dump}
-use Rattle.all_shards.proofs.shards.Shards.dump_names.Goals as goal
+use Rattle.all_shards.proofs.dump.LentShards.dump_names.Goals as goal
 
 pub returns : goal.returns
 returns c =
