@@ -1,5 +1,5 @@
 -- Where an entry has to stand: in the pass of its actor, and in the history of its place.
-use Rattle.std.proofs.Common.{◌≡◌, ◌≢◌, ℕ, ◌<◌, ◌≤◌, Bool, true, false, List, refl, sym, ◌∙◌, subst, length, get_or, ltb, nat_lt, IsTrue, ◌↔◌, arith, inl, inr}
+use Rattle.std.proofs.Common.{◌≡◌, ◌≢◌, ℕ, ◌<◌, ◌≤◌, Bool, false, List, refl, sym, ◌∙◌, subst, length, get_or, ltb, nat_lt, IsTrue, ◌↔◌, arith, inl, inr}
 use Rattle.std.specs.List.{All, Contains}
 use Rattle.std.proofs.lemmas.List.Elements.{Contains-get_or}
 use Rattle.place_kit.specs.declared.any.AnyKept.{AnyKept}

@@ -1,5 +1,5 @@
 -- At the step of an entry that not both have, the pass and the places differ.
-use Rattle.std.proofs.Common.{◌≡◌, ◌≢◌, ℕ, ◌+◌, ◌<◌, ◌≤◌, Bool, true, false, ◌&&◌, ◌⊎◌, inl, inr, List, [], ◌∷◌, refl, sym, ◌∙◌, ap, subst, arith, eqb, length, get_or, Option, Some, None}
+use Rattle.std.proofs.Common.{◌≡◌, ◌≢◌, ℕ, ◌+◌, ◌<◌, ◌≤◌, true, inl, inr, List, [], ◌∷◌, refl, sym, ◌∙◌, ap, subst, arith, eqb, length, get_or, Option, Some, None}
 use Rattle.std.specs.List.{All, Contains}
 use Rattle.std.proofs.lemmas.List.Elements.{Contains-get_or}
 use borrow.Author.Tests.{eqb-true}
@@ -10,7 +10,7 @@ use Rattle.place_kit.specs.declared.entry.Moment.TheVariants.{Act}
 use Rattle.place_kit.specs.declared.pass.Pass.{Pass}
 use Rattle.place_kit.specs.Moments.{steps_count}
 use Rattle.merge_runs.specs.Merged.{HaveDifferentActors, moments_of, entries_of, trails, histories, IsStored}
-use Rattle.merge_runs.specs.Splits.{IsInPass, IsOther, IsFirst, IsInPlace, IsApart}
+use Rattle.merge_runs.specs.Splits.{IsInPass, IsOther, IsInPlace, IsApart}
 use Rattle.merge_runs.proofs.Order.{In, both}
 use Rattle.merge_runs.proofs.Members.{in_from_contains, contains_from_in}
 use Rattle.merge_runs.proofs.Trails.{all_in, in_all, entry_in, owner_of, in_trails, trails_in}

@@ -1,4 +1,4 @@
-use Rattle.std.proofs.Common.{◌≡◌, Option, Some, None}
+use Rattle.std.proofs.Common.{Option}
 use Rattle.place_kit.specs.declared.entry.Entry.{Entry}
 use Rattle.merge_runs.specs.Splits.{IsInPass, IsInPlace}
 use Rattle.merge_runs.proofs.Matches.{match_copied}
