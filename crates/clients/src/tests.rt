@@ -93,63 +93,117 @@ fn stepped(client: &mut Client, shards: &mut Shards) -> Result<Turned, Fail>
     }
 }
 
+/// Whether a step ends the client's command, and with the answer that its own history is full.
+fn is_refused(client: &mut Client, shards: &mut Shards) -> Result<bool, Fail>
+    requires { client.old.counts ≡ COUNTS }
+{
+    match stepped(client, shards)? {
+        Turned::Done(Answer::HistoryFull { place }) => Ok(place == Place(256)),
+        _ => Ok(false),
+    }
+}
+
+/// Whether a step ends the client's command.
+fn is_done(client: &mut Client, shards: &mut Shards) -> Result<bool, Fail>
+    requires { client.old.counts ≡ COUNTS }
+    ensures { client.new.counts ≡ COUNTS }
+{
+    match stepped(client, shards)? {
+        Turned::Done(_) => Ok(true),
+        Turned::Going => Ok(false),
+    }
+}
+
 /// Its pass has that many moments, and that many events of refused ops are beside it.
 fn noted(rt: &impl Abort, client: Client, moments: usize, refused: usize) {
     assert_eq!(rt; client.pass().moments().len(), moments);
     let (pass, events) = client.into_pass();
-    assert_eq!(rt; (pass.moments().len(), events.len()), (moments, refused));
+    assert_eq!(rt; pass.moments().len(), moments);
+    assert_eq!(rt; events.len(), refused);
+}
+
+/// The second step ends the command.
+fn two_steps(rt: &impl Abort, client: &mut Client, shards: &mut Shards) -> Result<(), Fail>
+    requires { client.old.counts ≡ COUNTS }
+{
+    let first = is_done(client, shards)?;
+    let second = is_done(client, shards)?;
+    assert!(rt; !first && second);
+    Ok(())
+}
+
+/// A file is created, in two transactions.
+fn create(rt: &impl Abort, alloc: Global, client: &mut Client) -> Result<(), Fail>
+    requires { client.old.counts ≡ COUNTS }
+{
+    let path = path(alloc, b"a")?;
+    begun(client, Command::Create { path })?;
+    let mut shards = Shards::open(alloc)?;
+    two_steps(rt, client, &mut shards)
 }
 
 #[test]
 fn a_create_takes_two_steps(rt: HostRuntime) -> Result<(), Fail> {
-    let alloc = rt.alloc();
-    let mut client = Client::start(alloc, 1, COUNTS)?;
-    let mut shards = Shards::open(alloc)?;
-    let path = path(alloc, b"a")?;
-    begun(&mut client, Command::Create { path })?;
-    assert!(&rt; client.next()?.is_some());
-    assert!(&rt; matches!(stepped(&mut client, &mut shards)?, Turned::Going));
-    let end = stepped(&mut client, &mut shards)?;
-    assert!(&rt; matches!(end, Turned::Done(Answer::Found { .. })));
-    assert_eq!(&rt;
-        client.op(),
-        OpId {
-            actor: 1,
-            number: 1
-        }
-    );
-    assert_eq!(&rt;
-        (client.transactions(), client.clock(), client.actor()),
-        (2, 4, 1)
-    );
+    let mut client = Client::start(rt.alloc(), 1, COUNTS)?;
+    let created = create(&rt, rt.alloc(), &mut client);
+    let op = OpId {
+        actor: 1,
+        number: 1,
+    };
+    assert_eq!(&rt; client.op(), op);
+    assert_eq!(&rt; client.transactions(), 2);
+    assert_eq!(&rt; client.clock(), 4);
     noted(&rt, client, 4, 0);
+    created
+}
+
+/// The command ends at its first step, since it was refused.
+fn one_refusal(rt: &impl Abort, client: &mut Client, shards: &mut Shards) -> Result<(), Fail>
+    requires { client.old.counts ≡ COUNTS }
+{
+    let refused = is_refused(client, shards)?;
+    assert!(rt; refused);
     Ok(())
+}
+
+/// The clock has come to its limit, so a command is refused.
+fn refuse(rt: &impl Abort, alloc: Global, client: &mut Client) -> Result<(), Fail>
+    requires { client.old.counts ≡ COUNTS }
+{
+    client.raise(1 << 63);
+    let path = path(alloc, b"a")?;
+    begun(client, Command::Look { path })?;
+    let mut shards = Shards::open(alloc)?;
+    one_refusal(rt, client, &mut shards)
 }
 
 #[test]
 fn a_refused_command_notes_nothing(rt: HostRuntime) -> Result<(), Fail> {
-    let alloc = rt.alloc();
-    let mut client = Client::start(alloc, 1, COUNTS)?;
-    let mut shards = Shards::open(alloc)?;
-    client.raise(1 << 63);
-    let path = path(alloc, b"a")?;
-    begun(&mut client, Command::Look { path })?;
-    let end = stepped(&mut client, &mut shards)?;
-    assert!(&rt; matches!(end, Turned::Done(Answer::HistoryFull { place: Place(256) })));
+    let mut client = Client::start(rt.alloc(), 1, COUNTS)?;
+    let refused = refuse(&rt, rt.alloc(), &mut client);
     noted(&rt, client, 0, 2);
+    refused
+}
+
+/// The client asks for an entry, and stops.
+fn ask_and_stop(rt: &impl Abort, alloc: Global, client: &mut Client) -> Result<(), Fail>
+    requires { client.old.counts ≡ COUNTS }
+{
+    let path = path(alloc, b"a")?;
+    begun(client, Command::Look { path })?;
+    assert!(rt; client.next()?.is_some());
+    if client.is_running() {
+        client.stop();
+    }
+    assert!(rt; !client.can_begin());
     Ok(())
 }
 
 #[test]
 fn a_client_stops_for_good(rt: HostRuntime) -> Result<(), Fail> {
-    let alloc = rt.alloc();
-    let mut client = Client::start(alloc, 1, COUNTS)?;
-    let path = path(alloc, b"a")?;
-    begun(&mut client, Command::Look { path })?;
-    if client.is_running() {
-        client.stop();
-    }
-    assert!(&rt; !client.can_begin() && client.counts() == COUNTS);
+    let mut client = Client::start(rt.alloc(), 1, COUNTS)?;
+    let stopped = ask_and_stop(&rt, rt.alloc(), &mut client);
+    assert!(&rt; client.counts() == COUNTS && client.actor() == 1);
     noted(&rt, client, 2, 0);
-    Ok(())
+    stopped
 }
