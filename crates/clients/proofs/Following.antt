@@ -1,9 +1,10 @@
 -- what a step tells: its op's transaction, or its end; and a command that goes on is nearer to its end
-use Rattle.std.proofs.Common.{◌≡◌, ℕ, ◌+◌, ◌<◌, ◌≤◌, Option, Some, None, IsSome, List, [], ◌∷◌, ◌++◌, refl, sym, ap, ◌∙◌, subst, arith}
-use Rattle.std.specs.Prelude.{Result, Ok, Err, MatchResult}
+use Rattle.std.proofs.Common.{◌≡◌, inl, inr, ℕ, ◌+◌, ◌<◌, ◌≤◌, Option, Some, None, IsSome, List, [], ◌∷◌, ◌++◌, refl, sym, ap, ◌∙◌, subst, arith}
+use Rattle.std.specs.Prelude.{Result, Ok, Err, MatchResult, OnOk, OnErr}
 use Rattle.std.proofs.lemmas.List.{append-nil}
 use Rattle.tect_ids.specs.declared.ids.Counts.{Counts}
 use Rattle.tect_ids.specs.declared.ids.OpId.{OpId}
+use Rattle.tect_ids.specs.declared.command.Command.{Command}
 use Rattle.tect_ids.specs.declared.answer.Answer.{Answer}
 use Rattle.tect_ids.specs.declared.answer.Answer.TheVariants as answers
 use Rattle.store_rules.specs.declared.any.AnyReq.{AnyReq}
@@ -24,7 +25,7 @@ use Rattle.actors.specs.declared.turned.Turned.{Turned}
 use Rattle.actors.specs.declared.turned.Turned.TheVariants.{Going, Done}
 use Rattle.actors.specs.Turns.{turned_by}
 use Rattle.clients.specs.declared.commits.Astray.{Astray}
-use Rattle.clients.specs.Lives.{ClientLife, events_in, state_in, op_in}
+use Rattle.clients.specs.Lives.{ClientLife, events_in, state_in, op_in, Begins}
 use Rattle.clients.specs.Steps.{Tried, Unasked, Did, Denied, Asks, EndsSo, state_after, WentAstray, tried_events, end_events, tried_life, ended_with, ended_life, OwnStep}
 use Rattle.clients.specs.Turns.{act_count}
 use Rattle.clients.proofs.Ranks.{rank, rank_falls}
@@ -141,6 +142,16 @@ pub same_op : {W : Type 0} (done : W → W → AnyReq → Result AnyReply Refuse
     → MatchResult r (OwnStep done w v old new) (λ e. WentAstray done w v old new (refusals.Astray e.want e.found)) → (new.counts ≡ old.counts) × (op_in new ≡ op_in old)
 same_op done w v old new (Ok turned) step = (step_counts done w v old new turned step, step_op done w v old new turned step)
 same_op done w v old new (Err e) astray = (ap (λ (l : ClientLife). l.counts) astray.life, ap op_in astray.life)
+
+-- a begin
+begins_same : (old new : ClientLife) (c : Command) → Begins old new c → (new.counts ≡ old.counts) × (new.actor ≡ old.actor)
+begins_same old new c (inl (room, is)) = (ap (λ (l : ClientLife). l.counts) is, ap (λ (l : ClientLife). l.actor) is)
+begins_same old new c (inr (full, is)) = (ap (λ (l : ClientLife). l.counts) is, ap (λ (l : ClientLife). l.actor) is)
+
+pub begin_same : {T E : Type 0} (old new : ClientLife) (c : Command) (r : Result T E) → OnOk r (Begins old new c) → OnErr r (new ≡ old)
+    → (new.counts ≡ old.counts) × (new.actor ≡ old.actor)
+begin_same old new c (Ok x) ok err = begins_same old new c ok
+begin_same old new c (Err e) ok err = (ap (λ (l : ClientLife). l.counts) err, ap (λ (l : ClientLife). l.actor) err)
 
 -- ---- a command that goes on
 

@@ -167,6 +167,7 @@ impl Client {
         requires served { IsServed command }
         ensures ok { OnOk result (Begins self.old self.new command) }
         ensures err { OnErr result (self.new ≡ self.old) }
+        ensures same { (self.new.counts ≡ self.old.counts) × (self.new.actor ≡ self.old.actor) }
         ensures life { IsLife self.new }
     {
         let begun = if self.pass.is_full_for_begin() {
