@@ -78,6 +78,7 @@ fn do_command<C: Commits>(
     requires served { IsServed command.now }
     ensures plays { OnOk result (Plays names.now (Act.Do command.now) racer.old racer.new) }
     ensures fault { IfErr result (IsFaultOf C.done) }
+    ensures counts { C.counts at.new ≡ C.counts at.old }
 {
     begin_command(alloc, &mut racer.client, command)?;
     let answer = run_to_end(at, &mut racer.client)?;
@@ -107,6 +108,7 @@ fn step_on<C: Commits>(
     requires goes_on { (state_in racer.old.client).stopped ≡ false }
     ensures plays { OnOk result (Plays names.now (Act.Step count) racer.old racer.new) }
     ensures fault { IfErr result (IsFaultOf C.done) }
+    ensures counts { C.counts at.new ≡ C.counts at.old }
 {
     if !racer.client.is_running() {
         return Ok(());
@@ -128,6 +130,7 @@ fn run_on<C: Commits>(
     requires goes_on { (state_in racer.old.client).stopped ≡ false }
     ensures plays { OnOk result (Plays names.now Act.Run racer.old racer.new) }
     ensures fault { IfErr result (IsFaultOf C.done) }
+    ensures counts { C.counts at.new ≡ C.counts at.old }
 {
     if !racer.client.is_running() {
         return Ok(());
@@ -166,6 +169,7 @@ pub fn play_act<C: Commits>(
     requires takes { (turn : ClientTurn) × AtTurn turn (state_in racer.old.client) × TakesAct turn act.now }
     ensures plays { OnOk result (Plays names.now act.now racer.old racer.new) }
     ensures fault { IfErr result (IsFaultOf C.done) }
+    ensures counts { C.counts at.new ≡ C.counts at.old }
 {
     match act {
         Act::Do(command) => do_command(at, alloc, names, racer, command),

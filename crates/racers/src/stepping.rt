@@ -16,6 +16,7 @@ pub fn step_up_to<C: Commits>(
     requires life { IsLife client.old }
     ensures steps { IfOk result (StepsUpTo count client.old client.new) }
     ensures life { IsLife client.new }
+    ensures counts { C.counts at.new ≡ C.counts at.old }
     ensures astray { IfErr result (λ e. FoundAstray C.done e.want e.found) }
 {
     'steps: for _step in 0..count {
@@ -34,6 +35,7 @@ pub fn run_to_end<C: Commits>(at: &mut C, client: &mut Client) -> Result<Answer,
     requires life { IsLife client.old }
     ensures end { IfOk result (ComesToEnd client.old client.new) }
     ensures life { IsLife client.new }
+    ensures counts { C.counts at.new ≡ C.counts at.old }
     ensures astray { IfErr result (λ e. FoundAstray C.done e.want e.found) }
 {
     'steps: loop {
