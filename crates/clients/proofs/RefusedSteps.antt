@@ -1,5 +1,5 @@
 -- the step of an op that was refused: its end
-use Rattle.std.proofs.Common.{◌≡◌, ◌≢◌, ℕ, ◌⊎◌, inl, inr, Option, Some, None, IsSome, List, [], ◌∷◌, ◌++◌, refl, sym, ap, ◌∙◌, subst, append_assoc}
+use Rattle.std.proofs.Common.{◌≡◌, ◌≢◌, inl, Option, Some, None, IsSome, List, [], ◌∷◌, ◌++◌, refl, sym, ap, ◌∙◌, append_assoc}
 use Rattle.std.specs.Prelude.{Result}
 use Rattle.tect_ids.specs.declared.ids.OpId.{OpId}
 use Rattle.store_rules.specs.declared.any.AnyReq.{AnyReq}
@@ -9,10 +9,10 @@ use Rattle.place_kit.specs.declared.entry.Refused.{Refused}
 use Rattle.place_kit.specs.Moments.{running_in}
 use Rattle.world_runs.specs.declared.event.Event.{Event}
 use Rattle.world_runs.specs.declared.event.Event.TheVariants.{Ended, Stopped}
-use Rattle.world_runs.specs.Moments.{no_room, program_answer}
+use Rattle.world_runs.specs.Moments.{no_room}
 use Rattle.noted_runs.specs.Events.{events_of}
 use Rattle.actors.specs.declared.turned.Turned.TheVariants as turns
-use Rattle.clients.specs.Lives.{ClientLife, events_in, state_in, op_in, IsLife, stopped_with, stopped_life}
+use Rattle.clients.specs.Lives.{ClientLife, events_in, state_in, op_in, IsLife, stopped_with}
 use Rattle.clients.specs.Phases.{RunsIn, WasRefused}
 use Rattle.clients.specs.Steps.{Unasked, OwnStep, ended_with, end_events}
 use Rattle.clients.proofs.Begins.{refused_answer}

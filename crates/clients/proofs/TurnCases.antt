@@ -1,26 +1,23 @@
 -- the turns that the code takes
-use Rattle.std.proofs.Common.{ℕ, ◌≡◌, ◌⊎◌, inl, inr, Option, Some, None, IsSome, refl, sym, ap, ◌∙◌, subst, arith}
+use Rattle.std.proofs.Common.{ℕ, ◌≡◌, inr, Option, Some, None, IsSome, refl, arith}
 use Rattle.std.specs.Prelude.{Result, Ok, Err}
 use Rattle.tect_ids.specs.declared.ids.Counts.{Counts}
-use Rattle.tect_ids.specs.declared.ids.Place.{Place}
 use Rattle.tect_ids.specs.declared.answer.Answer.{Answer}
 use Rattle.tect_ids.specs.declared.answer.Answer.TheVariants as answers
 use Rattle.store_rules.specs.declared.any.AnyReq.{AnyReq}
 use Rattle.store_rules.specs.declared.any.AnyReply.{AnyReply}
-use Rattle.store_rules.specs.Places.{request_place}
 use Rattle.op_names.specs.declared.program.Program.{Program}
 use Rattle.op_names.specs.Programs.{object_number}
 use Rattle.place_kit.specs.declared.entry.Note.TheVariants.{Ended}
 use Rattle.place_kit.specs.declared.entry.Refused.{Refused}
-use Rattle.place_kit.specs.declared.entry.Refused.TheVariants.{NoMemory, HistoryFull, Astray}
 use Rattle.place_kit.specs.declared.pass.Pass.{Pass}
 use Rattle.place_kit.specs.Commits.{IsFull}
-use Rattle.world_runs.specs.Moments.{Actor, program_ask, program_answer, went_on}
+use Rattle.world_runs.specs.Moments.{program_ask, program_answer, went_on}
 use Rattle.actors.specs.ActorState.{ActorState, op_of}
 use Rattle.clients.specs.declared.turns.Turn.{Turn}
 use Rattle.clients.specs.Commits.{Committed, NotedEnd}
 use Rattle.clients.specs.Phases.{RunsSmoothly}
-use Rattle.clients.specs.Steps.{Unasked, Did, Denied, EndsSo, Tried}
+use Rattle.clients.specs.Steps.{Unasked, Did, Denied, EndsSo}
 use Rattle.clients.specs.Turns.{ended, Settles, SettlesSo, Tries, TookTurn}
 use Rattle.clients.proofs.Phases.{smooth_goes}
 
