@@ -1,7 +1,6 @@
 -- an actor's own events, when one more comes
-use Rattle.std.proofs.Common.{◌≡◌, ◌≢◌, ℕ, ◌+◌, ◌<◌, ◌≤◌, ◌⊎◌, Bool, true, false, if◌then◌else◌, cond, Option, Some, None, List, [], ◌∷◌, ◌++◌, length, refl, sym, ap, ◌∙◌, subst, arith}
+use Rattle.std.proofs.Common.{◌≡◌, ◌≢◌, ℕ, ◌+◌, ◌<◌, ◌≤◌, true, false, if◌then◌else◌, cond, Option, Some, None, List, [], ◌∷◌, ◌++◌, length, refl, sym, ap, ◌∙◌, arith}
 use Rattle.std.specs.Option.{ForSome}
-use Rattle.std.specs.List.{sum_by, count_by}
 use Rattle.std.proofs.lemmas.List.Sums.{sum_by-append, count_by-le-length}
 use Rattle.tect_ids.specs.declared.ids.Counts.{Counts}
 use Rattle.tect_ids.specs.declared.ids.OpId.{OpId}
@@ -43,7 +42,7 @@ pub program_own : (o : Option Program) (op : OpId) → ForSome o (λ p. p.op ≡
 program_own None op its = refl
 program_own (Some p) op its = let same : p.op ≡ op = its p refl in grind (arith, op_eq_cases p.op op)
 
-some_op : (a b : Program) → Some a ≡ Some b → a.op ≡ b.op
+pub some_op : (a b : Program) → Some a ≡ Some b → a.op ≡ b.op
 some_op a b is = let same : a ≡ b = cc in ap (λ (z : Program). z.op) same
 
 pub heard_own : (counts : Counts) (serial : ℕ) (q : AnyReq) (x : AnyReply) (o : Option Program) (op : OpId) → ForSome o (λ p. p.op ≡ op) → ForSome (heard counts serial q x o) (λ p. p.op ≡ op)

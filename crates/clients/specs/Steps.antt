@@ -1,5 +1,5 @@
 -- A step of a client's command: the request that it makes, if it makes one, and its end, if it ends.
-use Rattle.std.specs.Prelude.{◌≡◌, ℕ, ◌+◌, ◌<◌, ◌≤◌, ◌⊎◌, Bool, true, false, List, [], ◌∷◌, ◌++◌, Option, Some, None, Result, Ok, Err, length}
+use Rattle.std.specs.Prelude.{◌≡◌, ℕ, ◌+◌, ◌<◌, ◌⊎◌, List, [], ◌∷◌, ◌++◌, Option, Some, None, Result, Ok, Err, length}
 use Rattle.tect_ids.specs.declared.ids.Counts.{Counts}
 use Rattle.tect_ids.specs.declared.ids.OpId.{OpId}
 use Rattle.tect_ids.specs.declared.answer.Answer.{Answer}
@@ -8,7 +8,6 @@ use Rattle.store_rules.specs.declared.any.AnyReq.{AnyReq}
 use Rattle.store_rules.specs.declared.any.AnyReply.{AnyReply}
 use Rattle.store_rules.specs.Places.{request_place}
 use Rattle.place_kit.specs.declared.entry.Entry.{Entry}
-use Rattle.place_kit.specs.declared.entry.Moment.{Moment}
 use Rattle.place_kit.specs.declared.entry.Moment.TheVariants.{Act, Local}
 use Rattle.place_kit.specs.declared.entry.Note.TheVariants as notes
 use Rattle.place_kit.specs.declared.entry.Refused.{Refused}
@@ -60,8 +59,13 @@ EndsSo s (Did q x) (Some a) = (program_answer s.running ≡ Some a) ⊎ (a ≡ a
 -- the transaction, at its place, with that stamp
 abbrev pub entry_in : ClientLife → ℕ → AnyReq → AnyReply → Entry
 entry_in life stamp q x = record {
-  stamp = stamp; place = request_place life.counts q; actor = life.actor; number = (state_in life).number;
-  step = length (trail_of life.moments); req = q; reply = x;
+  stamp = stamp;
+  place = request_place life.counts q;
+  actor = life.actor;
+  number = (state_in life).number;
+  step = length (trail_of life.moments);
+  req = q;
+  reply = x;
 }
 
 abbrev pub tried_life : ClientLife → ℕ → Tried → ClientLife

@@ -1,5 +1,5 @@
 -- A turn of an actor with its pass, in the words of the code.
-use Rattle.std.specs.Prelude.{◌≡◌, ℕ, ◌⊎◌, Bool, true, false, Option, Some, None, Result, Err}
+use Rattle.std.specs.Prelude.{◌≡◌, ℕ, ◌⊎◌, Option, Some, None, Result, Err}
 use Rattle.tect_ids.specs.declared.ids.Counts.{Counts}
 use Rattle.tect_ids.specs.declared.answer.Answer.{Answer}
 use Rattle.tect_ids.specs.declared.answer.Answer.TheVariants as answers
@@ -42,10 +42,10 @@ Tries counts p r (Denied q NoMemory) = r ≡ p
 Tries counts p r (Denied q (HistoryFull place)) = (r ≡ p) × IsFull p × (place ≡ request_place counts q)
 Tries counts p r (Denied q (Astray want found)) = r ≡ p
 
-abbrev pub has_acted : Tried → Bool
-has_acted Unasked = false
-has_acted (Did q x) = true
-has_acted (Denied q e) = false
+abbrev pub act_count : Tried → ℕ
+act_count Unasked = 0
+act_count (Did q x) = 1
+act_count (Denied q e) = 0
 
 abbrev pub after_try : Counts → ActorState → Tried → ActorState
 after_try counts a tried = record a { state = state_after counts a.state tried }
@@ -58,7 +58,7 @@ pub record TookTurn {W : Type 0} (done : W → W → AnyReq → Result AnyReply 
   pub tries : Tries counts p middle tried
   pub ends : EndsSo (state_after counts a.state tried) tried turn.answer
   pub finishes : Finishes (after_try counts a tried) b middle r turn.answer
-  pub acted : turn.acted ≡ has_acted tried
+  pub acted : turn.transactions ≡ act_count tried
 
 pub record LostTurn {W : Type 0} (done : W → W → AnyReq → Result AnyReply Refused → Type 0) (w v : W) (a b : ActorState) (p r : Pass) (e : Refused) : Type 0 where
   pub req : AnyReq
