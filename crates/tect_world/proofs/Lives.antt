@@ -9,7 +9,7 @@ use Rattle.world_runs.specs.Moments.{Actor, Moment, moment, opening, after, afte
 use Rattle.world_runs.specs.Report.{transactions}
 use Rattle.tree_runs.proofs.Histories.{after_all-append, run-append, transactions-append}
 use Rattle.all_shards.specs.Whole.{WholeStore}
-use Rattle.tect_world.specs.declared.clients.Client.{Client}
+use Rattle.tect_world.specs.declared.counted.Client.{Client}
 use Rattle.tect_world.specs.declared.world.World.TheInside.{Inside}
 use Rattle.tect_world.specs.Clients.{idle_client, client_at, AreIdle}
 use Rattle.tect_world.specs.Life.{Life, present, grown, last_op}

@@ -20,7 +20,7 @@ use Rattle.tree_runs.proofs.Histories.{transactions-append, Quiet, quiet_run}
 use Rattle.all_shards.proofs.Stepped.{any_default}
 use Rattle.actors.specs.ActorState.{op_of, next_op_of}
 use Rattle.actors.specs.Turns.{turned_by}
-use Rattle.tect_world.specs.declared.clients.Client.{Client}
+use Rattle.tect_world.specs.declared.counted.Client.{Client}
 use Rattle.tect_world.specs.declared.world.World.TheInside.{Inside}
 use Rattle.tect_world.specs.Clients.{idle_client, client_at}
 use Rattle.tect_world.specs.Life.{present, grown, last_op, next_op, actor_asks, stepped_actor, step_events}

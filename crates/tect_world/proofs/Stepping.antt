@@ -13,7 +13,7 @@ use Rattle.world_runs.specs.declared.event.Event.{Event}
 use Rattle.world_runs.specs.Moments.{Actor, program_of, program_ask, program_answer, heard}
 use Rattle.all_shards.specs.Whole.{WholeStore}
 use Rattle.actors.specs.ActorState.{ActorState, op_of}
-use Rattle.tect_world.specs.declared.clients.Client.{Client}
+use Rattle.tect_world.specs.declared.counted.Client.{Client}
 use Rattle.tect_world.specs.declared.turns.Act.{Act}
 use Rattle.tect_world.specs.Acts.{act_of, act_heard, act_done, act_events, act_number}
 use Rattle.tect_world.specs.Life.{actor_asks, actor_answer, actor_events, acted_actor, acted_store, ended_actor, transaction, ending}

@@ -6,7 +6,7 @@ use Rattle.world_runs.specs.declared.event.Event.{Event}
 use Rattle.world_runs.specs.declared.event.Event.TheVariants.{Failed}
 use Rattle.all_shards.specs.Whole.{WholeStore}
 use Rattle.actors.specs.ActorState.{op_of}
-use Rattle.tect_world.specs.declared.clients.Client.{Client}
+use Rattle.tect_world.specs.declared.counted.Client.{Client}
 use Rattle.tect_world.specs.Life.{actor_asks}
 use Rattle.tect_world.specs.Steps.{Steps, act_count}
 

@@ -1,7 +1,7 @@
 -- The actors as the world keeps them.
 use Rattle.std.specs.Prelude.{◌≡◌, ℕ, ◌+◌, ◌-◌, ◌<◌, List, length, slice_index_or}
 use Rattle.world_runs.specs.Moments.{idle_actor}
-use Rattle.tect_world.specs.declared.clients.Client.{Client}
+use Rattle.tect_world.specs.declared.counted.Client.{Client}
 
 -- an actor that did nothing
 abbrev pub idle_client : ℕ → Client

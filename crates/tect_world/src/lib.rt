@@ -1,7 +1,7 @@
 //! The world on one thread: all shards and all actors, and the history of what was done.
 #![tactic(auto)]
 
-mod clients;
+mod counted;
 mod steps;
 mod turns;
 mod world;

@@ -6,7 +6,7 @@ ghost use Rattle.tect_world.specs.Life.{ending, ended_actor};
 ghost use Rattle.tect_world.specs.Acts.{act_events, act_number};
 ghost use Rattle.tect_world.specs.ClientSteps.{ClientSteps};
 
-use crate::clients::{Client, push_event};
+use crate::counted::{Client, push_event};
 use crate::turns::{Act, Turn, take_turn};
 use all_shards::Shards;
 use tect_ids::{Answer, OpId};

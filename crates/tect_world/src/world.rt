@@ -9,7 +9,7 @@ ghost use Rattle.actors.specs.Turns.{turned_by};
 ghost use Rattle.tect_world.specs.Life.{Life, present, grown, last_op, next_op};
 ghost use Rattle.tect_world.specs.Steps.{Stepped, RanToEnd, GoesOn};
 
-use crate::clients::{Client, begin_client, idle_clients, push_event, stop_client};
+use crate::counted::{Client, begin_client, idle_clients, push_event, stop_client};
 use crate::steps::step_client;
 use actors::Turned;
 use all_shards::Shards;
