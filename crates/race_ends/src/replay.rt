@@ -39,7 +39,7 @@ pub(crate) fn redo_up_to<'a>(
     ensures later { IfOk result (λ later. later.now ≡ filter (is_late clock) moments.now) }
 {
     for (done, moment) in moments.iter().enumerate() {
-        if stamp(moment) >= clock {
+        if stamp(moment) > clock {
             return Ok(&moments[done..]);
         }
         redo(shards, moment)?;
