@@ -1,6 +1,7 @@
 ghost use Rattle.std.specs.Prelude.{◌≡◌, ◌+◌, ◌-◌, ◌<◌, ◌≤◌, ◌^◌, [], ◌∷◌, ◌++◌, true, false, length, IfOk, OnOk, OnErr, IsOk, ◌↔◌};
 ghost use Rattle.place_kit.specs.Replay.{IsKept, IsKept-prop};
 ghost use Rattle.place_kit.specs.Commits.{IsFull, entry_of, next_stamp, spare_of, used};
+ghost use Rattle.place_kit.specs.ReplyBytes.{reply_bytes};
 
 use crate::entry::{Entry, Label, Moment, Refused};
 use crate::log::Log;
@@ -105,6 +106,7 @@ impl<M: Machine> Kept<M> {
         ensures history { IfOk result (λ r. self.new.history.items ≡ self.old.history.items ++ entry_of self.old.label self.old.clock pass.old (M.wide req) (M.wide_reply r) ∷ []) }
         ensures trail { IfOk result (λ r. pass.new.moments.items ≡ pass.old.moments.items ++ Moment.Act (entry_of self.old.label self.old.clock pass.old (M.wide req) (M.wide_reply r)) ∷ []) }
         ensures clocks { OnOk result ((self.new.clock ≡ next_stamp self.old.clock pass.old) × (pass.new.clock ≡ next_stamp self.old.clock pass.old) × (pass.new.steps ≡ pass.old.steps + 1)) }
+        ensures bytes { IfOk result (λ r. pass.new.bytes ≡ pass.old.bytes + reply_bytes (M.wide_reply r)) }
         ensures spares { OnOk result (0 < self.old.history.spare → 0 < spare_of pass.old → (self.new.history.spare + 1 ≡ self.old.history.spare) × (spare_of pass.new + 1 ≡ spare_of pass.old)) }
         ensures full { (result ≡ Err (Refused.HistoryFull self.old.label.place)) ↔ IsFull pass.old }
         ensures memory { OnErr result (¬ IsFull pass.old → result ≡ Err Refused.NoMemory) }
@@ -134,6 +136,7 @@ impl<M: Machine> Kept<M> {
         ensures history { IfOk result (λ r. self.new.history.items ≡ self.old.history.items ++ entry_of self.old.label self.old.clock pass.old (M.wide req) (M.wide_reply r) ∷ []) }
         ensures trail { IfOk result (λ r. pass.new.moments.items ≡ pass.old.moments.items ++ Moment.Act (entry_of self.old.label self.old.clock pass.old (M.wide req) (M.wide_reply r)) ∷ []) }
         ensures clocks { OnOk result ((self.new.clock ≡ next_stamp self.old.clock pass.old) × (pass.new.clock ≡ next_stamp self.old.clock pass.old) × (pass.new.steps ≡ pass.old.steps + 1)) }
+        ensures bytes { IfOk result (λ r. pass.new.bytes ≡ pass.old.bytes + reply_bytes (M.wide_reply r)) }
         ensures spares { OnOk result (0 < self.old.history.spare → 0 < spare_of pass.old → (self.new.history.spare + 1 ≡ self.old.history.spare) × (spare_of pass.new + 1 ≡ spare_of pass.old)) }
         ensures free { M.is_free self.old.machine (M.wide req) ≡ true → 0 < self.old.history.spare → 0 < spare_of pass.old → IsOk result }
         ensures err { OnErr result ((self.new ≡ self.old) × (pass.new ≡ pass.old)) }
