@@ -6,3 +6,4 @@ pub mod Replay
 pub mod Commits
 pub mod Machines
 pub mod Kept
+pub mod Started

@@ -1,0 +1,5 @@
+use Rattle.noted_runs.proofs.Limits.{own_limits_make_limits}
+use Rattle.noted_runs.proofs.own_limits_make_limits.Goals as goal
+
+pub returns : goal.returns
+returns c = own_limits_make_limits

@@ -1,0 +1,5 @@
+use Rattle.noted_runs.proofs.Owns.{own_runs_make_run}
+use Rattle.noted_runs.proofs.own_runs_make_run.Goals as goal
+
+pub returns : goal.returns
+returns c = own_runs_make_run
