@@ -8,13 +8,13 @@ use Rattle.tect_ids.specs.Keys.{op_eq}
 use Rattle.op_names.specs.declared.program.Program.{Program}
 use Rattle.op_names.specs.Programs.{started, first_phase}
 use Rattle.world_runs.specs.declared.event.Event.{Event}
-use Rattle.world_runs.specs.declared.event.Event.TheVariants.{Began, Acted, Ended, Stopped, Failed, Dumped}
+use Rattle.world_runs.specs.declared.event.Event.TheVariants.{Began, Refused, Acted, Ended, Stopped, Failed, Dumped}
 use Rattle.world_runs.specs.Moments.{Moment, RunFrom, IsWorldRun, opening, after}
 use Rattle.world_runs.specs.Headline.{or_later, command_of}
 use Rattle.world_runs.specs.Report.{is_act_of, transactions}
 use Rattle.run_bounds.specs.Bounds.{is_look, is_look_of, is_other_of, looks_of, others_of, most_looks, IsShort}
 use Rattle.run_bounds.proofs.PhasesLeft.{looks_left, others_left, one_if, Leaves, first_leaves}
-use Rattle.run_bounds.proofs.Steps.{IsPast, Runs, IsAhead, IsNone, Rests, past_step, running_step, ahead_step}
+use Rattle.run_bounds.proofs.Steps.{IsPast, Runs, IsAhead, IsNone, Rests, Declines, past_step, running_step, ahead_step}
 
 -- ---- an op that is past
 
@@ -79,16 +79,25 @@ begun_takes es op c t =
     let l : Leaves c (first_phase c) (most_looks c) 4 = first_leaves c in
     record { looks = omega (arith, l.looks, t.looks); others = omega (arith, l.others, t.others) }
 
+-- an op that is refused takes nothing
+declined_takes : (es : List Event) (m : Moment) (e : Event) (op : OpId) → RunFrom (after m e) es → Declines m e op → Takes (e ∷ es) op 0 0
+declined_takes es m e op run d =
+    let rest : Takes es op (looks_left d.program.command d.program.phase) (others_left d.program.phase) = running_takes es (after m e) op d.program run d.runs in
+    none_more op e es 0 0 d.none record { looks = omega (arith, rest.looks, d.looks); others = omega (arith, rest.others, d.others) }
+
 -- an op that has not begun takes at most the most of the command that it will begin
 ahead_takes : (es : List Event) (m : Moment) (op : OpId) (c : Command) → RunFrom m es → IsAhead m op → command_of es op ≡ Some c → Takes es op (most_looks c) 4
 ahead_takes [] m op c run ahead began = nothing_takes op _ _
 ahead_takes (e ∷ es) m op c run ahead began =
     elim (ahead_step m e run.0 op ahead) [
-      | inl s ↦
+      | inl (inl s) ↦
           let began2 : Some s.command ≡ Some c = subst (λ (o : Option Command). or_later o (command_of es op) ≡ Some c) s.begins began in
           let same : s.command ≡ c = cc in
           subst (λ (d : Command). Takes (e ∷ es) op (most_looks d) 4) same
           (none_more op e es (most_looks s.command) 4 s.none (begun_takes es op s.command (running_takes es (after m e) op (started op s.command) run.1 s.runs)))
+      | inl (inr s) ↦
+          let t : Takes (e ∷ es) op 0 0 = declined_takes es m e op run.1 s in
+          record { looks = omega (arith, t.looks); others = omega (arith, t.others) }
       | inr s ↦
           let later : command_of es op ≡ Some c = subst (λ (o : Option Command). or_later o (command_of es op) ≡ Some c) s.begins began in
           none_more op e es (most_looks c) 4 s.none (ahead_takes es (after m e) op c run.1 s.ahead later)
@@ -99,8 +108,9 @@ idle_takes : (es : List Event) (m : Moment) (op : OpId) → RunFrom m es → IsA
 idle_takes [] m op run ahead idle = nothing_takes op 0 0
 idle_takes (e ∷ es) m op run ahead idle =
     elim (ahead_step m e run.0 op ahead) [
-      | inl s ↦
+      | inl (inl s) ↦
           let began : Some s.command ≡ None = subst (λ (o : Option Command). or_later o (command_of es op) ≡ None) s.begins idle in absurd (cc)
+      | inl (inr s) ↦ declined_takes es m e op run.1 s
       | inr s ↦
           let later : command_of es op ≡ None = subst (λ (o : Option Command). or_later o (command_of es op) ≡ None) s.begins idle in
           none_more op e es 0 0 s.none (idle_takes es (after m e) op run.1 s.ahead later)
@@ -117,6 +127,7 @@ one_of_both false b = refl
 -- the same of an event
 pub event_splits : (e : Event) (op : OpId) → one_if (is_act_of op e) ≡ one_if (is_look_of op e) + one_if (is_other_of op e)
 event_splits (Began other c) op = refl
+event_splits (Refused other c) op = refl
 event_splits (Acted other q x) op = one_of_both (op_eq other op) (is_look q)
 event_splits (Ended other a) op = refl
 event_splits (Stopped other) op = refl

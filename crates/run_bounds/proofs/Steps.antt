@@ -9,11 +9,12 @@ use Rattle.tect_ids.proofs.KeyTests.{op_eq_cases}
 use Rattle.store_rules.specs.declared.any.AnyReq.{AnyReq}
 use Rattle.store_rules.specs.declared.any.AnyReply.{AnyReply}
 use Rattle.store_rules.specs.Places.{request_place}
+use Rattle.op_names.specs.declared.program.Phase.TheVariants.{End}
 use Rattle.op_names.specs.declared.program.Program.{Program}
 use Rattle.op_names.specs.Programs.{object_number, phase_ask, phase_hear, started}
 use Rattle.world_runs.specs.declared.event.Event.{Event}
-use Rattle.world_runs.specs.declared.event.Event.TheVariants.{Began, Acted, Ended, Stopped, Failed, Dumped}
-use Rattle.world_runs.specs.Moments.{Moment, Actor, May, after, program_of, running, program_ask, program_answer, begun, went_on, heard}
+use Rattle.world_runs.specs.declared.event.Event.TheVariants.{Began, Refused, Acted, Ended, Stopped, Failed, Dumped}
+use Rattle.world_runs.specs.Moments.{Moment, Actor, May, after, program_of, running, program_ask, program_answer, begun, refused, no_room, went_on, heard}
 use Rattle.world_runs.specs.Headline.{begun_by}
 use Rattle.sound_runs.proofs.MomentsKeep.{RunsAs, runs_as}
 use Rattle.tree_runs.proofs.Histories.{numbers_grow}
@@ -48,6 +49,7 @@ HasOp _ = Unit {0}
 -- whose event it is, where it has an op
 abbrev pub op_of : Event → OpId
 op_of (Began op c) = op
+op_of (Refused op c) = op
 op_of (Acted op q x) = op
 op_of (Ended op a) = op
 op_of (Stopped op) = op
@@ -62,6 +64,7 @@ pub record IsNone (op : OpId) (e : Event) : Type 0 where
 -- no event of another op is one
 other_none : (op : OpId) (e : Event) → op_eq (op_of e) op ≡ false → IsNone op e
 other_none op (Began other c) t = record { looks = refl; others = refl }
+other_none op (Refused other c) t = record { looks = refl; others = refl }
 other_none op (Acted other q x) t = record { looks = rw t refl; others = rw t refl }
 other_none op (Ended other a) t = record { looks = refl; others = refl }
 other_none op (Stopped other) t = record { looks = refl; others = refl }
@@ -103,6 +106,9 @@ other_keeps : (m : Moment) (e : Event) → May m e → (op : OpId) → op_eq (op
 other_keeps m (Began other c) may op t =
     actor_cases (λ st. program_of st.running op ≡ running m op) m.actors other.actor (begun (m.actors other.actor) other c) op.actor
     (λ same. let idle : (m.actors op.actor).running ≡ None = rw same (may.0).idle in rw (t, idle) refl) (λ d. refl)
+other_keeps m (Refused other c) may op t =
+    actor_cases (λ st. program_of st.running op ≡ running m op) m.actors other.actor (refused (m.actors other.actor) other c) op.actor
+    (λ same. let idle : (m.actors op.actor).running ≡ None = rw same (may.0).idle in rw (t, idle) refl) (λ d. refl)
 other_keeps m (Acted other q x) may op t =
     let r : (p : Program) × (running m other ≡ Some p) = asks_runs (m.actors other.actor).serial (running m other) q may.0 in
     actor_cases (λ st. program_of st.running op ≡ running m op) m.actors other.actor (went_on m.counts (m.actors other.actor) q x) op.actor
@@ -128,6 +134,7 @@ own_actor P actors a state h = actor_cases P actors a state a (λ e. h) (λ d. a
 -- an op that is past has no event of its own
 own_not_past : (m : Moment) (e : Event) → HasOp e → May m e → IsPast m (op_of e) → ⊥
 own_not_past m (Began op c) has may past = omega (arith, (may.0).next, past.old)
+own_not_past m (Refused op c) has may past = omega (arith, (may.0).next, past.old)
 own_not_past m (Acted op q x) has may past =
     let r : (p : Program) × (running m op ≡ Some p) = asks_runs (m.actors op.actor).serial (running m op) q may.0 in
     let k : None ≡ Some r.0 = sym past.idle ∙ r.1 in cc
@@ -208,6 +215,9 @@ own_step : (m : Moment) (e : Event) → HasOp e → May m e → (p : Program) �
 own_step m (Began op c) has may p r =
     let none : running m op ≡ None = rw (may.0).idle refl in
     let k : None ≡ Some p = sym none ∙ r.is in absurd (cc)
+own_step m (Refused op c) has may p r =
+    let none : running m op ≡ None = rw (may.0).idle refl in
+    let k : None ≡ Some p = sym none ∙ r.is in absurd (cc)
 own_step m (Acted op q x) has may p r = inl (own_acts m op q x may p r)
 own_step m (Ended op a) has may p r = inr record {
   past = record {
@@ -261,17 +271,33 @@ pub record Begins (m : Moment) (e : Event) (op : OpId) : Type 0 where
   pub runs : Runs (after m e) op (started op command)
   pub none : IsNone op e
 
+-- it is refused: it runs with nothing left to do
+pub record Declines (m : Moment) (e : Event) (op : OpId) : Type 0 where
+  pub program : Program
+  pub runs : Runs (after m e) op program
+  pub looks : looks_left program.command program.phase ≡ 0
+  pub others : others_left program.phase ≡ 0
+  pub none : IsNone op e
+
+-- the one or the other
+abbrev pub Starts : Moment → Event → OpId → Type 0
+Starts m e op = Begins m e op ⊎ Declines m e op
+
+-- the program of an op that was refused
+abbrev declined : OpId → Command → Program
+declined op c = record { op = op; command = c; phase = End no_room }
+
 -- it has not begun yet
 pub record Waits (m : Moment) (e : Event) (op : OpId) : Type 0 where
   pub begins : begun_by e op ≡ None
   pub ahead : IsAhead (after m e) op
   pub none : IsNone op e
 
--- the op's own event is its begin
-own_begins : (m : Moment) (e : Event) → HasOp e → May m e → IsAhead m (op_of e) → Begins m e (op_of e)
-own_begins m (Began op c) has may ahead =
+-- the op's own event is its begin or its refusal
+own_starts : (m : Moment) (e : Event) → HasOp e → May m e → IsAhead m (op_of e) → Starts m e (op_of e)
+own_starts m (Began op c) has may ahead =
     let own : op_eq op op ≡ true = same_op op op refl in
-    record {
+    inl record {
       command = c;
       begins = rw own refl;
       runs = record {
@@ -280,15 +306,27 @@ own_begins m (Began op c) has may ahead =
       };
       none = record { looks = refl; others = refl };
     }
-own_begins m (Acted op q x) has may ahead =
+own_starts m (Refused op c) has may ahead =
+    let own : op_eq op op ≡ true = same_op op op refl in
+    inr record {
+      program = declined op c;
+      runs = record {
+        old = own_actor (λ st. op.number ≤ st.number) m.actors op.actor (refused (m.actors op.actor) op c) (omega arith);
+        is = own_actor (λ st. program_of st.running op ≡ Some (declined op c)) m.actors op.actor (refused (m.actors op.actor) op c) (rw own refl);
+      };
+      looks = refl;
+      others = refl;
+      none = record { looks = refl; others = refl };
+    }
+own_starts m (Acted op q x) has may ahead =
     let r : (p : Program) × (running m op ≡ Some p) = asks_runs (m.actors op.actor).serial (running m op) q may.0 in
     let k : None ≡ Some r.0 = sym ahead.idle ∙ r.1 in absurd (cc)
-own_begins m (Ended op a) has may ahead =
+own_starts m (Ended op a) has may ahead =
     let r : (p : Program) × (running m op ≡ Some p) = answers_runs (running m op) a may in
     let k : None ≡ Some r.0 = sym ahead.idle ∙ r.1 in absurd (cc)
-own_begins m (Stopped op) has may ahead = let k : None ≡ Some may.0 = sym ahead.idle ∙ may.1 in absurd (cc)
-own_begins m (Failed op a) has may ahead = let k : None ≡ Some (may.1).0 = sym ahead.idle ∙ (may.1).1 in absurd (cc)
-own_begins m Dumped has may ahead = absurd has
+own_starts m (Stopped op) has may ahead = let k : None ≡ Some may.0 = sym ahead.idle ∙ may.1 in absurd (cc)
+own_starts m (Failed op a) has may ahead = let k : None ≡ Some (may.1).0 = sym ahead.idle ∙ (may.1).1 in absurd (cc)
+own_starts m Dumped has may ahead = absurd has
 
 -- two ops of one actor have two numbers
 numbers_differ : (a b : OpId) → op_eq a b ≡ false → a.actor ≡ b.actor → a.number ≢ b.number
@@ -299,6 +337,12 @@ numbers_differ a b t same e = grind (arith, t, same, e)
 still_new : (m : Moment) (e : Event) → May m e → (op : OpId) → op_eq (op_of e) op ≡ false → (m.actors op.actor).number < op.number → ((after m e).actors op.actor).number < op.number
 still_new m (Began other c) may op t new =
     actor_cases (λ st. st.number < op.number) m.actors other.actor (begun (m.actors other.actor) other c) op.actor
+    (λ same.
+    let next : other.number ≡ (m.actors op.actor).number + 1 = rw same (may.0).next in
+    let differ : other.number ≢ op.number = numbers_differ other op t (sym same) in
+    omega (arith, next, differ, new)) (λ d. new)
+still_new m (Refused other c) may op t new =
+    actor_cases (λ st. st.number < op.number) m.actors other.actor (refused (m.actors other.actor) other c) op.actor
     (λ same.
     let next : other.number ≡ (m.actors op.actor).number + 1 = rw same (may.0).next in
     let differ : other.number ≢ op.number = numbers_differ other op t (sym same) in
@@ -316,6 +360,7 @@ still_new m Dumped may op t new = new
 -- another op's event is not its begin
 other_begins : (op : OpId) (e : Event) → op_eq (op_of e) op ≡ false → begun_by e op ≡ None
 other_begins op (Began other c) t = rw t refl
+other_begins op (Refused other c) t = refl
 other_begins op (Acted other q x) t = refl
 other_begins op (Ended other a) t = refl
 other_begins op (Stopped other) t = refl
@@ -323,10 +368,10 @@ other_begins op (Failed other a) t = refl
 other_begins op Dumped t = refl
 
 -- any event of an op
-op_ahead_step : (m : Moment) (e : Event) → HasOp e → May m e → (op : OpId) → IsAhead m op → Begins m e op ⊎ Waits m e op
+op_ahead_step : (m : Moment) (e : Event) → HasOp e → May m e → (op : OpId) → IsAhead m op → Starts m e op ⊎ Waits m e op
 op_ahead_step m e has may op ahead =
     elim (op_eq_cases (op_of e) op) [
-      | inl (t, same) ↦ inl (subst (λ (o : OpId). Begins m e o) same (own_begins m e has may (subst (λ (o : OpId). IsAhead m o) (sym same) ahead)))
+      | inl (t, same) ↦ inl (subst (λ (o : OpId). Starts m e o) same (own_starts m e has may (subst (λ (o : OpId). IsAhead m o) (sym same) ahead)))
       | inr (t, differs) ↦ inr record {
         begins = other_begins op e t;
         ahead = record { new = still_new m e may op t ahead.new; idle = other_keeps m e may op t ∙ ahead.idle };
@@ -335,6 +380,6 @@ op_ahead_step m e has may op ahead =
     ]
 
 -- any event
-pub ahead_step : (m : Moment) (e : Event) → May m e → (op : OpId) → IsAhead m op → Begins m e op ⊎ Waits m e op
+pub ahead_step : (m : Moment) (e : Event) → May m e → (op : OpId) → IsAhead m op → Starts m e op ⊎ Waits m e op
 ahead_step m Dumped may op ahead = inr record { begins = refl; ahead = ahead; none = record { looks = refl; others = refl } }
 ahead_step m e may op ahead = op_ahead_step m e tt may op ahead

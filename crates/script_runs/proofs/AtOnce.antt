@@ -9,9 +9,9 @@ use Rattle.op_names.specs.declared.program.Phase.TheVariants.{Walk, Bind, Grant,
 use Rattle.op_names.specs.declared.program.Program.{Program}
 use Rattle.op_names.specs.Programs.{object_number, phase_ask, phase_answer}
 use Rattle.world_runs.specs.declared.event.Event.{Event}
-use Rattle.world_runs.specs.declared.event.Event.TheVariants.{Began, Acted, Ended, Stopped, Failed, Dumped}
+use Rattle.world_runs.specs.declared.event.Event.TheVariants.{Began, Refused, Acted, Ended, Stopped, Failed, Dumped}
 use Rattle.world_runs.specs.Moments.{Moment, after, after_all, RunFrom, running, asked, answered, program_ask, program_answer}
-use Rattle.world_runs.specs.Follows.{Acts}
+use Rattle.world_runs.specs.Follows.{Acts, IsEndOf}
 use Rattle.script_runs.specs.Smooth.{EndIsNext, IsPrompt, EndsAtOnce}
 
 -- ---- who asks has no answer
@@ -36,6 +36,7 @@ pub acts_unanswered : (m : Moment) (op : OpId) (n : ℕ) (es more : List Event) 
 acts_unanswered m op n [] more a some acts run says = omega (arith, some, acts)
 acts_unanswered m op n (Acted o q x ∷ es) more a some acts run says = not_both m op q a (rw acts.0 at (run.0).0) says
 acts_unanswered m op n (Began o c ∷ es) more a some acts run says = acts
+acts_unanswered m op n (Refused o c ∷ es) more a some acts run says = acts
 acts_unanswered m op n (Ended o b ∷ es) more a some acts run says = acts
 acts_unanswered m op n (Stopped o ∷ es) more a some acts run says = acts
 acts_unanswered m op n (Failed o b ∷ es) more a some acts run says = acts
@@ -50,6 +51,7 @@ end_still_next op (e ∷ es) fs next = next
 prompt_still : (m : Moment) (e : Event) (es fs : List Event) → IsPrompt m e es → IsPrompt m e (es ++ fs)
 prompt_still m (Acted op q x) es fs prompt = λ a says. end_still_next op es fs (prompt a says)
 prompt_still m (Began op c) es fs prompt = tt
+prompt_still m (Refused op c) es fs prompt = tt
 prompt_still m (Ended op a) es fs prompt = tt
 prompt_still m (Stopped op) es fs prompt = tt
 prompt_still m (Failed op a) es fs prompt = tt
@@ -63,32 +65,61 @@ pub at_once-rest : (m : Moment) (es fs : List Event) → EndsAtOnce m (es ++ fs)
 at_once-rest m [] fs all = all
 at_once-rest m (e ∷ es) fs all = at_once-rest (after m e) es fs all.1
 
+-- the same of events that begin alike
+next_same : (op : OpId) (es : List Event) (d : Event) (fs gs : List Event) → EndIsNext op (es ++ d ∷ fs) → EndIsNext op (es ++ d ∷ gs)
+next_same op [] d fs gs next = next
+next_same op (e ∷ es) d fs gs next = next
+
+prompt_same : (m : Moment) (e : Event) (es : List Event) (d : Event) (fs gs : List Event) → IsPrompt m e (es ++ d ∷ fs) → IsPrompt m e (es ++ d ∷ gs)
+prompt_same m (Acted op q x) es d fs gs prompt = λ a says. next_same op es d fs gs (prompt a says)
+prompt_same m (Began op c) es d fs gs prompt = tt
+prompt_same m (Refused op c) es d fs gs prompt = tt
+prompt_same m (Ended op a) es d fs gs prompt = tt
+prompt_same m (Stopped op) es d fs gs prompt = tt
+prompt_same m (Failed op a) es d fs gs prompt = tt
+prompt_same m Dumped es d fs gs prompt = tt
+
+pub at_once-swap : (m : Moment) (es : List Event) (d : Event) (fs gs : List Event) → EndsAtOnce m (es ++ d ∷ fs) → EndsAtOnce (after_all m es) (d ∷ gs) → EndsAtOnce m (es ++ d ∷ gs)
+at_once-swap m [] d fs gs all then = then
+at_once-swap m (e ∷ es) d fs gs all then = (prompt_same (after m e) e es d fs gs all.0, at_once-swap (after m e) es d fs gs all.1 then)
+
 -- ---- the events of one op
 
 module _ (op : OpId) where
   -- transactions of the op up to its end
-  ends_next : (m : Moment) (n : ℕ) (es : List Event) (a b : Answer) → Acts op n es → RunFrom m (es ++ Ended op a ∷ []) → answered m op ≡ Some b → EndIsNext op (es ++ Ended op a ∷ [])
-  ends_next m n [] a b acts run says = refl
-  ends_next m n (Acted o q x ∷ es) a b acts run says = absurd (not_both m op q b (rw acts.0 at (run.0).0) says)
-  ends_next m n (Began o c ∷ es) a b acts run says = absurd acts
-  ends_next m n (Ended o d ∷ es) a b acts run says = absurd acts
-  ends_next m n (Stopped o ∷ es) a b acts run says = absurd acts
-  ends_next m n (Failed o d ∷ es) a b acts run says = absurd acts
-  ends_next m n (Dumped ∷ es) a b acts run says = absurd acts
+  ends_next : (m : Moment) (n : ℕ) (es : List Event) (end : Event) (b : Answer) → IsEndOf op end → Acts op n es → RunFrom m (es ++ end ∷ []) → answered m op ≡ Some b → EndIsNext op (es ++ end ∷ [])
+  ends_next m n [] end b ends acts run says = ends
+  ends_next m n (Acted o q x ∷ es) end b ends acts run says = absurd (not_both m op q b (rw acts.0 at (run.0).0) says)
+  ends_next m n (Began o c ∷ es) end b ends acts run says = absurd acts
+  ends_next m n (Refused o c ∷ es) end b ends acts run says = absurd acts
+  ends_next m n (Ended o d ∷ es) end b ends acts run says = absurd acts
+  ends_next m n (Stopped o ∷ es) end b ends acts run says = absurd acts
+  ends_next m n (Failed o d ∷ es) end b ends acts run says = absurd acts
+  ends_next m n (Dumped ∷ es) end b ends acts run says = absurd acts
 
-  pub end_at_once : (m : Moment) (n : ℕ) (es : List Event) (a : Answer) → Acts op n es → RunFrom m (es ++ Ended op a ∷ []) → EndsAtOnce m (es ++ Ended op a ∷ [])
-  end_at_once m n [] a acts run = (tt, tt)
-  end_at_once m count (Acted o q x ∷ es) a acts run =
+  end_alone : (m : Moment) (end : Event) → IsEndOf op end → EndsAtOnce m (end ∷ [])
+  end_alone m (Ended o a) ends = (tt, tt)
+  end_alone m (Failed o a) ends = (tt, tt)
+  end_alone m (Began o c) ends = absurd ends
+  end_alone m (Refused o c) ends = absurd ends
+  end_alone m (Acted o q x) ends = absurd ends
+  end_alone m (Stopped o) ends = absurd ends
+  end_alone m Dumped ends = absurd ends
+
+  pub end_at_once : (m : Moment) (n : ℕ) (es : List Event) (end : Event) → IsEndOf op end → Acts op n es → RunFrom m (es ++ end ∷ []) → EndsAtOnce m (es ++ end ∷ [])
+  end_at_once m n [] end ends acts run = end_alone m end ends
+  end_at_once m count (Acted o q x ∷ es) end ends acts run =
       let n : Moment = after m (Acted o q x) in (
-        λ b says. subst (λ (z : OpId). EndIsNext z (es ++ Ended op a ∷ [])) (sym acts.0)
-            (ends_next n (acts.1).0 es a b (acts.1).2 run.1 (subst (λ (z : OpId). answered n z ≡ Some b) acts.0 says)),
-        end_at_once n (acts.1).0 es a (acts.1).2 run.1,
+        λ b says. subst (λ (z : OpId). EndIsNext z (es ++ end ∷ [])) (sym acts.0)
+            (ends_next n (acts.1).0 es end b ends (acts.1).2 run.1 (subst (λ (z : OpId). answered n z ≡ Some b) acts.0 says)),
+        end_at_once n (acts.1).0 es end ends (acts.1).2 run.1,
       )
-  end_at_once m n (Began o c ∷ es) a acts run = absurd acts
-  end_at_once m n (Ended o d ∷ es) a acts run = absurd acts
-  end_at_once m n (Stopped o ∷ es) a acts run = absurd acts
-  end_at_once m n (Failed o d ∷ es) a acts run = absurd acts
-  end_at_once m n (Dumped ∷ es) a acts run = absurd acts
+  end_at_once m n (Began o c ∷ es) end ends acts run = absurd acts
+  end_at_once m n (Refused o c ∷ es) end ends acts run = absurd acts
+  end_at_once m n (Ended o d ∷ es) end ends acts run = absurd acts
+  end_at_once m n (Stopped o ∷ es) end ends acts run = absurd acts
+  end_at_once m n (Failed o d ∷ es) end ends acts run = absurd acts
+  end_at_once m n (Dumped ∷ es) end ends acts run = absurd acts
 
   -- fewer than its transactions
   pub take_at_once : (m : Moment) (k n : ℕ) (es more : List Event) → k + 1 ≤ n → Acts op n es → RunFrom m (es ++ more) → EndsAtOnce m (take k es)
@@ -100,6 +131,7 @@ module _ (op : OpId) where
       let n : Moment = after m (Acted o q x) in
       (λ a says. absurd (acts_unanswered n op rest es more a (omega (arith, later)) (acts.1).2 run.1 (subst (λ (z : OpId). answered n z ≡ Some a) acts.0 says)), take_at_once n k rest es more later (acts.1).2 run.1)
   take_at_once m (suc k) n (Began o c ∷ es) more few acts run = absurd acts
+  take_at_once m (suc k) n (Refused o c ∷ es) more few acts run = absurd acts
   take_at_once m (suc k) n (Ended o d ∷ es) more few acts run = absurd acts
   take_at_once m (suc k) n (Stopped o ∷ es) more few acts run = absurd acts
   take_at_once m (suc k) n (Failed o d ∷ es) more few acts run = absurd acts

@@ -8,7 +8,7 @@ use Rattle.store_rules.specs.declared.any.AnyReq.{AnyReq}
 use Rattle.store_rules.specs.Store.{store_reply}
 use Rattle.op_names.specs.declared.program.Program.{Program}
 use Rattle.world_runs.specs.declared.event.Event.{Event}
-use Rattle.world_runs.specs.declared.event.Event.TheVariants.{Began, Acted, Ended, Stopped, Failed, Dumped}
+use Rattle.world_runs.specs.declared.event.Event.TheVariants.{Began, Refused, Acted, Ended, Stopped, Failed, Dumped}
 use Rattle.world_runs.specs.Moments.{Moment, after, running, asked, answered, program_of}
 use Rattle.world_runs.specs.Follows.{Acts, EndsAfter, NoneFails}
 use Rattle.world_runs.specs.Report.{is_act_of}
@@ -111,6 +111,7 @@ acts_take op zero count es few acts = refl
 acts_take op (suc n) count [] few acts = absurd (omega (arith, few, acts))
 acts_take op (suc n) count (Acted o q x ∷ es) few acts = (acts.0, (n, omega arith, acts_take op n (acts.1).0 es (omega (arith, few, (acts.1).1)) (acts.1).2))
 acts_take op (suc n) count (Began o c ∷ es) few acts = absurd acts
+acts_take op (suc n) count (Refused o c ∷ es) few acts = absurd acts
 acts_take op (suc n) count (Ended o a ∷ es) few acts = absurd acts
 acts_take op (suc n) count (Stopped o ∷ es) few acts = absurd acts
 acts_take op (suc n) count (Failed o a ∷ es) few acts = absurd acts

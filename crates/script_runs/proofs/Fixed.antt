@@ -9,10 +9,10 @@ use Rattle.tect_ids.specs.declared.script.Line.TheVariants as lines
 use Rattle.world_runs.specs.declared.event.Event.{Event}
 use Rattle.world_runs.specs.declared.event.Event.TheVariants.{Began, Dumped}
 use Rattle.world_runs.specs.Moments.{Moment, May, opening, after, after_all, RunFrom, answered}
-use Rattle.world_runs.specs.Follows.{Acts, EndsAfter, BeginsAndEnds, DoesLine, NoneFails}
+use Rattle.world_runs.specs.Follows.{Acts, EndsAfter, IsBeginOf, BeginsAndEnds, DoesLine, NoneFails}
 use Rattle.store_world.specs.Worlds.{opening_ghost}
 use Rattle.sound_runs.proofs.MomentsKeep.{opening_all_sound}
-use Rattle.tree_runs.proofs.Histories.{run-front, run-rest, none_fails-front, none_fails-rest}
+use Rattle.tree_runs.proofs.Histories.{run-front, run-rest, none_fails-front, none_fails-rest, begin_is}
 use Rattle.script_runs.specs.Standing.{busy_at}
 use Rattle.script_runs.specs.Laws.{ScriptFixesRun, ScriptWithoutStepsFixesRun}
 use Rattle.script_runs.proofs.SameEnds.{ends_answer, answers_same, acts_same, acts_not_ends}
@@ -29,20 +29,41 @@ begun_same m a op other c own same one two =
     let numbers : op.number ≡ other.number = first ∙ sym second in
     λ i. record { actor = actors i; number = numbers i }
 
+-- the op's begin, where none is refused, and then its end
+record BeginsToEnd (a : ℕ) (c : Command) (es : List Event) : Type 0 where
+  op : OpId
+  rest : List Event
+  count : ℕ
+  own : op.actor ≡ a
+  is : es ≡ Began op c ∷ rest
+  ends : EndsAfter op count rest
+
+begins_to_end : (a : ℕ) (c : Command) (es : List Event) → NoneFails es → BeginsAndEnds a c es → BeginsToEnd a c es
+begins_to_end a c es none b =
+    let fine : NoneFails (b.1 ∷ b.2) = rw b.4 at none in
+    let begin : b.1 ≡ Began b.0 c = begin_is b.0 c b.1 b.5 fine.0 in
+    record { op = b.0; rest = b.2; count = (b.6).0; own = b.3; is = b.4 ∙ ap (λ e. e ∷ b.2) begin; ends = (b.6).1 }
+
 -- the same op's begin, and then the same
-does_same : (m : Moment) (a : ℕ) (c : Command) (d e : List Event) → RunFrom m d → RunFrom m e → NoneFails d → NoneFails e → BeginsAndEnds a c d → BeginsAndEnds a c e → d ≡ e
+does_same : (m : Moment) (a : ℕ) (c : Command) (d e : List Event) → RunFrom m d → RunFrom m e → NoneFails d → NoneFails e → BeginsToEnd a c d → BeginsToEnd a c e → d ≡ e
 does_same m a c d e one two none clean first second =
-    let run : RunFrom m (Began first.0 c ∷ first.1) = rw first.3 at one in
-    let other : RunFrom m (Began second.0 c ∷ second.1) = rw second.3 at two in
-    let fine : NoneFails (Began first.0 c ∷ first.1) = rw first.3 at none in
-    let good : NoneFails (Began second.0 c ∷ second.1) = rw second.3 at clean in
-    let op : first.0 ≡ second.0 = begun_same m a first.0 second.0 c first.2 second.2 run.0 other.0 in
-    let there : RunFrom (after m (Began second.0 c)) first.1 = subst (λ (o : OpId). RunFrom (after m (Began o c)) first.1) op run.1 in
-    let rest : first.1 ≡ second.1 = answers_same second.0 (after m (Began second.0 c)) (first.4).0 (second.4).0 first.1 second.1 there other.1
-    (ends_answer second.0 (first.4).0 first.1 (subst (λ (o : OpId). EndsAfter o (first.4).0 first.1) op (first.4).1) fine.1)
-    (ends_answer second.0 (second.4).0 second.1 (second.4).1 good.1) in
-    let whole : Began first.0 c ∷ first.1 ≡ Began second.0 c ∷ second.1 = λ i. Began (op i) c ∷ rest i in
-    first.3 ∙ whole ∙ sym second.3
+    let run : RunFrom m (Began first.op c ∷ first.rest) = rw first.is at one in
+    let other : RunFrom m (Began second.op c ∷ second.rest) = rw second.is at two in
+    let fine : NoneFails (Began first.op c ∷ first.rest) = rw first.is at none in
+    let good : NoneFails (Began second.op c ∷ second.rest) = rw second.is at clean in
+    let op : first.op ≡ second.op = begun_same m a first.op second.op c first.own second.own run.0 other.0 in
+    let there : RunFrom (after m (Began second.op c)) first.rest = subst (λ (o : OpId). RunFrom (after m (Began o c)) first.rest) op run.1 in
+    let rest : first.rest ≡ second.rest = answers_same second.op (after m (Began second.op c)) first.count second.count first.rest second.rest there other.1
+    (ends_answer second.op first.count first.rest (subst (λ (o : OpId). EndsAfter o first.count first.rest) op first.ends) fine.1)
+    (ends_answer second.op second.count second.rest second.ends good.1) in
+    let whole : Began first.op c ∷ first.rest ≡ Began second.op c ∷ second.rest = λ i. Began (op i) c ∷ rest i in
+    first.is ∙ whole ∙ sym second.is
+
+-- the op's begin alone
+begins_alone : (op : OpId) (c : Command) (begin : Event) (es : List Event) → NoneFails es → es ≡ begin ∷ [] → IsBeginOf op c begin → es ≡ Began op c ∷ []
+begins_alone op c begin es none is begins =
+    let fine : NoneFails (begin ∷ []) = rw is at none in
+    is ∙ ap (λ e. e ∷ []) (begin_is op c begin begins fine.0)
 
 begins_same : (m : Moment) (a : ℕ) (c : Command) (d e : List Event) (op other : OpId) → op.actor ≡ a → other.actor ≡ a → d ≡ Began op c ∷ [] → e ≡ Began other c ∷ [] → RunFrom m d → RunFrom m e → d ≡ e
 begins_same m a c d e op other own same first second one two =
@@ -62,8 +83,9 @@ step_not_both m op n k d e next one two done goes_on settled few ends clean =
 -- what an actor does at a line
 module _ (m : Moment) (a : ℕ) (d e : List Event) (one : RunFrom m d) (two : RunFrom m e) (none : NoneFails d) (clean : NoneFails e) where
   line_same : (act : Act) (busy next last : Option OpId) → DoesLine a busy act d next → DoesLine a busy act e last → IsSettled (after_all m d) act next → IsSettled (after_all m e) act last → d ≡ e
-  line_same (acts.Do c) None next last first second settled also = does_same m a c d e one two none clean first.0 second.0
-  line_same (acts.Begin c) None next last first second settled also = begins_same m a c d e first.0 second.0 first.1 second.1 first.2 second.2 one two
+  line_same (acts.Do c) None next last first second settled also = does_same m a c d e one two none clean (begins_to_end a c d none first.0) (begins_to_end a c e clean second.0)
+  line_same (acts.Begin c) None next last first second settled also =
+      begins_same m a c d e first.0 second.0 first.2 second.2 (begins_alone first.0 c first.1 d none first.3 first.4) (begins_alone second.0 c second.1 e clean second.3 second.4) one two
   line_same (acts.Step n) None next last first second settled also = first.0 ∙ sym second.0
   line_same acts.Run None next last first second settled also = first.0 ∙ sym second.0
   line_same acts.Stop None next last first second settled also = first.0 ∙ sym second.0

@@ -4,6 +4,8 @@ pub mod FollowOn
 pub mod CanEnd
 pub mod AtOnce
 pub mod RunOn
+pub mod RunOut
+pub mod CutLines
 pub mod SameEnds
 pub mod Settles
 pub mod Fixed

@@ -6,9 +6,9 @@ use Rattle.tect_ids.specs.declared.script.Act.{Act}
 use Rattle.tect_ids.specs.declared.script.Act.TheVariants as acts
 use Rattle.op_names.specs.declared.program.Program.{Program}
 use Rattle.world_runs.specs.declared.event.Event.{Event}
-use Rattle.world_runs.specs.declared.event.Event.TheVariants.{Began, Stopped}
+use Rattle.world_runs.specs.declared.event.Event.TheVariants.{Stopped}
 use Rattle.world_runs.specs.Moments.{Actor, Moment, after, after_all, RunFrom}
-use Rattle.world_runs.specs.Follows.{Acts, EndsAfter, BeginsAndEnds, DoesLine, with_busy}
+use Rattle.world_runs.specs.Follows.{Acts, EndsAfter, IsBeginOf, BeginsAndEnds, DoesLine, with_busy}
 use Rattle.world_runs.specs.Turns.{ClientTurn, TakesAct, turn_after}
 use Rattle.world_runs.specs.Turns as turns
 use Rattle.sound_runs.specs.Known.{AllSound, Knows}
@@ -16,7 +16,7 @@ use Rattle.sound_runs.specs.Pasts.{world_of}
 use Rattle.sound_runs.proofs.RunsKeep.{knows_of}
 use Rattle.store_world.specs.Worlds.{Ghost}
 use Rattle.script_runs.specs.Standing.{op_of, busy_at, AtTurn}
-use Rattle.script_runs.proofs.Moves.{changed, Moves, Keeps, none_moves, moves_on, acts_move, ends_move, begun_moves, stopped_moves}
+use Rattle.script_runs.proofs.Moves.{changed, Moves, Keeps, none_moves, moves_on, acts_move, ends_move, begin_moves, stopped_moves}
 
 -- ---- the op that an actor is busy with
 
@@ -87,26 +87,26 @@ module _ (m : Moment) (a : ℕ) (act : Act) where
       (subst (λ (i : ℕ). Keeps m (after_all m part) i (busy_at m i)) own (acts_move m op n part e))))
 
   -- the op began
-  begins_done : (op : OpId) (c : Command) (part : List Event) (next : Option OpId) → op.actor ≡ a → part ≡ Began op c ∷ [] → RunFrom m part → next ≡ Some op → Done next part
-  begins_done op c part next own is run last =
-      rw (is, last) (begun_done m _ a act (Some op) (subst (λ (i : ℕ). Moves m (after m (Began op c)) i ((m.actors i).number + 1) (m.actors i).stopped (Some op)) own
-      (begun_moves m op c (rw is at run).0)))
+  begins_done : (op : OpId) (c : Command) (begin : Event) (part : List Event) (next : Option OpId) → op.actor ≡ a → part ≡ begin ∷ [] → IsBeginOf op c begin → RunFrom m part → next ≡ Some op → Done next part
+  begins_done op c begin part next own is begins run last =
+      rw (is, last) (begun_done m _ a act (Some op) (subst (λ (i : ℕ). Moves m (after m begin) i ((m.actors i).number + 1) (m.actors i).stopped (Some op)) own
+      (begin_moves m op c begin begins (rw is at run).0)))
 
   -- the op began and ran to its end
   does_done : (c : Command) (part : List Event) (next : Option OpId) → BeginsAndEnds a c part → RunFrom m part → next ≡ None → Done next part
   does_done c part next b run last =
       let op : OpId = b.0 in
-      let mid : Moment = after m (Began op c) in
-      let first : Moves m mid op.actor ((m.actors op.actor).number + 1) (m.actors op.actor).stopped (Some op) = begun_moves m op c (rw b.3 at run).0 in
-      let whole : Moves m (after_all mid b.1) op.actor ((m.actors op.actor).number + 1) (m.actors op.actor).stopped None =
-      moves_on m mid (after_all mid b.1) op.actor _ _ _ _ first (ends_move mid op (b.4).0 b.1 (b.4).1) in
-      rw (b.3, last) (begun_done m _ a act None (subst (λ (i : ℕ). Moves m (after_all mid b.1) i ((m.actors i).number + 1) (m.actors i).stopped None) b.2 whole))
+      let mid : Moment = after m b.1 in
+      let first : Moves m mid op.actor ((m.actors op.actor).number + 1) (m.actors op.actor).stopped (Some op) = begin_moves m op c b.1 b.5 (rw b.4 at run).0 in
+      let whole : Moves m (after_all mid b.2) op.actor ((m.actors op.actor).number + 1) (m.actors op.actor).stopped None =
+      moves_on m mid (after_all mid b.2) op.actor _ _ _ _ first (ends_move mid op (b.6).0 b.2 (b.6).1) in
+      rw (b.4, last) (begun_done m _ a act None (subst (λ (i : ℕ). Moves m (after_all mid b.2) i ((m.actors i).number + 1) (m.actors i).stopped None) b.3 whole))
 
 -- the events of a line
 pub line_done : (m : Moment) (a : ℕ) (act : Act) (part : List Event) (busy next : Option OpId) → busy_at m a ≡ busy → ((op : OpId) → busy ≡ Some op → op.actor ≡ a) → RunFrom m part
     → DoesLine a busy act part next → IsDone m (after_all m part) a act next
 line_done m a (acts.Do c) part None next is own run d = does_done m a (acts.Do c) c part next d.0 run d.1
-line_done m a (acts.Begin c) part None next is own run d = begins_done m a (acts.Begin c) d.0 c part next d.1 d.2 run d.3
+line_done m a (acts.Begin c) part None next is own run d = begins_done m a (acts.Begin c) d.0 c d.1 part next d.2 d.3 d.4 run d.5
 line_done m a (acts.Step n) part None next is own run d = idle_done m a (acts.Step n) part next is d
 line_done m a acts.Run part None next is own run d = idle_done m a acts.Run part next is d
 line_done m a acts.Stop part None next is own run d = idle_done m a acts.Stop part next is d

@@ -65,16 +65,16 @@ module _ (m : Moment) (g : Ghost) (s : AllSound m g) (a : ℕ) (c : Command) (fr
   can = running_ends (after m began) (ghost_after m g began) (event_sound m g began s may) op (started op c) runs
 
   can_begin : CanDo m a None (acts.Begin c)
-  can_begin = record { events = began ∷ []; next = Some op; run = (may, tt); does = (op, refl, refl, refl); none_fails = (tt, tt); at_once = (tt, tt) }
+  can_begin = record { events = began ∷ []; next = Some op; run = (may, tt); does = (op, began, refl, refl, (refl, refl), refl); none_fails = (tt, tt); at_once = (tt, tt) }
 
   can_do : CanDo m a None (acts.Do c)
   can_do = record {
     events = began ∷ to_end (after m began) op can;
     next = None;
     run = (may, can.run);
-    does = ((op, to_end (after m began) op can, refl, refl, (can.count, end_follows (after m began) op can)), refl);
+    does = ((op, began, to_end (after m began) op can, refl, refl, (refl, refl), (can.count, end_follows (after m began) op can)), refl);
     none_fails = (tt, end_none_fails (after m began) op can);
-    at_once = (tt, end_at_once op (after m began) can.count can.front can.answer can.acts can.run);
+    at_once = (tt, end_at_once op (after m began) can.count can.front (Ended op can.answer) refl can.acts can.run);
   }
 
 -- a busy actor
@@ -89,14 +89,14 @@ module _ (m : Moment) (g : Ghost) (s : AllSound m g) (a : ℕ) (op : OpId) (is :
   ends = running_ends m g s op busy.program runs_on
 
   can_run : CanDo m a (Some op) acts.Run
-  can_run = record { events = to_end m op ends; next = None; run = ends.run; does = ((ends.count, end_follows m op ends), refl); none_fails = end_none_fails m op ends; at_once = end_at_once op m ends.count ends.front ends.answer ends.acts ends.run }
+  can_run = record { events = to_end m op ends; next = None; run = ends.run; does = ((ends.count, end_follows m op ends), refl); none_fails = end_none_fails m op ends; at_once = end_at_once op m ends.count ends.front (Ended op ends.answer) refl ends.acts ends.run }
 
   can_stop : CanDo m a (Some op) acts.Stop
   can_stop = record { events = Stopped op ∷ []; next = None; run = ((busy.program, runs_on), tt); does = (refl, refl); none_fails = (tt, tt); at_once = (tt, tt) }
 
   -- it ends by then, or there are more transactions to come
   can_step : (n : ℕ) → (ends.count ≤ n) ⊎ (n + 1 ≤ ends.count) → CanDo m a (Some op) (acts.Step n)
-  can_step n (inl short) = record { events = to_end m op ends; next = None; run = ends.run; does = inr (ends.count, short, end_follows m op ends, refl); none_fails = end_none_fails m op ends; at_once = end_at_once op m ends.count ends.front ends.answer ends.acts ends.run }
+  can_step n (inl short) = record { events = to_end m op ends; next = None; run = ends.run; does = inr (ends.count, short, end_follows m op ends, refl); none_fails = end_none_fails m op ends; at_once = end_at_once op m ends.count ends.front (Ended op ends.answer) refl ends.acts ends.run }
   can_step n (inr long) =
       let these : Acts op n (take n ends.front) = acts_take op n ends.count ends.front (omega (arith, long)) ends.acts in
       record {
@@ -175,7 +175,7 @@ lines_can (lines.Lose disk ∷ ls) m g turns k s in_turn all few = absurd in_tur
 
 -- ---- a script of two parts
 
-turn_front : (front back : List Line) (turns : Turns) → InTurnFrom turns (front ++ back) → InTurnFrom turns front
+pub turn_front : (front back : List Line) (turns : Turns) → InTurnFrom turns (front ++ back) → InTurnFrom turns front
 turn_front [] back turns t = tt
 turn_front (lines.Client client a act ∷ ls) back turns t = (t.0, t.1, t.2, turn_front ls back (with_turn turns a (turn_after act)) t.3)
 turn_front (lines.Dump ∷ ls) back turns t = turn_front ls back turns t
@@ -183,7 +183,7 @@ turn_front (lines.Store counts ∷ ls) back turns t = absurd t
 turn_front (lines.Sweep ∷ ls) back turns t = absurd t
 turn_front (lines.Lose disk ∷ ls) back turns t = absurd t
 
-turn_back : (front back : List Line) (turns : Turns) → InTurnFrom turns (front ++ back) → InTurnFrom (turns_after turns front) back
+pub turn_back : (front back : List Line) (turns : Turns) → InTurnFrom turns (front ++ back) → InTurnFrom (turns_after turns front) back
 turn_back [] back turns t = t
 turn_back (lines.Client client a act ∷ ls) back turns t = turn_back ls back (with_turn turns a (turn_after act)) t.3
 turn_back (lines.Dump ∷ ls) back turns t = turn_back ls back turns t

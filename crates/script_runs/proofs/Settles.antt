@@ -2,15 +2,16 @@
 use Rattle.std.proofs.Common.{◌≡◌, ◌≢◌, ◌≤◌, ℕ, inl, inr, ◌⊎◌, Option, Some, None, List, [], ◌∷◌, ◌++◌, refl, sym, ap, subst, ◌∙◌, arith, append_assoc}
 use Rattle.tect_ids.specs.declared.ids.OpId.{OpId}
 use Rattle.tect_ids.specs.declared.answer.Answer.{Answer}
+use Rattle.tect_ids.specs.declared.command.Command.{Command}
 use Rattle.tect_ids.specs.declared.script.Act.{Act}
 use Rattle.tect_ids.specs.declared.script.Act.TheVariants as acts
 use Rattle.tect_ids.specs.declared.script.Line.{Line}
 use Rattle.tect_ids.specs.declared.script.Line.TheVariants as lines
 use Rattle.tect_ids.proofs.KeyTests.{num_eq_cases}
 use Rattle.world_runs.specs.declared.event.Event.{Event}
-use Rattle.world_runs.specs.declared.event.Event.TheVariants.{Began, Acted, Ended, Stopped, Failed, Dumped}
+use Rattle.world_runs.specs.declared.event.Event.TheVariants.{Began, Refused, Acted, Ended, Stopped, Failed, Dumped}
 use Rattle.world_runs.specs.Moments.{Moment, after, after_all, RunFrom, answered}
-use Rattle.world_runs.specs.Follows.{Acts, IsEndOf, EndsAfter, DoesLine, Busy, with_busy, FollowsFrom}
+use Rattle.world_runs.specs.Follows.{Acts, IsEndOf, IsBeginOf, EndsAfter, DoesLine, Busy, with_busy, FollowsFrom}
 use Rattle.store_world.specs.Worlds.{Ghost}
 use Rattle.sound_runs.specs.Known.{AllSound}
 use Rattle.sound_runs.specs.Pasts.{ghosts_after}
@@ -52,16 +53,28 @@ twice b a x y i d = twice_at b a x y d i
 end_no_act : (op o : OpId) (n : ℕ) (e : Event) (es : List Event) → IsEndOf op e → Acts o n (e ∷ es) → ⊥
 end_no_act op o n (Acted u q x) es end acts = end
 end_no_act op o n (Began u c) es end acts = acts
+end_no_act op o n (Refused u c) es end acts = acts
 end_no_act op o n (Ended u a) es end acts = acts
 end_no_act op o n (Stopped u) es end acts = acts
 end_no_act op o n (Failed u a) es end acts = acts
 end_no_act op o n Dumped es end acts = acts
+
+-- nor a begin
+end_no_begin : (op o : OpId) (c : Command) (e : Event) → IsEndOf op e → IsBeginOf o c e → ⊥
+end_no_begin op o c (Began u d) end begins = end
+end_no_begin op o c (Refused u d) end begins = end
+end_no_begin op o c (Acted u q x) end begins = end
+end_no_begin op o c (Ended u a) end begins = begins
+end_no_begin op o c (Stopped u) end begins = end
+end_no_begin op o c (Failed u a) end begins = begins
+end_no_begin op o c Dumped end begins = end
 
 -- it is of one op
 end_of_one : (op o : OpId) (e : Event) → IsEndOf op e → IsEndOf o e → o ≡ op
 end_of_one op o (Ended u a) one other = sym other ∙ one
 end_of_one op o (Failed u a) one other = sym other ∙ one
 end_of_one op o (Began u c) one other = absurd one
+end_of_one op o (Refused u c) one other = absurd one
 end_of_one op o (Acted u q x) one other = absurd one
 end_of_one op o (Stopped u) one other = absurd one
 end_of_one op o Dumped one other = absurd one
@@ -128,8 +141,8 @@ module _ (n : Moment) (g : Ghost) (s : AllSound n g) (a : ℕ) (op : OpId) (is :
   -- another actor's line does nothing then
   other_none : (c : ℕ) (busy : Option OpId) (act : Act) (part later rest : List Event) (next : Option OpId) → c ≢ a → ((o : OpId) → busy ≡ Some o → o.actor ≡ c) → e ∷ rest ≡ part ++ later
       → DoesLine c busy act part next → part ≡ []
-  other_none c None (acts.Do x) part later rest next apart own parts d = absurd (not_first op e (Began (d.0).0 x) rest part later (d.0).1 end parts (d.0).3)
-  other_none c None (acts.Begin x) part later rest next apart own parts d = absurd (not_first op e (Began d.0 x) rest part later [] end parts d.2)
+  other_none c None (acts.Do x) part later rest next apart own parts d = absurd (end_no_begin op (d.0).0 x (d.0).1 (not_first op e (d.0).1 rest part later (d.0).2 end parts (d.0).4) (d.0).5)
+  other_none c None (acts.Begin x) part later rest next apart own parts d = absurd (end_no_begin op d.0 x d.1 (not_first op e d.1 rest part later [] end parts d.3) d.4)
   other_none c None (acts.Step k) part later rest next apart own parts d = d.0
   other_none c None acts.Run part later rest next apart own parts d = d.0
   other_none c None acts.Stop part later rest next apart own parts d = d.0
@@ -234,6 +247,7 @@ settled_or n acts.Stop next = inl tt
 some_acts : (op : OpId) (n : ℕ) (e : Event) (es : List Event) → Acts op n (e ∷ es) → 1 ≤ n
 some_acts op n (Acted o q x) es acts = omega (arith, (acts.1).1)
 some_acts op n (Began o c) es acts = absurd acts
+some_acts op n (Refused o c) es acts = absurd acts
 some_acts op n (Ended o a) es acts = absurd acts
 some_acts op n (Stopped o) es acts = absurd acts
 some_acts op n (Failed o a) es acts = absurd acts
@@ -247,6 +261,7 @@ end_follows_acts m op n (Acted o q x ∷ []) rest a some acts all says =
 end_follows_acts m op n (Acted o q x ∷ d ∷ ds) rest a some acts all says =
     end_follows_acts (after m (Acted o q x)) op (acts.1).0 (d ∷ ds) rest a (some_acts op (acts.1).0 d ds (acts.1).2) (acts.1).2 all.1 says
 end_follows_acts m op n (Began o c ∷ es) rest a some acts all says = absurd acts
+end_follows_acts m op n (Refused o c ∷ es) rest a some acts all says = absurd acts
 end_follows_acts m op n (Ended o b ∷ es) rest a some acts all says = absurd acts
 end_follows_acts m op n (Stopped o ∷ es) rest a some acts all says = absurd acts
 end_follows_acts m op n (Failed o b ∷ es) rest a some acts all says = absurd acts

@@ -1,3 +1,4 @@
 pub mod Standing
 pub mod Smooth
+pub mod RunningOut
 pub mod Laws

@@ -1,8 +1,9 @@
-//! Laws of scripts and runs of the world: how a run follows a script on, that each script in turn can be run from any moment
-//! at which it stands, and what a script fixes of its runs. Nothing here is called: each function's contract is a law.
+//! Laws of scripts and runs of the world: how a run follows a script on, that each script in turn can be run on from any
+//! moment at which it stands, or brought to its end without a further transaction, and what a script fixes of its runs.
+//! Nothing here is called: each function's contract is a law.
 #![tactic(auto)]
 
-ghost use Rattle.script_runs.specs.Laws.{RunFollowsOn, StandsByTurn, EachScriptCanBeRunOn, ScriptFixesRun, ScriptWithoutStepsFixesRun};
+ghost use Rattle.script_runs.specs.Laws.{RunFollowsOn, StandsByTurn, EachScriptCanBeRunOn, EachScriptCanBeRunOut, EachCutLineCanBeRunOut, ScriptFixesRun, ScriptWithoutStepsFixesRun};
 
 /// Where a run of the world follows some lines, and what comes after follows further lines from the ops that are then busy,
 /// the whole follows all lines.
@@ -21,6 +22,19 @@ pub fn stands_by_turn()
 /// no command fails and each ends at once when it has come to its answer. So each script in turn can be run.
 pub fn each_script_can_be_run_on()
     ensures { EachScriptCanBeRunOn }
+{}
+
+/// A run of the world that follows the front of a script in turn can be brought to the end of the whole script without a
+/// further transaction: each command that is still to end fails for want of memory or ends with the answer that it has, and
+/// each that is still to begin is refused or not, as a test of what happened so far says. So a report that was cut off is the
+/// front of a whole one.
+pub fn each_script_can_be_run_out()
+    ensures { EachScriptCanBeRunOut }
+{}
+
+/// The same of a run that stopped within a line of the script.
+pub fn each_cut_line_can_be_run_out()
+    ensures { EachCutLineCanBeRunOut }
 {}
 
 /// Two runs of the world that follow one script are the same, where no command fails, each ends at once when it has come to its

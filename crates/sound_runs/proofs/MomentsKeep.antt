@@ -12,12 +12,14 @@ use Rattle.store_rules.specs.declared.any.AnyReq.{AnyReq}
 use Rattle.store_rules.specs.declared.any.AnyReply.{AnyReply}
 use Rattle.store_rules.specs.Places.{request_place}
 use Rattle.store_rules.specs.Store.{store_reply}
+use Rattle.op_names.specs.declared.program.Phase.{Phase}
+use Rattle.op_names.specs.declared.program.Phase.TheVariants.{End}
 use Rattle.op_names.specs.declared.program.Program.{Program}
 use Rattle.op_names.specs.Programs.{root, object_number, own_hold, phase_ask, phase_hear, first_phase}
 use Rattle.world_runs.specs.declared.event.Event.{Event}
-use Rattle.world_runs.specs.declared.event.Event.TheVariants.{Began, Acted, Ended, Stopped, Failed, Dumped}
+use Rattle.world_runs.specs.declared.event.Event.TheVariants.{Began, Refused, Acted, Ended, Stopped, Failed, Dumped}
 use Rattle.world_runs.specs.Served.{IsServed}
-use Rattle.world_runs.specs.Moments.{Actor, Moment, CanBegin, May, after, begun, went_on, next_serial, running, asked, program_of, program_ask, opening, with_actor}
+use Rattle.world_runs.specs.Moments.{Actor, Moment, CanBegin, May, no_room, after, went_on, next_serial, running, asked, program_of, program_ask, opening, with_actor}
 use Rattle.store_world.specs.Worlds.{World, Ghost, next, ghost_next, opening_ghost}
 use Rattle.store_world.specs.Later.{actor_of, Later, Within, by_actor}
 use Rattle.store_world.specs.Requests.{Needs, Kept, touched_by}
@@ -175,8 +177,12 @@ module _ (m : Moment) (g : Ghost) (s : AllSound m g) (op : OpId) (c : Command) (
   starts (commands.Rename (k ∷ p) (n ∷ to)) = (s.root, hold_free, serial_few, refl)
   starts _ = refl
 
-  begins : ActorSound here op.actor (begun idle op c)
-  begins = record {
+  -- the actor's state once the op runs, in that phase
+  abbrev runs_in : Phase → Actor
+  runs_in at = record idle { number = op.number; running = Some record { op = op; command = c; phase = at } }
+
+  begins : (at : Phase) → PhaseKnows here op idle.serial c at → ActorSound here op.actor (runs_in at)
+  begins at knows = record {
     fresh = λ one. record {
       file = (part.fresh one).file;
       dir = (part.fresh one).dir;
@@ -184,15 +190,22 @@ module _ (m : Moment) (g : Ghost) (s : AllSound m g) (op : OpId) (c : Command) (
     };
     few_made = omega (arith, serial_few);
     few_begun = can.few;
-    running = record { own = refl; last = refl; is_actor = can.is_actor; served = served; phase = starts c };
+    running = record { own = refl; last = refl; is_actor = can.is_actor; served = served; phase = knows };
+  }
+
+  begins_sound : (at : Phase) → PhaseKnows here op idle.serial c at → AllSound (with_actor m op.actor (runs_in at)) g
+  begins_sound at knows = record {
+    sound = s.sound;
+    root = s.root;
+    actors = λ b. with_cases (λ z. ActorSound here b z) m.actors op.actor (runs_in at) b (λ e. rw e (begins at knows)) (λ apart. s.actors b);
   }
 
   began_sound : AllSound (after m (Began op c)) g
-  began_sound = record {
-    sound = s.sound;
-    root = s.root;
-    actors = λ b. with_cases (λ z. ActorSound here b z) m.actors op.actor (begun idle op c) b (λ e. rw e begins) (λ apart. s.actors b);
-  }
+  began_sound = begins_sound (first_phase c) (starts c)
+
+  -- a refused op has its answer, of which nothing is owed
+  refused_sound : AllSound (after m (Refused op c)) g
+  refused_sound = begins_sound (End no_room) refl
 
 -- an actor has no running command any more
 module _ (m : Moment) (g : Ghost) (s : AllSound m g) (a : ℕ) where
@@ -250,6 +263,7 @@ acts_sound m g op q x s can =
 -- each event that may happen keeps what is so at every moment
 pub event_sound : (m : Moment) (g : Ghost) (e : Event) → AllSound m g → May m e → AllSound (after m e) (ghost_after m g e)
 event_sound m g (Began op c) s can = began_sound m g s op c can.0 can.1
+event_sound m g (Refused op c) s can = refused_sound m g s op c can.0 can.1
 event_sound m g (Acted op q x) s can = acts_sound m g op q x s can
 event_sound m g (Ended op a) s can = rest_sound m g s op.actor (m.actors op.actor).stopped
 event_sound m g (Stopped op) s can = rest_sound m g s op.actor true

@@ -15,7 +15,7 @@ use Rattle.tect_ids.specs.declared.script.ReportLine.TheVariants as report_lines
 use Rattle.store_rules.specs.Dumps.{store_dump}
 use Rattle.tect_ids.proofs.KeyTests.{num_eq_cases}
 use Rattle.world_runs.specs.declared.event.Event.{Event}
-use Rattle.world_runs.specs.declared.event.Event.TheVariants.{Began, Acted, Ended, Stopped, Failed, Dumped}
+use Rattle.world_runs.specs.declared.event.Event.TheVariants.{Began, Refused, Acted, Ended, Stopped, Failed, Dumped}
 use Rattle.world_runs.specs.Moments.{Actor, IsWorldRun, RunFrom, Moment, opening, after, asked, answered}
 use Rattle.world_runs.specs.Follows.{Acts, IsEndOf, RunsToEnd}
 use Rattle.world_runs.specs.Report.{answer_line, report_after}
@@ -38,6 +38,7 @@ acts_shallow : (op : OpId) (n : ℕ) (es : List Event) → Acts op n es → AllS
 acts_shallow op n [] done = tt
 acts_shallow op n (Acted o q x ∷ es) done = acts_shallow op (done.1).0 es (done.1).2
 acts_shallow op n (Began o c ∷ es) done = absurd done
+acts_shallow op n (Refused o c ∷ es) done = absurd done
 acts_shallow op n (Ended o c ∷ es) done = absurd done
 acts_shallow op n (Stopped o ∷ es) done = absurd done
 acts_shallow op n (Failed o a ∷ es) done = absurd done
@@ -47,6 +48,7 @@ end_shallow : (op : OpId) (end : Event) (a : Answer) → EndsWith op end a → A
 end_shallow op (Ended o x) a ends = tt
 end_shallow op (Failed o x) a ends = tt
 end_shallow op (Began o c) a ends = absurd ends
+end_shallow op (Refused o c) a ends = absurd ends
 end_shallow op (Acted o q x) a ends = absurd ends
 end_shallow op (Stopped o) a ends = absurd ends
 end_shallow op Dumped a ends = absurd ends
@@ -55,6 +57,7 @@ is_end : (op : OpId) (end : Event) (a : Answer) → EndsWith op end a → IsEndO
 is_end op (Ended o x) a ends = ends.0
 is_end op (Failed o x) a ends = ends.0
 is_end op (Began o c) a ends = absurd ends
+is_end op (Refused o c) a ends = absurd ends
 is_end op (Acted o q x) a ends = absurd ends
 is_end op (Stopped o) a ends = absurd ends
 is_end op Dumped a ends = absurd ends
@@ -129,6 +132,7 @@ next_ends : (m : Moment) (op : OpId) (n : ℕ) (es : List Event) (end : Event) (
 next_ends m op n [] end a b done ends run says = is_end op end a ends
 next_ends m op n (Acted o q x ∷ es) end a b done ends run says = absurd (not_both m op q b (subst (λ (p : OpId). asked m p ≡ Some q) done.0 (run.0).0) says)
 next_ends m op n (Began o c ∷ es) end a b done ends run says = absurd done
+next_ends m op n (Refused o c ∷ es) end a b done ends run says = absurd done
 next_ends m op n (Ended o c ∷ es) end a b done ends run says = absurd done
 next_ends m op n (Stopped o ∷ es) end a b done ends run says = absurd done
 next_ends m op n (Failed o c ∷ es) end a b done ends run says = absurd done
@@ -138,6 +142,7 @@ end_alone : (m : Moment) (op : OpId) (end : Event) (a : Answer) → EndsWith op 
 end_alone m op (Ended o x) a ends = (tt, tt)
 end_alone m op (Failed o x) a ends = (tt, tt)
 end_alone m op (Began o c) a ends = absurd ends
+end_alone m op (Refused o c) a ends = absurd ends
 end_alone m op (Acted o q x) a ends = absurd ends
 end_alone m op (Stopped o) a ends = absurd ends
 end_alone m op Dumped a ends = absurd ends
@@ -150,6 +155,7 @@ ends_at_once m op n (Acted o q x ∷ es) end a done ends run = (
   ends_at_once (after m (Acted o q x)) op (done.1).0 es end a (done.1).2 ends run.1,
 )
 ends_at_once m op n (Began o c ∷ es) end a done ends run = absurd done
+ends_at_once m op n (Refused o c ∷ es) end a done ends run = absurd done
 ends_at_once m op n (Ended o c ∷ es) end a done ends run = absurd done
 ends_at_once m op n (Stopped o ∷ es) end a done ends run = absurd done
 ends_at_once m op n (Failed o c ∷ es) end a done ends run = absurd done
@@ -244,7 +250,7 @@ module _ (clients : List (List ℕ)) (actor : ℕ) (c : Command) (old : Life) (n
     next = Some op;
     grew = grew;
     run = now;
-    does = rw (busy_none old actor none) (op, refl, refl, refl);
+    does = rw (busy_none old actor none) (op, Began op c, refl, refl, (refl, refl), refl);
     at_once = (tt, tt);
     shallow = (shallow, tt);
     shows = refl;
@@ -267,7 +273,7 @@ module _ (clients : List (List ℕ)) (actor : ℕ) (c : Command) (old : Life) (n
         next = None;
         grew = goes.history ∙ grown-grown old (Began op c ∷ []) rest;
         run = now;
-        does = rw (busy_none old actor none) ((op, rest, refl, refl, ends), refl);
+        does = rw (busy_none old actor none) ((op, Began op c, rest, refl, refl, (refl, refl), ends), refl);
         at_once = (tt, subst (λ (m : Moment). EndsAtOnce m rest) (present-grown old (Began op c ∷ [])) (ran_at_once begun new _ a goes now));
         shallow = (shallow, ran_shallow begun new _ a goes);
         shows = ended_line clients actor begun new a goes ∙ sym shown;

@@ -8,7 +8,7 @@ use Rattle.tect_ids.specs.declared.answer.Answer.TheVariants as answers
 use Rattle.tect_ids.specs.declared.script.ReportLine.TheVariants as lines
 use Rattle.tect_ids.proofs.KeyTests.{num_eq_cases}
 use Rattle.world_runs.specs.declared.event.Event.{Event}
-use Rattle.world_runs.specs.declared.event.Event.TheVariants.{Began, Acted, Ended, Stopped, Failed, Dumped}
+use Rattle.world_runs.specs.declared.event.Event.TheVariants.{Began, Refused, Acted, Ended, Stopped, Failed, Dumped}
 use Rattle.world_runs.specs.Moments.{Actor, Moment, after, after_all, opening}
 use Rattle.world_runs.specs.Follows.{Acts}
 use Rattle.world_runs.specs.Report.{transactions, client_name, answer_line, report_after}
@@ -33,6 +33,7 @@ pub acts_show_nothing : (counts : Counts) (clients : List (List ℕ)) (before : 
 acts_show_nothing counts clients before op n [] done = refl
 acts_show_nothing counts clients before op n (Acted o q x ∷ es) done = acts_show_nothing counts clients (before ++ Acted o q x ∷ []) op (done.1).0 es (done.1).2
 acts_show_nothing counts clients before op n (Began o c ∷ es) done = absurd done
+acts_show_nothing counts clients before op n (Refused o c ∷ es) done = absurd done
 acts_show_nothing counts clients before op n (Ended o c ∷ es) done = absurd done
 acts_show_nothing counts clients before op n (Stopped o ∷ es) done = absurd done
 acts_show_nothing counts clients before op n (Failed o a ∷ es) done = absurd done
@@ -43,6 +44,7 @@ pub end_shows : (counts : Counts) (clients : List (List ℕ)) (before : List Eve
 end_shows counts clients before op (Ended o x) a (own, is) = ap (λ (p : OpId). answer_line clients before p x ∷ []) own ∙ ap (λ (y : Answer). answer_line clients before op y ∷ []) is
 end_shows counts clients before op (Failed o x) a (own, is) = ap (λ (p : OpId). answer_line clients before p x ∷ []) own ∙ ap (λ (y : Answer). answer_line clients before op y ∷ []) is
 end_shows counts clients before op (Began o c) a ends = absurd ends
+end_shows counts clients before op (Refused o c) a ends = absurd ends
 end_shows counts clients before op (Acted o q x) a ends = absurd ends
 end_shows counts clients before op (Stopped o) a ends = absurd ends
 end_shows counts clients before op Dumped a ends = absurd ends
@@ -51,6 +53,7 @@ end_counts : (before : List Event) (op : OpId) (end : Event) (a : Answer) → En
 end_counts before op (Ended o x) a ends = refl
 end_counts before op (Failed o x) a ends = refl
 end_counts before op (Began o c) a ends = absurd ends
+end_counts before op (Refused o c) a ends = absurd ends
 end_counts before op (Acted o q x) a ends = absurd ends
 end_counts before op (Stopped o) a ends = absurd ends
 end_counts before op Dumped a ends = absurd ends
@@ -69,6 +72,7 @@ acts_number m op n [] a done = refl
 acts_number m op n (Acted o q x ∷ es) a done =
     acts_number (after m (Acted o q x)) op (done.1).0 es a (done.1).2 ∙ number_set m.actors o.actor _ a refl
 acts_number m op n (Began o c ∷ es) a done = absurd done
+acts_number m op n (Refused o c ∷ es) a done = absurd done
 acts_number m op n (Ended o c ∷ es) a done = absurd done
 acts_number m op n (Stopped o ∷ es) a done = absurd done
 acts_number m op n (Failed o x ∷ es) a done = absurd done
@@ -78,6 +82,7 @@ end_number : (m : Moment) (op : OpId) (end : Event) (x : Answer) (a : ℕ) → E
 end_number m op (Ended o y) x a ends = number_set m.actors o.actor _ a refl
 end_number m op (Failed o y) x a ends = number_set m.actors o.actor _ a refl
 end_number m op (Began o c) x a ends = absurd ends
+end_number m op (Refused o c) x a ends = absurd ends
 end_number m op (Acted o q y) x a ends = absurd ends
 end_number m op (Stopped o) x a ends = absurd ends
 end_number m op Dumped x a ends = absurd ends

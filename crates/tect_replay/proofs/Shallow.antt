@@ -5,7 +5,7 @@ use Rattle.tect_ids.specs.declared.ids.OpId.{OpId}
 use Rattle.tect_ids.specs.declared.command.Command.{Command}
 use Rattle.tect_ids.specs.Keys.{op_eq}
 use Rattle.world_runs.specs.declared.event.Event.{Event}
-use Rattle.world_runs.specs.declared.event.Event.TheVariants.{Began, Acted, Ended, Stopped, Failed, Dumped}
+use Rattle.world_runs.specs.declared.event.Event.TheVariants.{Began, Refused, Acted, Ended, Stopped, Failed, Dumped}
 use Rattle.world_runs.specs.Moments.{IsWorldRun}
 use Rattle.world_runs.specs.Headline.{command_of, or_later}
 use Rattle.world_runs.specs.Report.{transactions}
@@ -17,6 +17,7 @@ use Rattle.tect_replay.specs.Plays.{AllShallow}
 pub shallow-append : (es fs : List Event) → AllShallow es → AllShallow fs → AllShallow (es ++ fs)
 shallow-append [] fs a b = b
 shallow-append (Began op c ∷ es) fs a b = (a.0, shallow-append es fs a.1 b)
+shallow-append (Refused op c ∷ es) fs a b = (a.0, shallow-append es fs a.1 b)
 shallow-append (Acted op q x ∷ es) fs a b = shallow-append es fs a b
 shallow-append (Ended op x ∷ es) fs a b = shallow-append es fs a b
 shallow-append (Stopped op ∷ es) fs a b = shallow-append es fs a b
@@ -30,6 +31,7 @@ first_shallow false d c later shallow rest is = rest is
 shallow_of : (es : List Event) (op : OpId) (c : Command) → AllShallow es → command_of es op ≡ Some c → IsShallow c
 shallow_of [] op c all is = absurd (let none : None ≡ Some c = is in cc)
 shallow_of (Began o d ∷ es) op c all is = first_shallow (op_eq o op) d c (command_of es op) all.0 (shallow_of es op c all.1) is
+shallow_of (Refused o d ∷ es) op c all is = shallow_of es op c all.1 is
 shallow_of (Acted o q x ∷ es) op c all is = shallow_of es op c all is
 shallow_of (Ended o x ∷ es) op c all is = shallow_of es op c all is
 shallow_of (Stopped o ∷ es) op c all is = shallow_of es op c all is

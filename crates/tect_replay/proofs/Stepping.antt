@@ -8,7 +8,7 @@ use Rattle.store_rules.specs.declared.any.AnyReq.{AnyReq}
 use Rattle.store_rules.specs.declared.any.AnyReply.{AnyReply}
 use Rattle.store_rules.specs.Store.{store_reply}
 use Rattle.world_runs.specs.declared.event.Event.{Event}
-use Rattle.world_runs.specs.declared.event.Event.TheVariants.{Began, Acted, Ended, Stopped, Failed, Dumped}
+use Rattle.world_runs.specs.declared.event.Event.TheVariants.{Began, Refused, Acted, Ended, Stopped, Failed, Dumped}
 use Rattle.world_runs.specs.Moments.{Moment, IsWorldRun, after_all, answered}
 use Rattle.world_runs.specs.Follows.{Acts}
 use Rattle.script_runs.specs.Smooth.{EndsAtOnce}
@@ -27,6 +27,7 @@ acts_push : (op : OpId) (q : AnyReq) (x : AnyReply) (n : ℕ) (es : List Event) 
 acts_push op q x n [] acts = (refl, (n, refl, acts))
 acts_push op q x n (Acted other r y ∷ es) (own, (rest, is, acts)) = (own, (rest + 1, ap (λ k. k + 1) is, acts_push op q x rest es acts))
 acts_push op q x n (Began other c ∷ es) acts = absurd acts
+acts_push op q x n (Refused other c ∷ es) acts = absurd acts
 acts_push op q x n (Ended other a ∷ es) acts = absurd acts
 acts_push op q x n (Stopped other ∷ es) acts = absurd acts
 acts_push op q x n (Failed other a ∷ es) acts = absurd acts

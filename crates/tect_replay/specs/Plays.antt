@@ -9,7 +9,7 @@ use Rattle.tect_ids.specs.declared.script.Line.TheVariants as lines
 use Rattle.tect_ids.specs.declared.script.ReportLine.{ReportLine}
 use Rattle.tect_ids.specs.declared.script.ReportLine.TheVariants as report_lines
 use Rattle.world_runs.specs.declared.event.Event.{Event}
-use Rattle.world_runs.specs.declared.event.Event.TheVariants.{Began, Acted, Ended, Stopped, Failed, Dumped}
+use Rattle.world_runs.specs.declared.event.Event.TheVariants.{Began, Refused, Acted, Ended, Stopped, Failed, Dumped}
 use Rattle.world_runs.specs.Served.{IsServed}
 use Rattle.world_runs.specs.Moments.{Actor, IsWorldRun}
 use Rattle.world_runs.specs.Follows.{Acts, DoesLine, FollowsFrom}
@@ -22,10 +22,11 @@ use Rattle.tect_replay.specs.Replays.{IsShallow}
 use Rattle.tect_replay.specs.declared.lines.Shown.{Shown}
 use Rattle.tect_replay.specs.declared.lines.Shown.TheVariants as shown
 
--- each command that began is shallow
+-- each command that began or was refused is shallow
 abbrev pub AllShallow : List Event → Type 0
 AllShallow [] = Unit {0}
 AllShallow (Began op c ∷ es) = IsShallow c × AllShallow es
+AllShallow (Refused op c ∷ es) = IsShallow c × AllShallow es
 AllShallow (Acted op q x ∷ es) = AllShallow es
 AllShallow (Ended op a ∷ es) = AllShallow es
 AllShallow (Stopped op ∷ es) = AllShallow es

@@ -7,7 +7,7 @@ use Rattle.tect_ids.proofs.KeyTests.{num_eq_cases, op_eq_cases}
 use Rattle.store_rules.specs.declared.any.AnyReq.{AnyReq}
 use Rattle.store_rules.specs.Store.{store_reply}
 use Rattle.world_runs.specs.declared.event.Event.{Event}
-use Rattle.world_runs.specs.declared.event.Event.TheVariants.{Began, Acted, Ended, Stopped, Failed, Dumped}
+use Rattle.world_runs.specs.declared.event.Event.TheVariants.{Began, Refused, Acted, Ended, Stopped, Failed, Dumped}
 use Rattle.world_runs.specs.Moments.{Actor, Moment, after, after_all, RunFrom, answered, program_of, program_answer}
 use Rattle.world_runs.specs.Report.{transactions}
 use Rattle.tect_world.specs.Life.{transaction, acted_actor, acted_store, ending, ended_actor, actor_asks, actor_answer, step_events, stepped_actor, stepped_store}
@@ -92,6 +92,7 @@ step_number m op b =
 -- the counts stay
 kept_by : (m : Moment) (e : Event) → (after m e).counts ≡ m.counts
 kept_by m (Began op c) = refl
+kept_by m (Refused op c) = refl
 kept_by m (Acted op q x) = refl
 kept_by m (Ended op a) = refl
 kept_by m (Stopped op) = refl

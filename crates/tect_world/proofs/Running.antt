@@ -14,7 +14,7 @@ use Rattle.store_rules.specs.Store.{Store, store_reply}
 use Rattle.op_names.specs.declared.program.Program.{Program}
 use Rattle.op_names.specs.Programs.{object_number, phase_ask}
 use Rattle.world_runs.specs.declared.event.Event.{Event}
-use Rattle.world_runs.specs.declared.event.Event.TheVariants.{Began, Acted, Ended, Stopped, Failed, Dumped}
+use Rattle.world_runs.specs.declared.event.Event.TheVariants.{Began, Refused, Acted, Ended, Stopped, Failed, Dumped}
 use Rattle.world_runs.specs.Follows.{Acts}
 use Rattle.world_runs.specs.Moments.{Actor, Moment, IsWorldRun, after_all, running, asked, answered, program_of, program_ask, program_answer}
 use Rattle.sound_runs.proofs.RunsKeep.{running_goes_on, running_is_last_begun}
@@ -32,6 +32,7 @@ pub acts_push : (op : OpId) (q : AnyReq) (x : AnyReply) (n : ℕ) (es : List Eve
 acts_push op q x n [] acts = (refl, (n, refl, acts))
 acts_push op q x n (Acted other r y ∷ es) (own, (rest, is, acts)) = (own, (rest + 1, ap (λ k. k + 1) is, acts_push op q x rest es acts))
 acts_push op q x n (Began other c ∷ es) acts = absurd acts
+acts_push op q x n (Refused other c ∷ es) acts = absurd acts
 acts_push op q x n (Ended other a ∷ es) acts = absurd acts
 acts_push op q x n (Stopped other ∷ es) acts = absurd acts
 acts_push op q x n (Failed other a ∷ es) acts = absurd acts

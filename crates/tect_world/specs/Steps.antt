@@ -7,7 +7,7 @@ use Rattle.tect_ids.specs.declared.answer.Answer.TheVariants as answers
 use Rattle.store_rules.specs.declared.any.AnyReq.{AnyReq}
 use Rattle.store_rules.specs.Store.{Store}
 use Rattle.world_runs.specs.declared.event.Event.{Event}
-use Rattle.world_runs.specs.declared.event.Event.TheVariants.{Began, Acted, Ended, Stopped, Failed, Dumped}
+use Rattle.world_runs.specs.declared.event.Event.TheVariants.{Began, Refused, Acted, Ended, Stopped, Failed, Dumped}
 use Rattle.world_runs.specs.Follows.{Acts}
 use Rattle.world_runs.specs.Moments.{Actor}
 use Rattle.actors.specs.declared.turned.Turned.{Turned}
@@ -31,6 +31,7 @@ abbrev pub EndsWith : OpId → Event → Answer → Type 0
 EndsWith op (Ended other a) x = (other ≡ op) × (a ≡ x)
 EndsWith op (Failed other a) x = (other ≡ op) × (a ≡ x)
 EndsWith op (Began other c) x = ⊥
+EndsWith op (Refused other c) x = ⊥
 EndsWith op (Acted other q r) x = ⊥
 EndsWith op (Stopped other) x = ⊥
 EndsWith op Dumped x = ⊥

@@ -8,7 +8,7 @@ use Rattle.tree_model.specs.Tree.{Tree, opening_tree}
 use Rattle.op_names.specs.Programs.{first_phase}
 use Rattle.world_runs.specs.Served.{IsServed}
 use Rattle.world_runs.specs.declared.event.Event.{Event}
-use Rattle.world_runs.specs.declared.event.Event.TheVariants.{Began, Acted, Ended, Stopped, Failed, Dumped}
+use Rattle.world_runs.specs.declared.event.Event.TheVariants.{Began, Refused, Acted, Ended, Stopped, Failed, Dumped}
 use Rattle.world_runs.specs.Moments.{Moment, opening, May, after, after_all, RunFrom, IsWorldRun}
 use Rattle.world_runs.specs.TreeSteps.{tree_steps, tree_after}
 use Rattle.world_runs.specs.Follows.{Acts, Busy, none_busy, with_busy, FollowsFrom, Follows, NoneFails}
@@ -26,6 +26,7 @@ acts_stop_none m op n [] a acts = refl
 acts_stop_none m op n (Acted o q x ∷ es) a acts =
     acts_stop_none (after m (Acted o q x)) op (acts.1).0 es a (acts.1).2 ∙ actor_cases (λ st. st.stopped ≡ (m.actors a).stopped) m.actors o.actor _ a (λ e. rw e refl) (λ d. refl)
 acts_stop_none m op n (Began o c ∷ es) a acts = absurd acts
+acts_stop_none m op n (Refused o c ∷ es) a acts = absurd acts
 acts_stop_none m op n (Ended o c ∷ es) a acts = absurd acts
 acts_stop_none m op n (Stopped o ∷ es) a acts = absurd acts
 acts_stop_none m op n (Failed o c ∷ es) a acts = absurd acts
@@ -97,7 +98,7 @@ commands_can client (c ∷ cs) m t number busy free idle all few =
       events = front ++ rest.events;
       run = run-append m front rest.events (part_runs m t number free c all.0 little) rest.run;
       none_fails = none_fails-append front rest.events (part_none_fails m t number free c all.0 little) rest.none_fails;
-      follows = (front, rest.events, None, refl, rw idle ((op m t number free c all.0 little, e.front ++ Ended (op m t number free c all.0 little) e.answer ∷ [], refl, refl, (e.count, (e.front, Ended (op m t number free c all.0 little) e.answer, refl, e.acts, refl))), refl), rest.follows);
+      follows = (front, rest.events, None, refl, rw idle ((op m t number free c all.0 little, began m t number free c all.0 little, e.front ++ Ended (op m t number free c all.0 little) e.answer ∷ [], refl, refl, (refl, refl), (e.count, (e.front, Ended (op m t number free c all.0 little) e.answer, refl, e.acts, refl))), refl), rest.follows);
     }
 
 pub session_can : (counts : Counts) (client : List ℕ) (cs : List Command) → AllByRecursion IsServed cs → length cs < 2 ^ 31 → (history : List Event) × IsWorldRun counts history × NoneFails history × Follows (session_script client cs) history

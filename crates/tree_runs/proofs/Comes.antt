@@ -40,7 +40,7 @@ use Rattle.op_names.specs.declared.program.Phase.TheVariants.{Walk, Bind, Releas
 use Rattle.op_names.specs.declared.program.Program.{Program}
 use Rattle.op_names.specs.Programs.{object_number, own_hold, phase_ask, phase_hear, phase_answer, release_ask, then_release, bound_heard, looked, refusal}
 use Rattle.world_runs.specs.declared.event.Event.{Event}
-use Rattle.world_runs.specs.declared.event.Event.TheVariants.{Began, Acted, Ended, Stopped, Failed, Dumped}
+use Rattle.world_runs.specs.declared.event.Event.TheVariants.{Began, Refused as declined, Acted, Ended, Stopped, Failed, Dumped}
 use Rattle.world_runs.specs.Moments.{Moment, May, after, after_all, RunFrom, running, asked, answered, next_serial}
 use Rattle.world_runs.specs.TreeSteps.{told_of, told_as, tree_steps, tree_step, says, tree_after, IsTreeRun}
 use Rattle.world_runs.specs.Points.{refused_answer, done_answer}
@@ -141,6 +141,7 @@ module _ (m : Moment) (t : Tree) (op : OpId) (c : Command) (own : ℕ) (at : Pha
         subst (λ (e : Event). RunFrom (after m e) (es ++ Ended op a ∷ []) → Comes m t op (e ∷ es) n a p (left + 1)) (sym same)
         (λ r. step_here p left n (acts.1).0 a es (acts.1).1 (more es (acts.1).0 a (acts.1).2 r)) run.1
     step_goes p left no_end more (Began o d ∷ es) n a acts run = absurd acts
+    step_goes p left no_end more (declined o d ∷ es) n a acts run = absurd acts
     step_goes p left no_end more (Ended o d ∷ es) n a acts run = absurd acts
     step_goes p left no_end more (Stopped o ∷ es) n a acts run = absurd acts
     step_goes p left no_end more (Failed o d ∷ es) n a acts run = absurd acts
@@ -162,6 +163,7 @@ end_goes m t op c own b p st tree serial answer (Acted o q x ∷ es) n a acts ru
     let here : asked m op ≡ Some q = rw os at (run.0).0 in
     absurd (let k : Some q ≡ None = sym here ∙ asked_now m t op c own (End b) st in cc)
 end_goes m t op c own b p st tree serial answer (Began o d ∷ es) n a acts run = absurd acts
+end_goes m t op c own b p st tree serial answer (declined o d ∷ es) n a acts run = absurd acts
 end_goes m t op c own b p st tree serial answer (Ended o d ∷ es) n a acts run = absurd acts
 end_goes m t op c own b p st tree serial answer (Stopped o ∷ es) n a acts run = absurd acts
 end_goes m t op c own b p st tree serial answer (Failed o d ∷ es) n a acts run = absurd acts

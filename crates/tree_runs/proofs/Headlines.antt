@@ -1,5 +1,5 @@
 -- each answer is the one that the tree gives at the command's point
-use Rattle.std.proofs.Common.{◌≡◌, ◌≢◌, ◌<◌, ◌⊎◌, ℕ, zero, suc, Bool, true, false, if◌then◌else◌, Option, Some, None, List, [], ◌∷◌, ◌++◌, refl, sym, ap, subst, ◌∙◌, arith, inl, inr, append_assoc, take}
+use Rattle.std.proofs.Common.{◌≡◌, ◌≢◌, ◌<◌, ◌⊎◌, ℕ, zero, suc, Bool, true, false, ◌||◌, if◌then◌else◌, Option, Some, None, List, [], ◌∷◌, ◌++◌, refl, sym, ap, subst, ◌∙◌, arith, inl, inr, append_assoc, take}
 use Rattle.std.specs.List.{slice_get}
 use Rattle.std.proofs.lemmas.List.{append-nil}
 use Rattle.tect_ids.specs.declared.ids.Counts.{Counts}
@@ -18,14 +18,14 @@ use Rattle.op_names.specs.declared.program.Phase.{Phase}
 use Rattle.op_names.specs.declared.program.Phase.TheVariants.{Walk, Bind, Grant, Swap, Release, End}
 use Rattle.op_names.specs.declared.program.Program.{Program}
 use Rattle.op_names.specs.Paths.{but_last}
-use Rattle.op_names.specs.Programs.{root, way, object_number, phase_hear, phase_answer, first_phase, from_root}
+use Rattle.op_names.specs.Programs.{root, way, object_number, phase_ask, phase_hear, phase_answer, first_phase, from_root}
 use Rattle.world_runs.specs.Served.{IsServed}
 use Rattle.world_runs.specs.declared.event.Event.{Event}
-use Rattle.world_runs.specs.declared.event.Event.TheVariants.{Began, Acted, Ended, Stopped, Failed, Dumped}
-use Rattle.world_runs.specs.Moments.{Actor, Moment, opening, May, CanBegin, after, after_all, RunFrom, IsWorldRun, asked, program_answer, program_of, heard, with_actor}
+use Rattle.world_runs.specs.declared.event.Event.TheVariants.{Began, Refused, Acted, Ended, Stopped, Failed, Dumped}
+use Rattle.world_runs.specs.Moments.{Actor, Moment, opening, May, CanBegin, no_room, after, after_all, RunFrom, IsWorldRun, asked, program_answer, program_of, heard, with_actor}
 use Rattle.world_runs.specs.TreeSteps.{Told, told_of, tree_steps, tree_step, says, tree_after, IsTreeRun}
 use Rattle.world_runs.specs.Points.{of_op, Walked, LacksName}
-use Rattle.world_runs.specs.Headline.{begun_by, or_later, command_of, Explains, Headline}
+use Rattle.world_runs.specs.Headline.{begun_by, or_later, command_of, refuses, was_refused, Explains, HadNoRoom, Headline}
 use Rattle.tree_runs.specs.View.{view, AllMade, MakesNew}
 use Rattle.tree_runs.proofs.Tracks.{Tracks, Knows, actor_cases, opening_tracks}
 use Rattle.tree_runs.proofs.Runs.{Asks, asks_of, acts, made_all, event_tracked, world_tracked, tree_after-append}
@@ -43,12 +43,29 @@ command_more : (h : List Event) (e : Event) (op : OpId) → command_of (h ++ e �
 command_more [] e op = elim (begun_by e op) as (λ o. or_later o None ≡ o) [ None ↦ refl | Some c ↦ refl ]
 command_more (d ∷ ds) e op = elim (begun_by d op) as (λ o. or_later o (command_of (ds ++ e ∷ []) op) ≡ or_later (or_later o (command_of ds op)) (begun_by e op)) [ None ↦ command_more ds e op | Some c ↦ refl ]
 
+-- who was refused was so still
+refused_still : (h es : List Event) (op : OpId) → was_refused h op ≡ true → was_refused (h ++ es) op ≡ true
+refused_still [] es op is = absurd (let k : false ≡ true = is in cc)
+refused_still (d ∷ ds) es op is = elim (refuses op d) as (λ b. (b || was_refused ds op) ≡ true → (b || was_refused (ds ++ es) op) ≡ true) [ true ↦ λ k. refl | false ↦ λ k. refused_still ds es op k ] is
+
+refused_now : (h : List Event) (op : OpId) (c : Command) → was_refused (h ++ Refused op c ∷ []) op ≡ true
+refused_now [] op c = let itself : op_eq op op ≡ true = grind (arith, op_eq_cases op op) in rw itself refl
+refused_now (d ∷ ds) op c = elim (refuses op d) as (λ b. (b || was_refused (ds ++ Refused op c ∷ []) op) ≡ true) [ true ↦ refl | false ↦ refused_now ds op c ]
+
+-- the command began, and was told so far
+abbrev WasBegun : List Event → Program → Type 0
+WasBegun h p = (command_of h p.op ≡ Some p.command) × PhaseTells (tree_steps h) p.op p.command p.phase
+
+-- it was refused, and has its answer
+abbrev WasRefused : List Event → Program → Type 0
+WasRefused h p = (was_refused h p.op ≡ true) × (p.phase ≡ End no_room)
+
 -- what the history tells of an actor's running command
 abbrev Tells : List Event → Option Program → Type 0
 Tells h None = Unit {0}
-Tells h (Some p) = (command_of h p.op ≡ Some p.command) × PhaseTells (tree_steps h) p.op p.command p.phase
+Tells h (Some p) = WasBegun h p ⊎ WasRefused h p
 
--- what a history tells of its last moment: the tree followed it, each running command was told so far, and an op that did
+-- what a history tells of its last moment: the tree followed it, each running command was told so far or refused, and an op that did
 -- not begin has neither command nor steps
 record AllTold (h : List Event) (m : Moment) : Type 0 where
   tracks : Tracks m (tree_after opening_tree (tree_steps h))
@@ -58,8 +75,9 @@ record AllTold (h : List Event) (m : Moment) : Type 0 where
 
 tells_stay : (h : List Event) (e : Event) (o : Option Program) → ((p : Program) → o ≡ Some p → of_op p.op (told_of e) ≡ []) → Tells h o → Tells (h ++ e ∷ []) o
 tells_stay h e None other t = tt
-tells_stay h e (Some p) other t =
-    (command_more h e p.op ∙ ap (λ z. or_later z (begun_by e p.op)) t.0, rw (steps_more h e) (phase_stays (tree_steps h) (told_of e) p.op p.command p.phase (other p refl) t.1))
+tells_stay h e (Some p) other (inl t) =
+    inl (command_more h e p.op ∙ ap (λ z. or_later z (begun_by e p.op)) t.0, rw (steps_more h e) (phase_stays (tree_steps h) (told_of e) p.op p.command p.phase (other p refl) t.1))
+tells_stay h e (Some p) other (inr t) = inr (refused_still h (e ∷ []) p.op t.0, t.1)
 
 tracked_more : (h : List Event) (m : Moment) (e : Event) → Tracks m (tree_after opening_tree (tree_steps h)) → May m e → Tracks (after m e) (tree_after opening_tree (tree_steps (h ++ e ∷ [])))
 tracked_more h m e tracks may = rw (steps_more h e, tree_after-append opening_tree (tree_steps h) (told_of e)) (event_tracked m _ e tracks may).0
@@ -150,13 +168,35 @@ module _ (h : List Event) (m : Moment) (t : AllTold h m) (op : OpId) (c : Comman
   begun_told : AllTold (h ++ began ∷ []) (after m began)
   begun_told = record {
     tracks = tracked_more h m began t.tracks (can, served);
-    tells = λ b. actor_cases (λ st. Tells (h ++ began ∷ []) st.running) m.actors op.actor _ b (λ p. (begun_here, first_phase_tells c served)) (λ p. quiet_tells h m t began refl b);
+    tells = λ b. actor_cases (λ st. Tells (h ++ began ∷ []) st.running) m.actors op.actor _ b (λ p. inl (begun_here, first_phase_tells c served)) (λ p. quiet_tells h m t began refl b);
     unbegun = λ o. actor_cases (λ st. st.number < o.number → command_of (h ++ began ∷ []) o ≡ None) m.actors op.actor _ o.actor
         (λ p u. command_more h began o ∙ rw (t.unbegun o (earlier o p u)) (not_later o (earlier o p u) (inr u)))
         (λ p u. command_more h began o ∙ rw (t.unbegun o u) (not_later o u (inl p)));
     unasked = λ o. actor_cases (λ st. st.number < o.number → of_op o told_then ≡ []) m.actors op.actor _ o.actor
         (λ p u. quiet_unasked h m t began refl o (earlier o p u))
         (λ p u. quiet_unasked h m t began refl o u);
+  }
+
+-- ---- a command is refused
+
+module _ (h : List Event) (m : Moment) (t : AllTold h m) (op : OpId) (c : Command) (can : CanBegin (m.actors op.actor) op) (served : IsServed c) where
+  -- the event
+  abbrev refusal : Event
+  refusal = Refused op c
+
+  before_it : (o : OpId) → o.actor ≡ op.actor → op.number < o.number → (m.actors o.actor).number < o.number
+  before_it o p u = rw p (omega (arith, can.next, u))
+
+  refused_told : AllTold (h ++ refusal ∷ []) (after m refusal)
+  refused_told = record {
+    tracks = tracked_more h m refusal t.tracks (can, served);
+    tells = λ b. actor_cases (λ st. Tells (h ++ refusal ∷ []) st.running) m.actors op.actor _ b (λ p. inr (refused_now h op c, refl)) (λ p. quiet_tells h m t refusal refl b);
+    unbegun = λ o. actor_cases (λ st. st.number < o.number → command_of (h ++ refusal ∷ []) o ≡ None) m.actors op.actor _ o.actor
+        (λ p u. command_more h refusal o ∙ rw (t.unbegun o (before_it o p u)) refl)
+        (λ p u. command_more h refusal o ∙ rw (t.unbegun o u) refl);
+    unasked = λ o. actor_cases (λ st. st.number < o.number → of_op o (tree_steps (h ++ refusal ∷ [])) ≡ []) m.actors op.actor _ o.actor
+        (λ p u. quiet_unasked h m t refusal refl o (before_it o p u))
+        (λ p u. quiet_unasked h m t refusal refl o u);
   }
 
 -- ---- a request
@@ -193,8 +233,16 @@ module _ (h : List Event) (m : Moment) (t : AllTold h m) (op : OpId) (q : AnyReq
   allowed : IsTreeRun tree (told_of did)
   allowed = (event_tracked m tree did t.tracks (asks, refl)).1
 
-  before : Tells h (Some p)
-  before = rw asking.runs at (t.tells op.actor)
+  known : Tells h (Some p)
+  known = rw asking.runs at (t.tells op.actor)
+
+  -- a refused op asks nothing
+  begun_before : WasBegun h p ⊎ WasRefused h p → WasBegun h p
+  begun_before (inl b) = b
+  begun_before (inr r) = let asks_none : None ≡ Some q = rw r.1 at asking.asks in absurd (cc)
+
+  before : WasBegun h p
+  before = begun_before known
 
   heard_tells : PhaseTells (tree_steps h ++ told_of did) op p.command (phase_hear (request_place m.counts q) op (object_number op.actor (m.actors op.actor).serial) p.command p.phase x)
   heard_tells =
@@ -206,7 +254,7 @@ module _ (h : List Event) (m : Moment) (t : AllTold h m) (op : OpId) (q : AnyReq
   own_tells : Tells (h ++ did ∷ []) (heard m.counts (m.actors op.actor).serial q x (m.actors op.actor).running)
   own_tells =
       let command : command_of h op ≡ Some p.command = rw asking.its at before.0 in
-      rw (asking.runs, asking.its) (command_more h did op ∙ ap (λ z. or_later z None) command, rw (steps_more h did) heard_tells)
+      rw (asking.runs, asking.its) (inl (command_more h did op ∙ ap (λ z. or_later z None) command, rw (steps_more h did) heard_tells))
 
   last : op.number ≡ (m.actors op.actor).number
   last = (acts_last m tree t.tracks op q asks).number
@@ -246,6 +294,7 @@ module _ (h : List Event) (m : Moment) (t : AllTold h m) (op : OpId) (q : AnyReq
 
 event_told : (h : List Event) (m : Moment) (e : Event) → AllTold h m → May m e → AllTold (h ++ e ∷ []) (after m e)
 event_told h m (Began op c) t may = begun_told h m t op c may.0 may.1
+event_told h m (Refused op c) t may = refused_told h m t op c may.0 may.1
 event_told h m (Acted op q x) t may = subst (λ (y : AnyReply). AllTold (h ++ Acted op q y ∷ []) (after m (Acted op q y))) (sym may.1) (acted_told h m t op q may.0)
 event_told h m (Ended op a) t may = rests h m t (Ended op a) refl op.actor _ refl refl (λ o. refl) (tracked_more h m (Ended op a) t.tracks may)
 event_told h m (Stopped op) t may = rests h m t (Stopped op) refl op.actor _ refl refl (λ o. refl) (tracked_more h m (Stopped op) t.tracks may)
@@ -285,12 +334,24 @@ explains h op c (Grant k n) a begun e p = absurd (let z : None ≡ Some a = e in
 explains h op c (Swap k n) a begun e p = absurd (let z : None ≡ Some a = e in cc)
 explains h op c (Release n hold old b) a begun e p = absurd (let z : None ≡ Some a = e in cc)
 
-explained : (h : List Event) (op : OpId) (a : Answer) (o : Option Program) → program_answer (program_of o op) ≡ Some a → Tells h o → Explains h op a
+-- an op that was refused
+no_room_said : (h : List Event) (p : Program) (a : Answer) → phase_answer p.phase ≡ Some a → WasRefused h p → HadNoRoom h p.op a
+no_room_said h p a e r =
+    let k : Some no_room ≡ Some a = rw r.1 at e in
+    let same : a ≡ no_room = cc in
+    (r.0, same)
+
+-- the one or the other
+answer_told : (h : List Event) (p : Program) (a : Answer) → phase_answer p.phase ≡ Some a → Tells h (Some p) → Explains h p.op a ⊎ HadNoRoom h p.op a
+answer_told h p a e (inl t) = inl (explains h p.op p.command p.phase a t.0 e t.1)
+answer_told h p a e (inr r) = inr (no_room_said h p a e r)
+
+explained : (h : List Event) (op : OpId) (a : Answer) (o : Option Program) → program_answer (program_of o op) ≡ Some a → Tells h o → Explains h op a ⊎ HadNoRoom h op a
 explained h op a None e t = absurd (let z : None ≡ Some a = e in cc)
 explained h op a (Some p) e t = at (op_eq p.op op) refl e
   where
-    at : (b : Bool) → op_eq p.op op ≡ b → program_answer (if b then Some p else None) ≡ Some a → Explains h op a
-    at true is e = let same : p.op ≡ op = grind (arith, op_eq_cases p.op op) in subst (λ (o : OpId). Explains h o a) same (explains h p.op p.command p.phase a t.0 e t.1)
+    at : (b : Bool) → op_eq p.op op ≡ b → program_answer (if b then Some p else None) ≡ Some a → Explains h op a ⊎ HadNoRoom h op a
+    at true is e = let same : p.op ≡ op = grind (arith, op_eq_cases p.op op) in subst (λ (o : OpId). Explains h o a ⊎ HadNoRoom h o a) same (answer_told h p a e t)
     at false is e = absurd (let z : None ≡ Some a = e in cc)
 
 pub run_headline : (counts : Counts) (events : List Event) → IsWorldRun counts events → Headline events

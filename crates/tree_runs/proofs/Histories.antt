@@ -4,15 +4,16 @@ use Rattle.std.proofs.lemmas.List.{append-nil}
 use Rattle.std.proofs.lemmas.List.Sums.{sum_by-append}
 use Rattle.tect_ids.specs.declared.ids.Counts.{Counts}
 use Rattle.tect_ids.specs.declared.ids.OpId.{OpId}
+use Rattle.tect_ids.specs.declared.command.Command.{Command}
 use Rattle.tect_ids.specs.Keys.{op_eq}
 use Rattle.tect_ids.proofs.KeyTests.{op_eq_cases}
 use Rattle.store_rules.specs.declared.any.AnyReq.{AnyReq}
 use Rattle.tree_model.specs.Tree.{Tree}
 use Rattle.world_runs.specs.declared.event.Event.{Event}
-use Rattle.world_runs.specs.declared.event.Event.TheVariants.{Began, Acted, Ended, Stopped, Failed, Dumped}
+use Rattle.world_runs.specs.declared.event.Event.TheVariants.{Began, Refused, Acted, Ended, Stopped, Failed, Dumped}
 use Rattle.world_runs.specs.Moments.{Moment, May, after, after_all, RunFrom, asked}
 use Rattle.world_runs.specs.TreeSteps.{told_of, tree_steps, tree_after}
-use Rattle.world_runs.specs.Follows.{Acts, NoneFails}
+use Rattle.world_runs.specs.Follows.{Acts, IsBeginOf, FindsMemory, NoneFails}
 use Rattle.world_runs.specs.Report.{is_act_of, transactions, report_after, lines_at}
 use Rattle.tree_runs.proofs.Tracks.{Tracks, Knows, actor_cases}
 use Rattle.tree_runs.proofs.Runs.{Asks, asks_of, event_tracked}
@@ -69,10 +70,21 @@ pub acts_none_fail : (op : OpId) (n : ℕ) (es : List Event) → Acts op n es �
 acts_none_fail op n [] acts = tt
 acts_none_fail op n (Acted o q x ∷ es) acts = (tt, acts_none_fail op (acts.1).0 es (acts.1).2)
 acts_none_fail op n (Began o c ∷ es) acts = absurd acts
+acts_none_fail op n (Refused o c ∷ es) acts = absurd acts
 acts_none_fail op n (Ended o a ∷ es) acts = absurd acts
 acts_none_fail op n (Stopped o ∷ es) acts = absurd acts
 acts_none_fail op n (Failed o a ∷ es) acts = absurd acts
 acts_none_fail op n (Dumped ∷ es) acts = absurd acts
+
+-- where none is refused, what begins an op is its begin
+pub begin_is : (op : OpId) (c : Command) (begin : Event) → IsBeginOf op c begin → FindsMemory begin → begin ≡ Began op c
+begin_is op c (Began o d) is finds = λ i. Began (is.0 i) (is.1 i)
+begin_is op c (Refused o d) is finds = absurd finds
+begin_is op c (Acted o q x) is finds = absurd is
+begin_is op c (Ended o a) is finds = absurd is
+begin_is op c (Stopped o) is finds = absurd is
+begin_is op c (Failed o a) is finds = absurd is
+begin_is op c Dumped is finds = absurd is
 
 -- ---- an op that did not begin has no transaction
 
@@ -93,6 +105,7 @@ acts_last m t tracks op q e =
 -- numbers never fall
 pub numbers_grow : (m : Moment) (e : Event) → May m e → (a : ℕ) → (m.actors a).number ≤ ((after m e).actors a).number
 numbers_grow m (Began op c) may a = actor_cases (λ st. (m.actors a).number ≤ st.number) m.actors op.actor _ a (λ e. rw e (omega (arith, (may.0).next))) (λ d. omega arith)
+numbers_grow m (Refused op c) may a = actor_cases (λ st. (m.actors a).number ≤ st.number) m.actors op.actor _ a (λ e. rw e (omega (arith, (may.0).next))) (λ d. omega arith)
 numbers_grow m (Acted op q x) may a = actor_cases (λ st. (m.actors a).number ≤ st.number) m.actors op.actor _ a (λ e. rw e (omega arith)) (λ d. omega arith)
 numbers_grow m (Ended op x) may a = actor_cases (λ st. (m.actors a).number ≤ st.number) m.actors op.actor _ a (λ e. rw e (omega arith)) (λ d. omega arith)
 numbers_grow m (Stopped op) may a = actor_cases (λ st. (m.actors a).number ≤ st.number) m.actors op.actor _ a (λ e. rw e (omega arith)) (λ d. omega arith)
@@ -110,6 +123,7 @@ not_act m t (Acted other q x) tracks may op late = differs (op_eq other op) refl
         let now : op.number ≡ (m.actors op.actor).number = rw same at last in
         absurd (omega arith)
 not_act m t (Began other c) tracks may op late = refl
+not_act m t (Refused other c) tracks may op late = refl
 not_act m t (Ended other x) tracks may op late = refl
 not_act m t (Stopped other) tracks may op late = refl
 not_act m t (Failed other x) tracks may op late = refl

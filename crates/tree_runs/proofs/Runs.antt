@@ -17,7 +17,7 @@ use Rattle.tree_model.specs.Tree.{Tree, opening_tree, tree_next}
 use Rattle.op_names.specs.declared.program.Program.{Program}
 use Rattle.op_names.specs.Programs.{object_number, phase_ask, first_phase, from_root}
 use Rattle.world_runs.specs.declared.event.Event.{Event}
-use Rattle.world_runs.specs.declared.event.Event.TheVariants.{Began, Acted, Ended, Stopped, Failed, Dumped}
+use Rattle.world_runs.specs.declared.event.Event.TheVariants.{Began, Refused, Acted, Ended, Stopped, Failed, Dumped}
 use Rattle.world_runs.specs.Moments.{Actor, Moment, opening, May, CanBegin, after, after_all, RunFrom, IsWorldRun, moment, asked, program_ask, program_of, next_serial, heard, with_actor}
 use Rattle.world_runs.specs.TreeSteps.{Told, told_as, told_of, tree_steps, tree_step, says, tree_after, IsTreeRun}
 use Rattle.tree_runs.specs.View.{Made, view, Shows, AllMade, TreeFollows, StepShows}
@@ -191,8 +191,12 @@ began_tracks : (m : Moment) (t : Tree) → Tracks m t → (op : OpId) (c : Comma
 began_tracks m t tracks op c can = restarted m t tracks op.actor _ refl (omega (arith, can.next)) (omega (arith, can.few))
     ((can.is_actor).0, refl, refl, first_knows _ _ c (omega (arith, can.next, tracks.serials op.actor)))
 
+refused_tracks : (m : Moment) (t : Tree) → Tracks m t → (op : OpId) (c : Command) → CanBegin (m.actors op.actor) op → Tracks (after m (Refused op c)) t
+refused_tracks m t tracks op c can = restarted m t tracks op.actor _ refl (omega (arith, can.next)) (omega (arith, can.few)) ((can.is_actor).0, refl, refl, tt)
+
 pub event_tracked : (m : Moment) (t : Tree) (e : Event) → Tracks m t → May m e → Tracked m t e
 event_tracked m t (Began op c) tracks may = (began_tracks m t tracks op c may.0, tt)
+event_tracked m t (Refused op c) tracks may = (refused_tracks m t tracks op c may.0, tt)
 event_tracked m t (Acted op q x) tracks may = subst (λ (y : AnyReply). Tracked m t (Acted op q y)) (sym may.1) (acted_tracked m t tracks op q may.0)
 event_tracked m t (Ended op a) tracks may = (restarted m t tracks op.actor _ refl (omega arith) (tracks.numbers op.actor) tt, tt)
 event_tracked m t (Stopped op) tracks may = (restarted m t tracks op.actor _ refl (omega arith) (tracks.numbers op.actor) tt, tt)

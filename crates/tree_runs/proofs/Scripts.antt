@@ -15,7 +15,7 @@ use Rattle.store_rules.specs.Names.{key_in}
 use Rattle.tree_model.specs.Tree.{Tree, opening_tree}
 use Rattle.op_names.specs.Programs.{root, object_number, first_phase}
 use Rattle.world_runs.specs.declared.event.Event.{Event}
-use Rattle.world_runs.specs.declared.event.Event.TheVariants.{Began, Acted, Ended, Stopped, Failed, Dumped}
+use Rattle.world_runs.specs.declared.event.Event.TheVariants.{Began, Refused, Acted, Ended, Stopped, Failed, Dumped}
 use Rattle.world_runs.specs.Moments.{Moment, opening, CanBegin, after, after_all, RunFrom, IsWorldRun}
 use Rattle.world_runs.specs.TreeSteps.{tree_steps, tree_after}
 use Rattle.world_runs.specs.Report.{transactions, report, report_after, answer_line, client_name}
@@ -24,7 +24,7 @@ use Rattle.tree_runs.specs.Session.{Played, played, played_line, IsPlayed, sessi
 use Rattle.tree_runs.specs.Session as session
 use Rattle.tree_runs.proofs.Tracks.{Tracks, opening_tracks, actor_cases}
 use Rattle.tree_runs.proofs.Runs.{event_tracked, run_tracked}
-use Rattle.tree_runs.proofs.Histories.{after_all-append, run-front, run-rest, tree_steps-append, report-append, transactions-append, none_fails-front, none_fails-rest, Quiet, quiet_run}
+use Rattle.tree_runs.proofs.Histories.{after_all-append, run-front, run-rest, tree_steps-append, report-append, transactions-append, none_fails-front, none_fails-rest, begin_is, Quiet, quiet_run}
 use Rattle.tree_runs.proofs.Comes.{Stands, Comes, Goes, look_goes, create_goes}
 
 -- ---- transactions alone
@@ -35,6 +35,7 @@ acts_numbers m op n [] a acts = refl
 acts_numbers m op n (Acted o q x ∷ es) a acts =
     acts_numbers (after m (Acted o q x)) op (acts.1).0 es a (acts.1).2 ∙ actor_cases (λ st. st.number ≡ (m.actors a).number) m.actors o.actor _ a (λ e. rw e refl) (λ d. refl)
 acts_numbers m op n (Began o c ∷ es) a acts = absurd acts
+acts_numbers m op n (Refused o c ∷ es) a acts = absurd acts
 acts_numbers m op n (Ended o c ∷ es) a acts = absurd acts
 acts_numbers m op n (Stopped o ∷ es) a acts = absurd acts
 acts_numbers m op n (Failed o c ∷ es) a acts = absurd acts
@@ -45,6 +46,7 @@ acts_no_lines : (counts : Counts) (clients : List (List ℕ)) (before : List Eve
 acts_no_lines counts clients before op n [] acts = refl
 acts_no_lines counts clients before op n (Acted o q x ∷ es) acts = acts_no_lines counts clients (before ++ Acted o q x ∷ []) op (acts.1).0 es (acts.1).2
 acts_no_lines counts clients before op n (Began o c ∷ es) acts = absurd acts
+acts_no_lines counts clients before op n (Refused o c ∷ es) acts = absurd acts
 acts_no_lines counts clients before op n (Ended o c ∷ es) acts = absurd acts
 acts_no_lines counts clients before op n (Stopped o ∷ es) acts = absurd acts
 acts_no_lines counts clients before op n (Failed o c ∷ es) acts = absurd acts
@@ -59,6 +61,7 @@ acts_count op n (Acted o q x ∷ es) acts =
     let rest : transactions es op ≡ (acts.1).0 = acts_count op (acts.1).0 es (acts.1).2 in
     transactions-append (Acted o q x ∷ []) es op ∙ omega (arith, first, rest, (acts.1).1)
 acts_count op n (Began o c ∷ es) acts = absurd acts
+acts_count op n (Refused o c ∷ es) acts = absurd acts
 acts_count op n (Ended o c ∷ es) acts = absurd acts
 acts_count op n (Stopped o ∷ es) acts = absurd acts
 acts_count op n (Failed o c ∷ es) acts = absurd acts
@@ -199,6 +202,7 @@ module _ (counts : Counts) (clients : List (List ℕ)) (client : List ℕ) (c : 
       let fails : NoneFails (Failed o a ∷ []) = none_fails-rest (Began op c ∷ front) (Failed o a ∷ []) (none_fails-front (Began op c ∷ front ++ Failed o a ∷ []) rest (rw parts at none)) in
       absurd fails.0
   end_agrees op front rest n (Began o d) next one acts is parts free more = absurd is
+  end_agrees op front rest n (Refused o d) next one acts is parts free more = absurd is
   end_agrees op front rest n (Acted o q x) next one acts is parts free more = absurd is
   end_agrees op front rest n (Stopped o) next one acts is parts free more = absurd is
   end_agrees op front rest n Dumped next one acts is parts free more = absurd is
@@ -206,9 +210,12 @@ module _ (counts : Counts) (clients : List (List ℕ)) (client : List ℕ) (c : 
   line_agrees : (part rest : List Event) (next : Option OpId) → es ≡ part ++ rest → DoesLine 1 None (acts.Do c) part next → FollowsFrom (with_busy busy 1 next) (session_script client cs) rest → Agrees
   line_agrees part rest next parts d more =
       let b : BeginsAndEnds 1 c part = d.0 in
-      let e : EndsAfter b.0 (b.4).0 b.1 = (b.4).1 in
-      let is : part ≡ Began b.0 c ∷ e.0 ++ e.1 ∷ [] = b.3 ∙ ap (λ l. Began b.0 c ∷ l) e.2 in
-      end_agrees b.0 e.0 rest (b.4).0 e.1 next b.2 e.3 e.4 (parts ∙ ap (λ l. l ++ rest) is) d.1 more
+      let mine : NoneFails part = none_fails-front part rest (rw parts at none) in
+      let fine : NoneFails (b.1 ∷ b.2) = rw b.4 at mine in
+      let began : b.1 ≡ Began b.0 c = begin_is b.0 c b.1 b.5 fine.0 in
+      let e : EndsAfter b.0 (b.6).0 b.2 = (b.6).1 in
+      let whole : b.1 ∷ b.2 ≡ Began b.0 c ∷ e.0 ++ e.1 ∷ [] = λ i. began i ∷ (e.2) i in
+      end_agrees b.0 e.0 rest (b.6).0 e.1 next b.3 e.3 e.4 (parts ∙ ap (λ l. l ++ rest) (b.4 ∙ whole)) d.1 more
 
 lines_agree : (counts : Counts) (clients : List (List ℕ)) (client : List ℕ) (cs : List Command) → LinesAgree counts clients client cs
 lines_agree counts clients client [] m t before es own number busy rests idle all run none follows = rw follows refl

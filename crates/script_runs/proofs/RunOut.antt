@@ -1,0 +1,232 @@
+-- each script in turn can be brought to its end without a further transaction
+use Rattle.std.proofs.Common.{◌≡◌, ◌<◌, ◌≤◌, ◌+◌, ◌^◌, ℕ, inr, Bool, true, false, Option, Some, None, List, [], ◌∷◌, ◌++◌, length, refl, sym, ap, subst, arith, append_assoc, length-append}
+use Rattle.std.proofs.lemmas.List.{append-nil}
+use Rattle.tect_ids.specs.declared.ids.OpId.{OpId}
+use Rattle.tect_ids.specs.declared.answer.Answer.{Answer}
+use Rattle.tect_ids.specs.declared.answer.Answer.TheVariants as answers
+use Rattle.tect_ids.specs.declared.command.Command.{Command}
+use Rattle.tect_ids.specs.declared.script.Act.{Act}
+use Rattle.tect_ids.specs.declared.script.Act.TheVariants as acts
+use Rattle.tect_ids.specs.declared.script.Line.{Line}
+use Rattle.tect_ids.specs.declared.script.Line.TheVariants as lines
+use Rattle.op_names.specs.declared.program.Phase.TheVariants.{End}
+use Rattle.op_names.specs.declared.program.Program.{Program}
+use Rattle.op_names.specs.Programs.{started}
+use Rattle.world_runs.specs.declared.event.Event.{Event}
+use Rattle.world_runs.specs.declared.event.Event.TheVariants.{Began, Refused, Acted, Ended, Stopped, Failed, Dumped}
+use Rattle.world_runs.specs.Served.{IsServed}
+use Rattle.world_runs.specs.Moments.{Moment, May, CanBegin, no_room, opening, after, after_all, RunFrom, IsWorldRun, moment, running, answered, program_of, begun, refused}
+use Rattle.world_runs.specs.Follows.{IsEndOf, IsBeginOf, DoesLine, Busy, FollowsFrom}
+use Rattle.world_runs.specs.Turns.{ClientTurn, Turns, all_idle, with_turn, turn_after, turns_after, TakesAct, InTurnFrom}
+use Rattle.world_runs.specs.Turns as turns
+use Rattle.store_world.specs.Worlds.{Ghost, opening_ghost}
+use Rattle.sound_runs.specs.Known.{AllSound}
+use Rattle.sound_runs.specs.Pasts.{ghosts, ghosts_after}
+use Rattle.sound_runs.proofs.MomentsKeep.{opening_all_sound}
+use Rattle.sound_runs.proofs.RunsKeep.{run_keeps, run_all_sound}
+use Rattle.tree_runs.proofs.Histories.{run-append}
+use Rattle.script_runs.specs.Standing.{op_of, busy_at, AtTurn}
+use Rattle.script_runs.specs.Smooth.{EndsAtOnce}
+use Rattle.script_runs.specs.RunningOut.{RefusesAsFull}
+use Rattle.script_runs.specs.Laws.{EachScriptCanBeRunOut}
+use Rattle.script_runs.proofs.Moves.{changed_there}
+use Rattle.script_runs.proofs.Lines.{IsBusy, busy_is, IsDone, line_does, busy_after}
+use Rattle.script_runs.proofs.FollowOn.{AllStand, stand_after, stand_by_turn, opening_stand, run_follows_on}
+use Rattle.script_runs.proofs.CanEnd.{runs_as_its_op, busy_runs}
+use Rattle.script_runs.proofs.RunOn.{turn_front, turn_back}
+
+module _ (full : List Event → ℕ → Bool) where
+  -- ---- one list of such events after another
+
+  refuses_on : (before : List Event) (e : Event) (es fs : List Event) → RefusesAsFull full (before ++ e ∷ es) fs → RefusesAsFull full ((before ++ e ∷ []) ++ es) fs
+  refuses_on before e es fs then = subst (λ (l : List Event). RefusesAsFull full l fs) (sym (append_assoc before (e ∷ []) es)) then
+
+  pub refuses-append : (before es fs : List Event) → RefusesAsFull full before es → RefusesAsFull full (before ++ es) fs → RefusesAsFull full before (es ++ fs)
+  refuses-append before [] fs first then = rw append-nil at then
+  refuses-append before (Began op c ∷ es) fs first then = (first.0, refuses-append (before ++ Began op c ∷ []) es fs first.1 (refuses_on before (Began op c) es fs then))
+  refuses-append before (Refused op c ∷ es) fs first then = (first.0, refuses-append (before ++ Refused op c ∷ []) es fs first.1 (refuses_on before (Refused op c) es fs then))
+  refuses-append before (Acted op q x ∷ es) fs first then = absurd first
+  refuses-append before (Ended op a ∷ es) fs first then = refuses-append (before ++ Ended op a ∷ []) es fs first (refuses_on before (Ended op a) es fs then)
+  refuses-append before (Stopped op ∷ es) fs first then = refuses-append (before ++ Stopped op ∷ []) es fs first (refuses_on before (Stopped op) es fs then)
+  refuses-append before (Failed op a ∷ es) fs first then = (first.0, refuses-append (before ++ Failed op a ∷ []) es fs first.1 (refuses_on before (Failed op a) es fs then))
+  refuses-append before (Dumped ∷ es) fs first then = refuses-append (before ++ Dumped ∷ []) es fs first (refuses_on before Dumped es fs then)
+
+  -- none of them is a transaction
+  pub refuses_at_once : (before : List Event) (m : Moment) (es : List Event) → RefusesAsFull full before es → EndsAtOnce m es
+  refuses_at_once before m [] r = tt
+  refuses_at_once before m (Began op c ∷ es) r = (tt, refuses_at_once (before ++ Began op c ∷ []) (after m (Began op c)) es r.1)
+  refuses_at_once before m (Refused op c ∷ es) r = (tt, refuses_at_once (before ++ Refused op c ∷ []) (after m (Refused op c)) es r.1)
+  refuses_at_once before m (Acted op q x ∷ es) r = absurd r
+  refuses_at_once before m (Ended op a ∷ es) r = (tt, refuses_at_once (before ++ Ended op a ∷ []) (after m (Ended op a)) es r)
+  refuses_at_once before m (Stopped op ∷ es) r = (tt, refuses_at_once (before ++ Stopped op ∷ []) (after m (Stopped op)) es r)
+  refuses_at_once before m (Failed op a ∷ es) r = (tt, refuses_at_once (before ++ Failed op a ∷ []) (after m (Failed op a)) es r.1)
+  refuses_at_once before m (Dumped ∷ es) r = (tt, refuses_at_once (before ++ Dumped ∷ []) m es r)
+
+  -- ---- an op that runs
+
+  -- its end: with its answer, if it has one, or for want of memory
+  pub record EndsNow (m : Moment) (op : OpId) : Type 0 where
+    pub end : Event
+    pub may : May m end
+    pub ends : IsEndOf op end
+    pub refuses : (before : List Event) → RefusesAsFull full before (end ∷ [])
+
+  pub ends_now : (m : Moment) (op : OpId) (p : Program) → running m op ≡ Some p → EndsNow m op
+  ends_now m op p runs = at (answered m op) refl
+    where
+      at : (o : Option Answer) → answered m op ≡ o → EndsNow m op
+      at (Some a) says = record { end = Ended op a; may = says; ends = refl; refuses = λ before. tt }
+      at None says = record { end = Failed op answers.NoMemory; may = (tt, (p, runs)); ends = refl; refuses = λ before. (refl, tt) }
+
+  -- the end of the op that an actor is busy with
+  pub busy_ends : (m : Moment) (g : Ghost) → AllSound m g → (a : ℕ) (op : OpId) → busy_at m a ≡ Some op → EndsNow m op
+  busy_ends m g s a op is = let busy : IsBusy m a op = busy_is m g s a op is in ends_now m op busy.program (busy_runs m a op busy)
+
+  -- ---- a line
+
+  -- events that do the line
+  record CanDo (before : List Event) (m : Moment) (a : ℕ) (busy : Option OpId) (act : Act) : Type 0 where
+    events : List Event
+    next : Option OpId
+    run : RunFrom m events
+    does : DoesLine a busy act events next
+    refuses : RefusesAsFull full before events
+
+  nothing : (before : List Event) (m : Moment) (a : ℕ) (busy next : Option OpId) (act : Act) → DoesLine a busy act [] next → CanDo before m a busy act
+  nothing before m a busy next act does = record { events = []; next = next; run = tt; does = does; refuses = tt }
+
+  -- an idle actor
+  module _ (before : List Event) (m : Moment) (a : ℕ) (c : Command) (from : 1 ≤ a) (upto : a ≤ 64) (served : IsServed c) (stood : AtTurn turns.Idle (m.actors a))
+      (few : (m.actors a).number + 1 < 2 ^ 31) where
+    -- its next op
+    abbrev op : OpId
+    op = record { actor = a; number = (m.actors a).number + 1 }
+
+    can_begin : CanBegin (m.actors a) op
+    can_begin = record { idle = stood.0; goes_on = stood.1; next = refl; few = few; is_actor = (from, omega (arith, upto)) }
+
+    -- it begins the command, or is refused
+    record Begins : Type 0 where
+      begin : Event
+      may : May m begin
+      is : IsBeginOf op c begin
+      program : Program
+      runs : running (after m begin) op ≡ Some program
+      refuses : RefusesAsFull full before (begin ∷ [])
+
+    -- the program of a refused op
+    abbrev declined : Program
+    declined = record { op = op; command = c; phase = End no_room }
+
+    begins_as : (b : Bool) → full before a ≡ b → Begins
+    begins_as false is = record {
+      begin = Began op c;
+      may = (can_begin, served);
+      is = (refl, refl);
+      program = started op c;
+      runs = changed_there (λ st. program_of st.running op ≡ Some (started op c)) m.actors a (begun (m.actors a) op c) (runs_as_its_op (Some (started op c)) (started op c) op refl refl);
+      refuses = (is, tt);
+    }
+    begins_as true is = record {
+      begin = Refused op c;
+      may = (can_begin, served);
+      is = (refl, refl);
+      program = declined;
+      runs = changed_there (λ st. program_of st.running op ≡ Some declined) m.actors a (refused (m.actors a) op c) (runs_as_its_op (Some declined) declined op refl refl);
+      refuses = (is, tt);
+    }
+
+    begins : Begins
+    begins = begins_as (full before a) refl
+
+    begin_can : CanDo before m a None (acts.Begin c)
+    begin_can = record { events = begins.begin ∷ []; next = Some op; run = (begins.may, tt); does = (op, begins.begin, refl, refl, begins.is, refl); refuses = begins.refuses }
+
+    ends : EndsNow (after m begins.begin) op
+    ends = ends_now (after m begins.begin) op begins.program begins.runs
+
+    do_can : CanDo before m a None (acts.Do c)
+    do_can = record {
+      events = begins.begin ∷ ends.end ∷ [];
+      next = None;
+      run = (begins.may, (ends.may, tt));
+      does = ((op, begins.begin, ends.end ∷ [], refl, refl, begins.is, (0, ([], ends.end, refl, refl, ends.ends))), refl);
+      refuses = refuses-append before (begins.begin ∷ []) (ends.end ∷ []) begins.refuses (ends.refuses (before ++ begins.begin ∷ []));
+    }
+
+  module _ (before : List Event) (m : Moment) (g : Ghost) (s : AllSound m g) (a : ℕ) where
+    step_can : (n : ℕ) (busy : Option OpId) → busy_at m a ≡ busy → CanDo before m a busy (acts.Step n)
+    step_can n None is = nothing before m a None None (acts.Step n) (refl, refl)
+    step_can n (Some op) is =
+        let e : EndsNow m op = busy_ends m g s a op is in
+        record { events = e.end ∷ []; next = None; run = (e.may, tt); does = inr (0, omega arith, ([], e.end, refl, refl, e.ends), refl); refuses = e.refuses before }
+
+    run_can : (busy : Option OpId) → busy_at m a ≡ busy → CanDo before m a busy acts.Run
+    run_can None is = nothing before m a None None acts.Run (refl, refl)
+    run_can (Some op) is =
+        let e : EndsNow m op = busy_ends m g s a op is in
+        record { events = e.end ∷ []; next = None; run = (e.may, tt); does = ((0, ([], e.end, refl, refl, e.ends)), refl); refuses = e.refuses before }
+
+    stop_can : (busy : Option OpId) → busy_at m a ≡ busy → CanDo before m a busy acts.Stop
+    stop_can None is = nothing before m a None None acts.Stop (refl, refl)
+    stop_can (Some op) is =
+        let busy : IsBusy m a op = busy_is m g s a op is in
+        record { events = Stopped op ∷ []; next = None; run = ((busy.program, busy_runs m a op busy), tt); does = (refl, refl); refuses = tt }
+
+    -- any line in turn
+    line_can : (turn : ClientTurn) (act : Act) → 1 ≤ a → a ≤ 64 → TakesAct turn act → AtTurn turn (m.actors a) → (m.actors a).number + 1 < 2 ^ 31 → CanDo before m a (busy_at m a) act
+    line_can turns.Idle (acts.Do c) from upto takes stood few =
+        subst (λ (o : Option OpId). CanDo before m a o (acts.Do c)) (sym (ap op_of stood.0)) (do_can before m a c from upto takes stood few)
+    line_can turns.Idle (acts.Begin c) from upto takes stood few =
+        subst (λ (o : Option OpId). CanDo before m a o (acts.Begin c)) (sym (ap op_of stood.0)) (begin_can before m a c from upto takes stood few)
+    line_can turns.Idle (acts.Step n) from upto takes stood few = absurd takes
+    line_can turns.Idle acts.Run from upto takes stood few = absurd takes
+    line_can turns.Idle acts.Stop from upto takes stood few = absurd takes
+    line_can turns.Busy (acts.Do c) from upto takes stood few = absurd takes
+    line_can turns.Busy (acts.Begin c) from upto takes stood few = absurd takes
+    line_can turns.Busy (acts.Step n) from upto takes stood few = step_can n (busy_at m a) refl
+    line_can turns.Busy acts.Run from upto takes stood few = run_can (busy_at m a) refl
+    line_can turns.Busy acts.Stop from upto takes stood few = stop_can (busy_at m a) refl
+    line_can turns.Gone act from upto takes stood few = absurd takes
+
+  -- ---- lines
+
+  -- events that follow the lines
+  pub record CanRunOut (before : List Event) (m : Moment) (ls : List Line) : Type 0 where
+    pub events : List Event
+    pub run : RunFrom m events
+    pub follows : FollowsFrom (busy_at m) ls events
+    pub refuses : RefusesAsFull full before events
+
+  pub lines_run_out : (ls : List Line) (before : List Event) (m : Moment) (g : Ghost) (turns : Turns) (k : ℕ) → AllSound m g → InTurnFrom turns ls → AllStand m turns k → k + length ls < 2 ^ 31
+      → CanRunOut before m ls
+  lines_run_out [] before m g turns k s in_turn all few = record { events = []; run = tt; follows = refl; refuses = tt }
+  lines_run_out (lines.Client client a act ∷ ls) before m g turns k s in_turn all few =
+      let d : CanDo before m a (busy_at m a) act = line_can before m g s a (turns a) act in_turn.0 in_turn.1 in_turn.2 (all a).stands (omega (arith, (all a).began, few)) in
+      let n : Moment = after_all m d.events in
+      let done : IsDone m n a act d.next = line_does m g s a act d.events d.next d.run d.does in
+      let rest : CanRunOut (before ++ d.events) n ls =
+      lines_run_out ls (before ++ d.events) n (ghosts_after m g d.events) (with_turn turns a (turn_after act)) (k + 1) (run_keeps d.events m g s d.run) in_turn.3
+      (stand_after m n turns k a act d.events d.next done d.does in_turn.2 all) (omega (arith, few)) in
+      record {
+        events = d.events ++ rest.events;
+        run = run-append m d.events rest.events d.run rest.run;
+        follows = (d.events, rest.events, d.next, refl, d.does, subst (λ (b : Busy). FollowsFrom b ls rest.events) (sym (busy_after m n a act d.next done)) rest.follows);
+        refuses = refuses-append before d.events rest.events d.refuses rest.refuses;
+      }
+  lines_run_out (lines.Dump ∷ ls) before m g turns k s in_turn all few =
+      let rest : CanRunOut (before ++ Dumped ∷ []) m ls = lines_run_out ls (before ++ Dumped ∷ []) m g turns k s in_turn all (omega (arith, few)) in
+      record { events = Dumped ∷ rest.events; run = (tt, rest.run); follows = (rest.events, refl, rest.follows); refuses = rest.refuses }
+  lines_run_out (lines.Store counts ∷ ls) before m g turns k s in_turn all few = absurd in_turn
+  lines_run_out (lines.Sweep ∷ ls) before m g turns k s in_turn all few = absurd in_turn
+  lines_run_out (lines.Lose disk ∷ ls) before m g turns k s in_turn all few = absurd in_turn
+
+pub each_script_can_be_run_out : EachScriptCanBeRunOut
+each_script_can_be_run_out full counts front back history in_turn few run f =
+    let all : AllStand (moment counts history) (turns_after all_idle front) (0 + length front) =
+    stand_by_turn front (opening counts) opening_ghost all_idle 0 history (opening_all_sound counts) (turn_front front back all_idle in_turn) run f (opening_stand counts) in
+    let rest : CanRunOut full history (moment counts history) back =
+    lines_run_out full back history (moment counts history) (ghosts counts history) (turns_after all_idle front) (0 + length front) (run_all_sound counts history run) (turn_back front back all_idle in_turn) all
+    (omega (arith, few, length-append front back)) in
+    let whole : IsWorldRun counts (history ++ rest.events) = run-append (opening counts) history rest.events run rest.run in
+    (rest.events, whole, run_follows_on counts front back history rest.events whole f rest.follows, refuses_at_once full history (moment counts history) rest.events rest.refuses, rest.refuses)
