@@ -2,3 +2,7 @@ pub mod Actors
 pub mod Owns
 pub mod Limits
 pub mod Replies
+pub mod Following
+pub mod Weaving
+pub mod Shown
+pub mod Rooms

@@ -1,5 +1,5 @@
 -- each actor's own limits make those of the whole history
-use Rattle.std.proofs.Common.{◌≡◌, ◌⊎◌, inl, inr, ℕ, ◌+◌, Bool, true, false, if◌then◌else◌, List, [], ◌∷◌, ◌++◌, refl, sym, ap, ◌∙◌, subst, append_assoc, arith}
+use Rattle.std.proofs.Common.{◌≡◌, inl, inr, ℕ, ◌+◌, Bool, true, false, if◌then◌else◌, List, [], ◌∷◌, ◌++◌, refl, sym, ap, ◌∙◌, subst, append_assoc, arith}
 use Rattle.std.proofs.lemmas.List.{append-nil}
 use Rattle.std.proofs.lemmas.List.Sums.{sum_by-append, sum_by-cons}
 use Rattle.std.specs.List.{sum_by}
@@ -10,13 +10,13 @@ use Rattle.tect_ids.specs.declared.answer.Answer.TheVariants as answers
 use Rattle.place_kit.specs.ReplyBytes.{reply_bytes}
 use Rattle.world_runs.specs.declared.event.Event.{Event}
 use Rattle.world_runs.specs.declared.event.Event.TheVariants.{Began, Refused, Acted, Ended, Stopped, Failed, Dumped}
-use Rattle.world_runs.specs.Moments.{Actor, Moment, opening, after, after_all, moment, idle_actor}
+use Rattle.world_runs.specs.Moments.{Actor, Moment, opening, moment}
 use Rattle.world_runs.specs.Races.{is_own}
 use Rattle.noted_runs.specs.Events.{own}
-use Rattle.noted_runs.specs.Limits.{event_cost, event_bytes, used, kept_bytes, IsFull, IsFullForBegin, EndsFull, KeepsRoom, KeepsLimitsAfter, KeepsLimits, OwnLimits, actor_in}
+use Rattle.noted_runs.specs.Limits.{event_cost, event_bytes, used, kept_bytes, EndsFull, KeepsRoom, KeepsLimitsAfter, OwnLimits, actor_in}
 use Rattle.noted_runs.specs.OwnRuns.{own_after, own_state}
 use Rattle.noted_runs.specs.Laws.{OwnLimitsMakeLimits}
-use Rattle.noted_runs.proofs.Actors.{own_of_actor, actor_of_own, after_actors, after_counts, moment-append, own-append}
+use Rattle.noted_runs.proofs.Actors.{own_of_actor, after_actors, moment-append, own-append}
 use Rattle.noted_runs.proofs.Owns.{counts_stay}
 
 -- ---- what is used, and what is kept, of histories that grow
@@ -47,7 +47,7 @@ other_bytes a (Failed op x) h = refl
 other_bytes a Dumped h = refl
 
 -- a sum over what is own is that over all, where the others count nothing
-own_sum : (a : ℕ) (f : Event → ℕ) → ((e : Event) → is_own a e ≡ false → f e ≡ 0) → (es : List Event) → sum_by f (own a es) ≡ sum_by f es
+pub own_sum : (a : ℕ) (f : Event → ℕ) → ((e : Event) → is_own a e ≡ false → f e ≡ 0) → (es : List Event) → sum_by f (own a es) ≡ sum_by f es
 own_sum a f none [] = refl
 own_sum a f none (e ∷ es) =
     let rest : sum_by f (own a es) ≡ sum_by f es = own_sum a f none es in

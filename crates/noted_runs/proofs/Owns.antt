@@ -1,10 +1,8 @@
 -- each actor's own run and the store's replies make the run of all, and are made by it
-use Rattle.std.proofs.Common.{◌≡◌, ◌⊎◌, inl, inr, ℕ, Bool, true, false, if◌then◌else◌, List, [], ◌∷◌, ◌++◌, refl, sym, ap, ◌∙◌, subst}
+use Rattle.std.proofs.Common.{◌≡◌, inl, inr, ℕ, Bool, true, false, if◌then◌else◌, List, [], ◌∷◌, refl, sym, ap, ◌∙◌, subst}
 use Rattle.tect_ids.specs.declared.ids.Counts.{Counts}
-use Rattle.store_rules.specs.Store.{Store, opening_store}
 use Rattle.world_runs.specs.declared.event.Event.{Event}
-use Rattle.world_runs.specs.declared.event.Event.TheVariants.{Dumped}
-use Rattle.world_runs.specs.Moments.{Actor, Moment, May, opening, after, after_all, moment, RunFrom, idle_actor, IsWorldRun}
+use Rattle.world_runs.specs.Moments.{Actor, Moment, opening, after, after_all, RunFrom}
 use Rattle.world_runs.specs.Races.{is_own}
 use Rattle.noted_runs.specs.Events.{own}
 use Rattle.noted_runs.specs.Limits.{actor_in}

@@ -1,8 +1,8 @@
 -- where each place's moments are a legal history of its shard, the replies are those of the whole store
 use Rattle.std.proofs.Common.{◌≡◌, ◌≢◌, ℕ, zero, suc, ◌+◌, ◌<◌, ◌≤◌, Bool, true, false, if◌then◌else◌, Some, List, [], ◌∷◌, length, refl, sym, ap, ◌∙◌, subst, map, eqb, nat_lt, arith}
 use Rattle.std.proofs.lemmas.Bool.{ltb-true, ltb-false}
-use Rattle.std.proofs.lemmas.List.Elements.{All-filter, All-from_recursion, filter_passes, recursion_from_All}
-use Rattle.std.proofs.lemmas.Option.{get_or_from_slice_get, slice_get_within}
+use Rattle.std.proofs.lemmas.List.Elements.{All-filter, filter_passes, recursion_from_All}
+use Rattle.std.proofs.lemmas.Option.{get_or_from_slice_get}
 use Rattle.std.specs.FinMap.{empty}
 use Rattle.std.specs.List.{All, AllByRecursion, filter, slice_get}
 use Rattle.tect_ids.specs.declared.ids.Counts.{Counts}
@@ -12,8 +12,8 @@ use Rattle.tect_ids.specs.declared.ids.Layer.TheVariants as layers
 use Rattle.store_rules.specs.declared.any.AnyReq.{AnyReq}
 use Rattle.store_rules.specs.declared.any.AnyReq.TheVariants as any
 use Rattle.store_rules.specs.declared.names.NameReq.TheVariants as requests
-use Rattle.store_rules.specs.Files.{Files, file_answer, file_change, file_step}
-use Rattle.store_rules.specs.Names.{Names, root_names, no_names, name_answer, name_change, name_step}
+use Rattle.store_rules.specs.Files.{Files, file_answer, file_change}
+use Rattle.store_rules.specs.Names.{Names, root_names, no_names, name_answer, name_change}
 use Rattle.store_rules.specs.Outcomes.{changes}
 use Rattle.store_rules.specs.Places.{request_place}
 use Rattle.store_rules.specs.Store.{Store, opening_store, store_reply, store_step}

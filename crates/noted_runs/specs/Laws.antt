@@ -17,12 +17,13 @@ use Rattle.place_kit.specs.Started.{AreStarted}
 use Rattle.world_runs.specs.declared.event.Event.{Event}
 use Rattle.world_runs.specs.declared.event.Event.TheVariants.{Began, Refused, Acted, Ended, Stopped, Failed, Dumped}
 use Rattle.world_runs.specs.Moments.{idle_actor, moment, IsWorldRun}
-use Rattle.world_runs.specs.Races.{concerns, line_concerns, FollowsByClient}
+use Rattle.world_runs.specs.Races.{concerns, line_concerns, race_report, FollowsByClient}
 use Rattle.noted_runs.specs.Events.{events_of, own}
 use Rattle.noted_runs.specs.OwnRuns.{OwnRun, own_state, RepliesAre, stored_after}
 use Rattle.noted_runs.specs.Limits.{KeepsLimits, OwnLimits}
 use Rattle.noted_runs.specs.Woven.{Cut, woven, own_cuts}
 use Rattle.noted_runs.specs.ClientLines.{DoesLines}
+use Rattle.noted_runs.specs.Reports.{parts_report}
 
 abbrev pub OwnRunsMakeRun : Type 0
 OwnRunsMakeRun =
@@ -97,3 +98,9 @@ ClientsFollow =
     (ls : List Line) (history : List Event)
     → ((actor : ℕ) → (next : Option OpId) × DoesLines actor None (filter (line_concerns actor) ls) (filter (concerns actor) history) next)
     → FollowsByClient ls history
+
+-- what a report shows of a woven history
+abbrev pub WovenReports : Type 0
+WovenReports =
+    (counts : Counts) (clients : List (List ℕ)) (cuts : List Cut) (last : List Event) (ms : List Moment) → All IsOwnNote ms → AreSilent cuts last
+    → race_report counts clients (woven cuts last ms) ≡ parts_report counts clients (λ actor. []) opening_store cuts last ms

@@ -6,7 +6,7 @@ use Rattle.store_rules.specs.Store.{Store, store_reply, store_step}
 use Rattle.op_names.specs.declared.program.Program.{Program}
 use Rattle.world_runs.specs.declared.event.Event.{Event}
 use Rattle.world_runs.specs.declared.event.Event.TheVariants.{Began, Refused, Acted, Ended, Stopped, Failed, Dumped}
-use Rattle.world_runs.specs.Moments.{Actor, CanBegin, IsLack, idle_actor, program_of, program_ask, program_answer, begun, refused, went_on}
+use Rattle.world_runs.specs.Moments.{Actor, CanBegin, IsLack, program_of, program_ask, program_answer, begun, refused, went_on}
 use Rattle.world_runs.specs.Served.{IsServed}
 
 abbrev pub OwnMay : Actor → Event → Type 0

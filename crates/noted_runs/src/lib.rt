@@ -2,7 +2,7 @@
 //! history of many, for any order of the shards' transactions. Nothing here is called: each function's contract is a law.
 #![tactic(auto)]
 
-ghost use Rattle.noted_runs.specs.Laws.{OwnRunsMakeRun, RunIsOwnRuns, ActorsAreTheirOwn, OwnLimitsMakeLimits, PlacesReply, WovenConcerns, WovenReplies, ClientsFollow};
+ghost use Rattle.noted_runs.specs.Laws.{OwnRunsMakeRun, RunIsOwnRuns, ActorsAreTheirOwn, OwnLimitsMakeLimits, PlacesReply, WovenConcerns, WovenReplies, WovenReports, ClientsFollow};
 
 /// Where each actor's own events are a run of its programs, and each reply is the one that the store gives after the requests
 /// before it, the whole is a run of the world.
@@ -33,6 +33,12 @@ pub fn places_reply()
 pub fn woven_concerns()
     ensures concerns { WovenConcerns }
     ensures replies { WovenReplies }
+{}
+
+/// A history that is woven shows, part by part, what each actor's own events of the part show, client by client, and behind
+/// each part but the last the dump of the store after the moments up to its stamp.
+pub fn woven_reports()
+    ensures { WovenReports }
 {}
 
 /// Where each client's own events and the dumps follow its own lines and those of the dumps, the whole history follows the

@@ -35,6 +35,7 @@ impl Entry {
             stamp: self.stamp,
             place: self.place,
             actor: self.actor,
+            number: self.number,
             step: self.step,
             req,
             reply,
