@@ -19,3 +19,6 @@ pub use entry::{Entry, Label, Moment, Note, Refused};
 pub use kept::Kept;
 pub use machine::Machine;
 pub use pass::{MOST_BYTES, MOST_MOMENTS, Pass};
+
+#[cfg(test)]
+mod tests;
