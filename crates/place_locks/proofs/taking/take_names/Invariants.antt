@@ -1,0 +1,11 @@
+use Rattle.std.proofs.Common.{◌≡◌, ◌+◌, length}
+use Rattle.place_locks.specs.Started.{StandFirst}
+use Rattle.place_locks.proofs.taking.take_names.Given as goal
+
+abbrev pub invariant-loop-at : goal.invariant-loop-at
+invariant-loop-at l = record {
+  can : (goal.iterator-loop-at).can_next l.at-iterator;
+  finite : (goal.iterator-loop-at).is_finite l.at-iterator;
+  left : length l.kepts.items + (goal.iterator-loop-at).remaining l.at-iterator ≡ l.counts.names;
+  first : StandFirst l.counts (length l.kepts.items) l.kepts.items;
+}
