@@ -1,0 +1,10 @@
+pub mod Order
+pub mod Members
+pub mod Strict
+pub mod Restricts
+pub mod Search
+pub mod Trails
+pub mod Places
+pub mod Known
+pub mod Keys
+pub mod Gathers

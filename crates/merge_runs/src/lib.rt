@@ -1,4 +1,13 @@
 //! One history of all places and of all actors.
 #![tactic(auto)]
 
+mod agree;
+mod fault;
+mod gathered;
+mod keyed;
 mod same;
+mod sorted;
+mod split;
+
+pub use fault::GatherFault;
+pub use gathered::{Merged, gather};
