@@ -4,7 +4,7 @@ ghost use Rattle.tect_ids.specs.declared.ids.Counts.{Counts};
 ghost use Rattle.store_rules.specs.declared.any.AnyReq.{AnyReq};
 ghost use Rattle.store_rules.specs.Places.{request_place};
 ghost use Rattle.tect_calls.specs.Knowing.{IsActor};
-ghost use Rattle.world_runs.specs.Moments.{idle_actor, begun, went_on, program_ask, program_answer};
+ghost use Rattle.world_runs.specs.Moments.{idle_actor, begun, refused, went_on, next_serial, program_ask, program_answer};
 ghost use Rattle.actors.specs.ActorState.{op_of, next_op_of};
 ghost use Rattle.actors.specs.Hearing.{IsOfIts, gone_on};
 
@@ -79,6 +79,17 @@ impl Actor {
         self.stopped
     }
 
+    // The op of its next command.
+    fn next_op(&self) -> OpId
+        requires { self.now.state.number + 1 < 2 ^ 32 }
+        ensures { result ≡ next_op_of self.now }
+    {
+        OpId {
+            actor: self.memory.actor(),
+            number: self.number + 1,
+        }
+    }
+
     /// Begins its next op with that command. For want of memory it stays as it was.
     pub fn begin(&mut self, command: Command) -> Result<(), NoMemory>
         requires idle { IsNone self.old.state.running }
@@ -87,14 +98,24 @@ impl Actor {
         ensures ok { OnOk result (self.new ≡ record self.old { state = begun self.old.state (next_op_of self.old) command }) }
         ensures err { OnErr result (self.new ≡ self.old) }
     {
-        let op = OpId {
-            actor: self.memory.actor(),
-            number: self.number + 1,
-        };
+        let op = self.next_op();
         let running = Running::start(self.alloc, op, command)?;
         self.number += 1;
         self.running = Some(running);
         Ok(())
+    }
+
+    /// Begins its next op with that command, which has its answer from the first: there is no room to note that it begins.
+    /// It takes no memory.
+    pub fn begin_refused(&mut self, command: Command)
+        requires idle { IsNone self.old.state.running }
+        requires goes_on { self.old.state.stopped ≡ false }
+        requires few { self.old.state.number + 1 < 2 ^ 32 }
+        ensures { self.new ≡ record self.old { state = refused self.old.state (next_op_of self.old) command } }
+    {
+        let op = self.next_op();
+        self.number += 1;
+        self.running = Some(Running::refused(self.alloc, op, command));
     }
 
     /// The request that its command makes next, with the tokens that it needs; none where it has its answer, or where no
@@ -146,6 +167,23 @@ impl Actor {
         let heard = self.heard(place, reply)?;
         self.go_on(heard);
         Ok(())
+    }
+
+    /// Its command ends at the reply to its request, for want of memory to go on. Where an object was made, a serial is
+    /// taken all the same. It takes no memory.
+    pub fn drop_after(&mut self, reply: &AnyReply)
+        requires few { self.old.state.serial + 1 < 2 ^ 32 }
+        ensures { self.new ≡ record self.old {
+          state = record self.old.state {
+            serial = next_serial self.old.state.serial reply.now;
+            running = None;
+          };
+        } }
+    {
+        if reply.is_made() {
+            self.memory.take_serial();
+        }
+        self.running = None;
     }
 
     /// The answer that its command has come to, if it has.

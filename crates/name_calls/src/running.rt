@@ -10,7 +10,7 @@ use crate::carrying::{carry, facts_of, opening_of};
 use crate::heard::Heard;
 use crate::showing::show;
 use crate::shown::Shown;
-use op_names::Program;
+use op_names::{Phase, Program};
 use std::alloc::Global;
 use std::marker::Model;
 use std::mem;
@@ -50,6 +50,21 @@ impl Running {
             program,
             shown,
         })
+    }
+
+    /// The command as that op, with its answer from the first: its actor had no room to note that it begins. It asks
+    /// nothing. It takes no memory.
+    pub fn refused(alloc: Global, op: OpId, command: Command) -> Running
+        ensures { result ≡ record { op = op; command = command; phase = Phase.End (Answer.HistoryFull (record { 0 = 256 })) } }
+    {
+        let phase = Phase::End {
+            answer: Answer::HistoryFull { place: Place(256) },
+        };
+        Running {
+            alloc,
+            program: Program { op, command, phase },
+            shown: Shown::Nothing,
+        }
     }
 
     /// The request that the command makes next, with the tokens that it needs. None where it has its answer. Nothing is

@@ -1,0 +1,4 @@
+pub mod Phases
+pub mod Growing
+pub mod Weights
+pub mod Stages
