@@ -86,7 +86,10 @@ pub fn race_plan<R: Threads + Wait + Sync, K: Sink, G: Gate + Sync>(
     match race(rt, alloc, plan, workers, gate) {
         Ok(raced) => show(alloc, raced.report.as_slice(), sink),
         Err(RaceFault::NoMemory) => Status::NoMemory,
-        Err(RaceFault::Split { actor, step, .. }) => close_split(split_line(alloc, actor, step), sink),
+        Err(RaceFault::Split { actor, step, .. }) => close_split(
+            split_line(alloc, actor, step),
+            sink,
+        ),
         Err(RaceFault::Astray { want, .. }) => close_split(astray_line(alloc, want.place), sink),
     }
 }
