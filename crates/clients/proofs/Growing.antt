@@ -43,7 +43,7 @@ pub program_own : (o : Option Program) (op : OpId) → ForSome o (λ p. p.op ≡
 program_own None op its = refl
 program_own (Some p) op its = let same : p.op ≡ op = its p refl in grind (arith, op_eq_cases p.op op)
 
-some_op : (a b : Program) → Some a ≡ Some b → a.op ≡ b.op
+pub some_op : (a b : Program) → Some a ≡ Some b → a.op ≡ b.op
 some_op a b is = let same : a ≡ b = cc in ap (λ (z : Program). z.op) same
 
 pub heard_own : (counts : Counts) (serial : ℕ) (q : AnyReq) (x : AnyReply) (o : Option Program) (op : OpId) → ForSome o (λ p. p.op ≡ op) → ForSome (heard counts serial q x o) (λ p. p.op ≡ op)

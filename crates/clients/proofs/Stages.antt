@@ -35,7 +35,7 @@ use Rattle.actors.specs.ActorState.{ActorState, op_of}
 use Rattle.clients.specs.Commits.{Committed, NotedEnd, entry_at}
 use Rattle.clients.specs.Phases.{RunsSmoothly, op_running}
 use Rattle.clients.specs.Steps.{Tried, Unasked, Did, Denied, Asks, state_after, EndsSo}
-use Rattle.clients.specs.Turns.{ended, Finishes, Tries, has_acted, after_try}
+use Rattle.clients.specs.Turns.{ended, Finishes, Tries, after_try}
 use Rattle.clients.proofs.Phases.{smooth_hears, smooth_answers}
 use Rattle.clients.proofs.Growing.{state_push, run_push, limits_push, own_push, program_own, heard_own, plain_end, count_act, count_other, end_no_act}
 use Rattle.clients.proofs.Weights.{fills, has_room}

@@ -94,7 +94,7 @@ module _ (p : Pass) where
   has_room room (inr heavy) = room (inr (inl (omega (arith, pass_bytes, heavy))))
 
 -- the events of refused ops take up nothing
-silent_cost : (a : ℕ) (e : Event) → IsSilent e → event_cost a e ≡ 0
+pub silent_cost : (a : ℕ) (e : Event) → IsSilent e → event_cost a e ≡ 0
 silent_cost a (Began op c) silent = absurd silent
 silent_cost a (Acted op q x) silent = absurd silent
 silent_cost a (Refused op c) silent = refl

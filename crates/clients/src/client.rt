@@ -11,7 +11,7 @@ ghost use Rattle.clients.specs.Lives.{events_in, state_in, op_in, RefusesNext, i
 ghost use Rattle.clients.specs.Steps.{OwnStep, WentAstray};
 
 use crate::commits::{Astray, Commits};
-use crate::turns::{Turn, take_turn};
+use crate::turns::take_turn;
 use actors::{Actor, Turned};
 use place_kit::{Note, Pass};
 use std::alloc::Global;
@@ -47,6 +47,7 @@ impl Model for Client {
 fn push_event(events: &mut Vec<Event>, event: Event)
     requires { vec_len events.old < vec_capacity events.old }
     ensures items { events.new.items ≡ events.old.items ++ event ∷ [] }
+    ensures len { vec_len events.new ≡ vec_len events.old + 1 }
     ensures room { vec_capacity events.old ≤ vec_capacity events.new }
 {
     if events.push(event).is_err() {
@@ -166,6 +167,7 @@ impl Client {
         requires served { IsServed command }
         ensures ok { OnOk result (Begins self.old self.new command) }
         ensures err { OnErr result (self.new ≡ self.old) }
+        ensures same { (self.new.counts ≡ self.old.counts) × (self.new.actor ≡ self.old.actor) }
         ensures life { IsLife self.new }
     {
         let begun = if self.pass.is_full_for_begin() {
@@ -236,6 +238,7 @@ impl Client {
         ensures counts { C.counts at.new ≡ C.counts at.old }
         ensures step { MatchResult result (OwnStep C.done at.old at.new self.old self.new)
             (λ e. WentAstray C.done at.old at.new self.old self.new (refusals.Astray e.want e.found)) }
+        ensures same { (self.new.counts ≡ self.old.counts) × (op_in self.new ≡ op_in self.old) }
         ensures life { IsLife self.new }
     {
         let turned = if self.refused.is_empty() {
@@ -256,10 +259,9 @@ impl Client {
         ensures step { MatchResult result (OwnStep C.done at.old at.new self.old self.new)
             (λ e. WentAstray C.done at.old at.new self.old self.new (refusals.Astray e.want e.found)) }
     {
-        let Turn { acted, answer } =
-            take_turn(&self.counts, &mut self.actor, &mut self.pass, at)?;
-        self.transactions += u64::from(acted);
-        Ok(turned_of(answer))
+        let turn = take_turn(&self.counts, &mut self.actor, &mut self.pass, at)?;
+        self.transactions += turn.transactions;
+        Ok(turned_of(turn.answer))
     }
 
     // An op that was refused ends.

@@ -8,3 +8,6 @@ mod turns;
 pub use actors::Turned;
 pub use client::Client;
 pub use commits::{Astray, Commits};
+
+#[cfg(test)]
+mod tests;

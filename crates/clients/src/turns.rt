@@ -1,4 +1,4 @@
-ghost use Rattle.std.specs.Prelude.{◌≡◌, ◌+◌, ◌^◌, ◌<◌, Some, None, false, IfOk, IsSome, MatchOption, MatchResult};
+ghost use Rattle.std.specs.Prelude.{◌≡◌, ◌+◌, ◌^◌, ◌<◌, ◌≤◌, Some, None, IfOk, IsSome, MatchOption, MatchResult};
 ghost use Rattle.tect_ids.specs.declared.ids.Counts.{Counts};
 ghost use Rattle.tect_ids.specs.Places.{HasPlaces};
 ghost use Rattle.store_rules.specs.declared.any.AnyReq.{AnyReq};
@@ -18,10 +18,10 @@ use store_rules::AnyReply;
 use tect_calls::{Asked, place};
 use tect_ids::{Answer, Counts, NoMemory, Place};
 
-/// What a turn comes to: whether a transaction was done, and the answer with which the command ended, if it did.
+/// What a turn comes to: how many transactions were done, none or one, and the answer with which the command ended, if it did.
 #[derive(Drop)]
 pub struct Turn {
-    pub acted: bool,
+    pub transactions: u64,
     pub answer: Option<Answer>,
 }
 
@@ -104,6 +104,7 @@ fn transact<C: Commits>(
     requires running { pass.old.running ≡ Some (op_of actor.old) }
     requires few { actor.old.state.serial + 1 < 2 ^ 32 }
     ensures counts { C.counts at.new ≡ C.counts at.old }
+    ensures one { IfOk result (λ turn. turn.transactions ≤ 1) }
     ensures turn { MatchResult result
         (λ turn. TookTurn C.done counts.now at.old at.new actor.old actor.new pass.old pass.new turn)
         (λ e. LostTurn C.done at.old at.new actor.old actor.new pass.old pass.new (refusals.Astray e.want e.found)) }
@@ -111,7 +112,7 @@ fn transact<C: Commits>(
     let place = place(asked.request(), counts);
     match at.commit(pass, asked) {
         Ok(reply) => Ok(Turn {
-            acted: true,
+            transactions: 1,
             answer: hear(actor, pass, place, &reply),
         }),
         Err(Refused::NoMemory) => Ok(fail(actor, pass, Answer::NoMemory, Answer::NoMemory)),
@@ -128,11 +129,11 @@ fn fail(actor: &mut Actor, pass: &mut Pass, answer: Answer, told: Answer) -> Tur
     requires { pass.old.running ≡ Some (op_of actor.old) }
     ensures actor { actor.new ≡ ended actor.old }
     ensures pass { NotedEnd pass.old pass.new (notes.Ended (op_of actor.old) answer) }
-    ensures turn { result ≡ record { acted = false; answer = Some told } }
+    ensures turn { result ≡ record { transactions = 0; answer = Some told } }
 {
     end(actor, pass, answer);
     Turn {
-        acted: false,
+        transactions: 0,
         answer: Some(told),
     }
 }
@@ -151,6 +152,7 @@ pub fn take_turn<C: Commits>(
     requires goes { IsSome actor.old.state.running }
     requires few { actor.old.state.serial + 1 < 2 ^ 32 }
     ensures counts { C.counts at.new ≡ C.counts at.old }
+    ensures one { IfOk result (λ turn. turn.transactions ≤ 1) }
     ensures turn { MatchResult result
         (λ turn. TookTurn C.done counts.now at.old at.new actor.old actor.new pass.old pass.new turn)
         (λ e. LostTurn C.done at.old at.new actor.old actor.new pass.old pass.new (refusals.Astray e.want e.found)) }
@@ -158,7 +160,7 @@ pub fn take_turn<C: Commits>(
     match actor.next() {
         Ok(Some(asked)) => transact(counts, actor, pass, at, asked),
         Ok(None) => Ok(Turn {
-            acted: false,
+            transactions: 0,
             answer: settle(actor, pass),
         }),
         Err(NoMemory) => Ok(fail(actor, pass, Answer::NoMemory, Answer::NoMemory)),

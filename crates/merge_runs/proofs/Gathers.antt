@@ -1,5 +1,5 @@
 -- What `gather` has shown is what it promises.
-use Rattle.std.proofs.Common.{◌≡◌, ℕ, List, map, refl}
+use Rattle.std.proofs.Common.{◌≡◌, List, map}
 use Rattle.std.specs.List.{flat_map, filter, All, Contains}
 use Rattle.std.specs.List.Sorted.{IsPermutation}
 use Rattle.std.proofs.lemmas.List.Sorted.{IsPermutation-sym}
@@ -10,7 +10,7 @@ use Rattle.place_kit.specs.declared.entry.Moment.TheVariants.{Act}
 use Rattle.place_kit.specs.declared.pass.Pass.{Pass}
 use Rattle.place_kit.specs.Kept.{history_of, place_of}
 use Rattle.place_kit.specs.Moments.{is_at, is_of}
-use Rattle.merge_runs.specs.Merged.{IsInOrder, moments_of, entries_of, trails, IsStored, HaveDifferentActors, StandInOrder, RestrictsToTrails, RestrictsToHistories}
+use Rattle.merge_runs.specs.Merged.{IsInOrder, moments_of, trails, IsStored, HaveDifferentActors, StandInOrder, RestrictsToTrails, RestrictsToHistories}
 use Rattle.merge_runs.specs.Splits.{IsStoredMoment}
 use Rattle.merge_runs.proofs.Order.{In}
 use Rattle.merge_runs.proofs.Members.{in_permutation, in_flat, flat_in, in_from_contains}

@@ -1,5 +1,5 @@
 -- Where an entry has to stand: in the pass of its actor, and in the history of its place.
-use Rattle.std.proofs.Common.{◌≡◌, ◌≢◌, ℕ, ◌<◌, ◌≤◌, Bool, true, false, List, refl, sym, ◌∙◌, subst, length, get_or, ltb, nat_lt, IsTrue, ◌↔◌, arith, inl, inr}
+use Rattle.std.proofs.Common.{◌≡◌, ◌≢◌, ℕ, ◌<◌, ◌≤◌, Bool, false, List, refl, sym, ◌∙◌, subst, length, get_or, ltb, nat_lt, IsTrue, ◌↔◌, arith, inl, inr}
 use Rattle.std.specs.List.{All, Contains}
 use Rattle.std.proofs.lemmas.List.Elements.{Contains-get_or}
 use Rattle.place_kit.specs.declared.any.AnyKept.{AnyKept}
@@ -24,29 +24,32 @@ one_pass ps p q d i j h = one_only actor_of_pass q.actor ps p q (d q.actor) i j 
 -- the pass of the entry's actor has it
 pub known_by : (ps : List Pass) (e : Entry) (p : Pass) (b : Bool) → HaveDifferentActors ps → Contains ps p → p.actor ≡ e.actor → (IsTrue b ↔ Contains (moments_of p) (Act e)) → IsTrue b ↔ Contains (trails ps) e
 known_by ps e p b d c a f =
-    let here : In p ps = in_from_contains ps p c in
-    (λ t. trails_in ps p e here (entry_in (moments_of p) e (in_from_contains (moments_of p) (Act e) (f.0 t))),
-    λ k.
-    let w = in_trails ps e k in
-    let same : w.0 ≡ p = one_pass ps w.0 p d w.1 here (sym (owner_of w.0 e w.2) ∙ sym a) in
-    f.1 (contains_from_in (moments_of p) (Act e) (act_in (moments_of p) e (subst (λ q. In e (entries_of q)) same w.2))))
+    let here : In p ps = in_from_contains ps p c in (
+      λ t. trails_in ps p e here (entry_in (moments_of p) e (in_from_contains (moments_of p) (Act e) (f.0 t))),
+      λ k.
+          let w = in_trails ps e k in
+          let same : w.0 ≡ p = one_pass ps w.0 p d w.1 here (sym (owner_of w.0 e w.2) ∙ sym a) in
+          f.1 (contains_from_in (moments_of p) (Act e) (act_in (moments_of p) e (subst (λ q. In e (entries_of q)) same w.2))),
+    )
 
 -- no pass is of the entry's actor
 pub known_nowhere : (ps : List Pass) (e : Entry) → All (λ p. p.actor ≢ e.actor) ps → IsTrue false ↔ Contains (trails ps) e
-known_nowhere ps e a =
-    (λ t. absurd (not_true t),
-    λ k.
-    let w = in_trails ps e k in
-    absurd (all_in (λ p. p.actor ≢ e.actor) ps a w.0 w.1 (sym (owner_of w.0 e w.2))))
+known_nowhere ps e a = (
+  λ t. absurd (not_true t),
+  λ k.
+      let w = in_trails ps e k in
+      absurd (all_in (λ p. p.actor ≢ e.actor) ps a w.0 w.1 (sym (owner_of w.0 e w.2))),
+)
 
 -- the place of the entry's number has it
 pub stored_by : (ks : List AnyKept) (e : Entry) (k : AnyKept) (b : Bool) → StandInOrder 0 ks → e.place.0 < length ks → k ≡ get_or ks e.place.0 k → (IsTrue b ↔ Contains (history_of k) e) → IsTrue b ↔ IsStored ks e
-stored_by ks e k b s l h f =
-    (λ t. stored_at ks e k s l h (f.0 t),
-    λ w.
-    let q = place_stored ks e s w in
-    let same : w.0 ≡ k = sym q.1 ∙ get_or-default ks e.place.0 w.0 k l ∙ sym h in
-    f.1 (subst (λ x. Contains (history_of x) e) same w.3))
+stored_by ks e k b s l h f = (
+  λ t. stored_at ks e k s l h (f.0 t),
+  λ w.
+      let q = place_stored ks e s w in
+      let same : w.0 ≡ k = sym q.1 ∙ get_or-default ks e.place.0 w.0 k l ∙ sym h in
+      f.1 (subst (λ x. Contains (history_of x) e) same w.3),
+)
 
 -- there is no place of that number
 pub stored_nowhere : (ks : List AnyKept) (e : Entry) → StandInOrder 0 ks → length ks ≤ e.place.0 → IsTrue (nat_lt e.place.0 (length ks)) ↔ IsStored ks e

@@ -7,4 +7,10 @@ pub mod Trails
 pub mod Places
 pub mod Known
 pub mod Keys
+pub mod Firsts
+pub mod Splits
+pub mod Matches
+pub mod Distinct
+pub mod Agreement
 pub mod Gathers
+pub mod Laws

@@ -1,14 +1,13 @@
 -- Places that are numbered in order: each number is one of them.
-use Rattle.std.proofs.Common.{◌≡◌, ℕ, zero, suc, ◌+◌, ◌<◌, ◌≤◌, Bool, true, false, cond, ◌⊎◌, inl, inr, List, [], ◌∷◌, refl, sym, ◌∙◌, ap, subst, arith, eqb, length, get_or}
+use Rattle.std.proofs.Common.{◌≡◌, ℕ, zero, suc, ◌+◌, ◌<◌, ◌≤◌, Bool, true, false, cond, ◌⊎◌, inl, inr, List, [], ◌∷◌, refl, sym, ap, subst, arith, eqb, length, get_or}
 use Rattle.std.specs.List.{Contains}
 use Rattle.std.proofs.lemmas.List.Sums.{sum_by-cons}
 use Rattle.std.proofs.lemmas.List.Elements.{Contains-get_or}
-use borrow.Author.Tests.{eq-eqb, eqb-true}
+use borrow.Author.Tests.{eqb-true}
 use Rattle.place_kit.specs.declared.any.AnyKept.{AnyKept}
 use Rattle.place_kit.specs.declared.entry.Entry.{Entry}
 use Rattle.place_kit.specs.Kept.{history_of, place_of}
 use Rattle.merge_runs.specs.Merged.{StandInOrder, IsStored, histories}
-use Rattle.merge_runs.proofs.Order.{In}
 use Rattle.merge_runs.proofs.Members.{count_of, in_from_contains, contains_from_in, in_flat, flat_in}
 use Rattle.merge_runs.proofs.Restricts.{place_kept}
 

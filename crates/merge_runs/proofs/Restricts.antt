@@ -1,5 +1,5 @@
 -- The merged list restricts to each trail and to each history.
-use Rattle.std.proofs.Common.{◌≡◌, ℕ, ◌<◌, ◌≤◌, Bool, true, false, ◌&&◌, ◌⊎◌, inl, inr, List, [], ◌∷◌, ◌++◌, refl, sym, ◌∙◌, ap, subst, arith, map, eqb}
+use Rattle.std.proofs.Common.{◌≡◌, ℕ, ◌≤◌, true, inl, inr, List, [], ◌∷◌, refl, sym, ◌∙◌, ap, subst, map, eqb}
 use Rattle.std.specs.List.{flat_map, filter}
 use Rattle.std.specs.List.Sorted.{IsPermutation}
 use Rattle.std.proofs.lemmas.List.Sorted.{IsPermutation-sym}
@@ -10,7 +10,7 @@ use Rattle.place_kit.specs.declared.entry.Moment.TheVariants.{Act, Local}
 use Rattle.place_kit.specs.declared.any.AnyKept.{AnyKept}
 use Rattle.place_kit.specs.declared.any.AnyKept.TheVariants.{Name, File}
 use Rattle.place_kit.specs.declared.pass.Pass.{Pass}
-use Rattle.place_kit.specs.Moments.{stamp_of, actor_of, rises, all_of_actor, is_at, is_of}
+use Rattle.place_kit.specs.Moments.{actor_of, all_of_actor, is_at, is_of}
 use Rattle.place_kit.specs.Replay.{all_at}
 use Rattle.tect_ids.specs.declared.ids.Place.{Place}
 use Rattle.place_kit.specs.Kept.{history_of, place_of}

@@ -1,5 +1,5 @@
 -- The entries of a pass are the transactions among its moments.
-use Rattle.std.proofs.Common.{◌≡◌, ◌≢◌, ℕ, Bool, ◌&&◌, ◌⊎◌, inl, inr, List, [], ◌∷◌, ap, sym, refl, ◌∙◌, get_or, length, ◌<◌}
+use Rattle.std.proofs.Common.{◌≡◌, ◌≢◌, ℕ, inl, inr, List, [], ◌∷◌, ap, refl, get_or}
 use Rattle.std.specs.List.{All, Contains}
 use Rattle.std.proofs.lemmas.List.Elements.{All-contains, Contains-get_or}
 use Rattle.place_kit.specs.declared.any.AnyKept.{AnyKept}

@@ -1,7 +1,7 @@
 //! One history of all places and passes.
 ghost use Rattle.std.specs.Prelude.{◌≡◌, IfOk, IfErr, OnOk, OnErr, IsPermutation, All, Err};
 ghost use Rattle.std.specs.List.{flat_map};
-ghost use Rattle.merge_runs.specs.Merged.{moments_of, entries_of, Agree, IsInOrder, HaveDifferentActors, StandInOrder, RestrictsToTrails, RestrictsToHistories, IsStored};
+ghost use Rattle.merge_runs.specs.Merged.{moments_of, trails, Agree, IsInOrder, HaveDifferentActors, StandInOrder, RestrictsToTrails, RestrictsToHistories, IsStored};
 ghost use Rattle.merge_runs.specs.Splits.{IsFault};
 
 use crate::agree::first_apart;
@@ -27,11 +27,7 @@ pub struct Merged {
 /// It is answered only where the trails of the passes and the histories of the places have the same entries, each once. Else
 /// the answer is a `Split`, which names the actor and the step of an entry that not both of them have; or there was no
 /// memory.
-pub fn gather(
-    alloc: Global,
-    kepts: Vec<AnyKept>,
-    passes: Vec<Pass>,
-) -> Result<Merged, GatherFault>
+pub fn gather(alloc: Global, kepts: Vec<AnyKept>, passes: Vec<Pass>) -> Result<Merged, GatherFault>
     requires places { StandInOrder 0 kepts.items }
     requires actors { HaveDifferentActors passes.items }
     ensures given { IfOk result (λ m. (m.places.items ≡ kepts.items) × (m.passes.items ≡ passes.items)) }
@@ -40,7 +36,7 @@ pub fn gather(
     ensures order { IfOk result (λ m. IsInOrder m.entries.items) }
     ensures trails { IfOk result (λ m. RestrictsToTrails passes.items m.entries.items) }
     ensures histories { IfOk result (λ m. RestrictsToHistories kepts.items m.entries.items) }
-    ensures stored { OnOk result (All (λ p. All (IsStored kepts.items) (entries_of p)) passes.items) }
+    ensures stored { OnOk result (All (IsStored kepts.items) (trails passes.items)) }
     ensures split { IfErr result (IsFault kepts.items passes.items) }
     ensures memory { OnErr result (Agree kepts.items passes.items → result ≡ Err GatherFault.NoMemory) }
 {
@@ -52,11 +48,7 @@ pub fn gather(
     })
 }
 
-fn gathered(
-    alloc: Global,
-    kepts: &[AnyKept],
-    passes: &[Pass],
-) -> Result<Vec<Moment>, GatherFault>
+fn gathered(alloc: Global, kepts: &[AnyKept], passes: &[Pass]) -> Result<Vec<Moment>, GatherFault>
     requires places { StandInOrder 0 kepts.now }
     requires actors { HaveDifferentActors passes.now }
     ensures agree { OnOk result (Agree kepts.now passes.now) }
@@ -64,7 +56,7 @@ fn gathered(
     ensures order { IfOk result (λ v. IsInOrder v.items) }
     ensures trails { IfOk result (λ v. RestrictsToTrails passes.now v.items) }
     ensures histories { IfOk result (λ v. RestrictsToHistories kepts.now v.items) }
-    ensures stored { OnOk result (All (λ p. All (IsStored kepts.now) (entries_of p)) passes.now) }
+    ensures stored { OnOk result (All (IsStored kepts.now) (trails passes.now)) }
     ensures split { IfErr result (IsFault kepts.now passes.now) }
     ensures memory { OnErr result (Agree kepts.now passes.now → result ≡ Err GatherFault.NoMemory) }
 {

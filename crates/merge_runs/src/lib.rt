@@ -11,3 +11,6 @@ mod split;
 
 pub use fault::GatherFault;
 pub use gathered::{Merged, gather};
+
+#[cfg(test)]
+mod tests;

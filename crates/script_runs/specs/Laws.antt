@@ -27,8 +27,8 @@ StandsByTurn =
     (counts : Counts) (lines : List Line) (history : List Event) → InTurn lines → IsWorldRun counts history → Follows lines history
     → (actor : ℕ) → Stands (turns_after all_idle lines actor) (length lines) ((moment counts history).actors actor)
 
--- A run that follows the front of a script in turn can go on to follow the whole, and no command fails and each ends at once
--- from there on.
+-- A run that follows the front of a script in turn can go on to follow the whole, and no command fails or is refused, and each
+-- ends at once from there on.
 abbrev pub EachScriptCanBeRunOn : Type 0
 EachScriptCanBeRunOn =
     (counts : Counts) (front back : List Line) (history : List Event) → InTurn (front ++ back) → length (front ++ back) < 2 ^ 31
@@ -61,7 +61,7 @@ ScriptFixesRun =
     (counts : Counts) (lines : List Line) (one other : List Event) → AllStepOn lines → IsSmoothRun counts one → IsSmoothRun counts other → Follows lines one
     → Follows lines other → one ≡ other
 
--- and, where it has no steps, its one run in which no command fails
+-- and, where it has no steps, its one run in which no command fails or is refused
 abbrev pub ScriptWithoutStepsFixesRun : Type 0
 ScriptWithoutStepsFixesRun =
     (counts : Counts) (lines : List Line) (one other : List Event) → NoneSteps lines → IsWorldRun counts one → IsWorldRun counts other → NoneFails one → NoneFails other

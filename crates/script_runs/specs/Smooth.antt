@@ -1,4 +1,4 @@
--- Runs in which nothing is late or wanting: no command fails, and each ends at once when it has come to its answer.
+-- Runs in which nothing is late or wanting: no command fails or is refused, and each ends at once when it has come to its answer.
 use Rattle.std.specs.Prelude.{◌≡◌, ◌≤◌, Some, List, [], ◌∷◌}
 use Rattle.std.specs.List.{AllByRecursion}
 use Rattle.tect_ids.specs.declared.ids.Counts.{Counts}
@@ -28,7 +28,7 @@ abbrev pub EndsAtOnce : Moment → List Event → Type 0
 EndsAtOnce m [] = Unit {0}
 EndsAtOnce m (e ∷ es) = IsPrompt (after m e) e es × EndsAtOnce (after m e) es
 
--- a run of the world in which no command fails and each ends at once
+-- a run of the world in which no command fails or is refused, and each ends at once
 pub record IsSmoothRun (counts : Counts) (history : List Event) : Type 0 where
   pub run : IsWorldRun counts history
   pub none_fails : NoneFails history

@@ -19,7 +19,7 @@ pub fn stands_by_turn()
 {}
 
 /// A run of the world that follows the front of a script in turn can go on to follow the whole script, and on the way
-/// no command fails and each ends at once when it has come to its answer. So each script in turn can be run.
+/// no command fails or is refused, and each ends at once when it has come to its answer. So each script in turn can be run.
 pub fn each_script_can_be_run_on()
     ensures { EachScriptCanBeRunOn }
 {}
@@ -37,9 +37,10 @@ pub fn each_cut_line_can_be_run_out()
     ensures { EachCutLineCanBeRunOut }
 {}
 
-/// Two runs of the world that follow one script are the same, where no command fails, each ends at once when it has come to its
-/// answer by a transaction, and each step of the script is of one transaction or more. A script fixes the rest: whose
-/// transactions come when, and all replies and answers. Where it has no steps, it is enough that no command fails.
+/// Two runs of the world that follow one script are the same, where no command fails or is refused, each ends at once when it
+/// has come to its answer by a transaction, and each step of the script is of one transaction or more. A script fixes the
+/// rest: whose transactions come when, and all replies and answers. Where it has no steps, it is enough that no command fails
+/// or is refused.
 pub fn script_fixes_run()
     ensures smooth { ScriptFixesRun }
     ensures no_steps { ScriptWithoutStepsFixesRun }

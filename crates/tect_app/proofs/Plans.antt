@@ -1,4 +1,4 @@
--- A plan that is read can be replayed.
+-- A plan that is read can be replayed and raced.
 use Rattle.std.proofs.Common.{◌≡◌, ◌≢◌, ℕ, ◌+◌, ◌<◌, ◌≤◌, Bool, true, false, not, if◌then◌else◌, List, [], ◌∷◌, length, refl, sym, ap, subst, ◌∙◌, arith}
 use Rattle.std.specs.Prelude.{filter, nat_le, nat_lt, is_none, unwrap_or}
 use Rattle.std.specs.List.{AllByRecursion, position_or_len}
@@ -31,6 +31,7 @@ use Rattle.script_forms.specs.Spelling.{AreLines, seen_of, is_told, plan_lines, 
 use Rattle.world_runs.specs.Served.{IsServed}
 use Rattle.world_runs.specs.Turns.{ClientTurn, Idle, Busy, Gone, TakesAct, turn_after, Turns, all_idle, with_turn, InTurnFrom}
 use Rattle.tect_replay.specs.Replays.{IsShallow, IsBounded, IsWithin, IsReplayable}
+use Rattle.tect_race.specs.Playable as races
 
 -- ---- commands
 
@@ -302,4 +303,45 @@ spelled_replayable bytes plan s =
       in_turn = in_turn_from plan.counts all_idle [] plan.lines (λ a lt. refl) (omega arith) is.lines;
       few = omega (arith, told, filter_le is_told s.texts, s.few);
       within = within_from plan.counts [] (length plan.clients) plan.lines is.lines (omega (arith, ap length is.clients, length-keys_of (seen_of [] plan.lines)));
+    }
+
+-- ---- races
+
+raced_act : (act : Act) → IsBounded act → races.IsBounded act
+raced_act (acts.Do c) is = is
+raced_act (acts.Begin c) is = is
+raced_act (acts.Step n) is = is
+raced_act acts.Run is = tt
+raced_act acts.Stop is = tt
+
+raced_line : (k : ℕ) (l : Line) → IsWithin k l → races.IsWithin k l
+raced_line k (lines.Client client actor act) is = (is.0, raced_act act is.1)
+raced_line k lines.Dump is = tt
+raced_line k (lines.Store other) is = tt
+raced_line k lines.Sweep is = tt
+raced_line k (lines.Lose disk) is = tt
+
+raced_lines : (k : ℕ) (ls : List Line) → AllByRecursion (IsWithin k) ls → AllByRecursion (races.IsWithin k) ls
+raced_lines k [] all = tt
+raced_lines k (l ∷ ls) all = (raced_line k l all.0, raced_lines k ls all.1)
+
+few_seen : (counts : Counts) (seen : Seen) (ls : List Line) → length seen ≤ 64 → AreLines counts seen ls → length (seen_of seen ls) ≤ 64
+few_seen counts seen [] few are = few
+few_seen counts seen (lines.Client client actor act ∷ ls) few are =
+    few_seen counts (insert_entry same_name seen client (state_after act)) ls (few_more seen client (state_after act) few ((are.0).in_order).1).1 are.1
+few_seen counts seen (lines.Dump ∷ ls) few are = few_seen counts seen ls few are.1
+few_seen counts seen (lines.Store other ∷ ls) few are = few_seen counts seen ls few are.1
+few_seen counts seen (lines.Sweep ∷ ls) few are = few_seen counts seen ls few are.1
+few_seen counts seen (lines.Lose disk ∷ ls) few are = few_seen counts seen ls few are.1
+
+pub spelled_playable : (bytes : List ℕ) (plan : Plan) → Spells bytes plan → races.IsPlayable plan
+spelled_playable bytes plan s =
+    let is = s.plan_is in
+    let replay : IsReplayable plan = spelled_replayable bytes plan s in
+    record {
+      places = replay.places;
+      clients = omega (arith, ap length is.clients, length-keys_of (seen_of [] plan.lines), few_seen plan.counts [] plan.lines (omega arith) is.lines);
+      in_turn = replay.in_turn;
+      few = replay.few;
+      within = raced_lines (length plan.clients) plan.lines replay.within;
     }

@@ -64,14 +64,14 @@ IsToldByTree plan history =
     (client : List ℕ) (cs : List Command) → plan.lines ≡ session_script client cs → AllByRecursion IsPlayed cs → NoneFails history
     → plan_report plan history ≡ session_lines plan.clients opening_tree 1 0 cs
 
--- Of the runs that follow the script, in which no command fails for want of memory and each ends as soon as it has its
--- answer, it is the only one.
+-- Of the runs that follow the script, in which no command fails or is refused, and each ends as soon as it has its answer, it
+-- is the only one.
 abbrev pub IsOnlyRun : Plan → List Event → Type 0
 IsOnlyRun plan history = NoneFails history → (other : List Event) → IsSmoothRun plan.counts other → Follows plan.lines other → other ≡ history
 
 -- The history is one that the world has under the script: a run of the world that follows the script's lines, in which
 -- each command ends as soon as it has its answer; sound at each moment; and each answer is the one that the tree gives at the
--- command's point. Each command takes few transactions.
+-- command's point, or says that there was no room to begin. Each command takes few transactions.
 pub record IsHistoryOf (plan : Plan) (history : List Event) : Type 0 where
   pub run : IsWorldRun plan.counts history
   pub follows : Follows plan.lines history

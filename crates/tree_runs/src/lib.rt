@@ -33,19 +33,19 @@ pub fn every_run_follows_the_tree()
 {}
 
 /// A run of the world that follows a script of one client, whose commands are done one after another, is reported by the
-/// very lines that the tree alone gives, where no command fails for want of memory.
+/// very lines that the tree alone gives, where no command fails for want of memory or is refused for want of room.
 pub fn report_is_session()
     ensures { (counts : Counts) (clients : List (List ℕ)) (client : List ℕ) (commands : List Command) (history : List Event) → AllByRecursion IsPlayed commands → IsWorldRun counts history → NoneFails history → Follows (session_script client commands) history → report counts clients history ≡ session_lines clients opening_tree 1 0 commands }
 {}
 
 /// In every run of the world, whatever its actors ask in whatever order, each answer is the one that the tree gives at the
-/// command's point.
+/// command's point, or says that there was no room to begin the command.
 pub fn each_answer_is_the_trees()
     ensures { (counts : Counts) (events : List Event) → IsWorldRun counts events → Headline events }
 {}
 
 /// Each script of one client, whose commands are served and done one after another, is followed by some run of the world in
-/// which none fails.
+/// which none fails or is refused.
 pub fn each_session_can_be_run()
     ensures { (counts : Counts) (client : List ℕ) (commands : List Command) → AllByRecursion IsServed commands → length commands < 2 ^ 31 → (history : List Event) × IsWorldRun counts history × NoneFails history × Follows (session_script client commands) history }
 {}
