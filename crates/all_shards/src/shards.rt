@@ -83,6 +83,15 @@ impl Shards {
         self.do_request(asked.request())
     }
 
+    /// Does a request again that was done before, as `step` does it. For want of memory nothing is changed.
+    pub fn redo(&mut self, req: &AnyReq) -> Result<(), NoMemory>
+        ensures ok { OnOk result (self.new ≡ record self.old { store = store_step self.old.store req.now }) }
+        ensures err { OnErr result (self.new ≡ self.old) }
+    {
+        let _reply = self.do_request(req)?;
+        Ok(())
+    }
+
     fn do_request(&mut self, req: &AnyReq) -> Result<AnyReply, NoMemory>
         ensures reply { IfOk result (λ reply. reply ≡ store_reply self.old.store req.now) }
         ensures ok { OnOk result (self.new ≡ record self.old { store = store_step self.old.store req.now }) }

@@ -1,37 +1,33 @@
 -- a client begins a command, is refused, ends what was refused, and stops
-use Rattle.std.proofs.Common.{◌≡◌, ◌≢◌, ℕ, ◌+◌, ◌<◌, ◌≤◌, ◌^◌, ◌⊎◌, inl, inr, true, false, Bool, Option, Some, None, IsSome, IsNone, List, [], ◌∷◌, ◌++◌, length, refl, sym, ap, ◌∙◌, subst, arith, append_assoc}
-use Rattle.std.specs.Prelude.{Result, vec_len, vec_capacity}
-use Rattle.std.specs.Option.{ForSome}
-use Rattle.std.specs.List.{All, sum_by}
+use Rattle.std.proofs.Common.{◌≡◌, ◌≢◌, ℕ, ◌+◌, ◌<◌, ◌^◌, inl, inr, true, false, Option, Some, None, IsSome, IsNone, List, [], ◌∷◌, ◌++◌, refl, sym, ap, ◌∙◌, arith}
+use Rattle.std.specs.Prelude.{vec_len, vec_capacity}
+use Rattle.std.specs.List.{All}
 use Rattle.std.proofs.lemmas.List.Elements.{All-head, All-tail}
 use Rattle.std.proofs.lemmas.List.Sums.{sum_by-cons}
 use Rattle.tect_ids.specs.declared.ids.Counts.{Counts}
 use Rattle.tect_ids.specs.declared.ids.OpId.{OpId}
 use Rattle.tect_ids.specs.declared.command.Command.{Command}
 use Rattle.tect_calls.specs.Knowing.{IsActor}
-use Rattle.store_rules.specs.declared.any.AnyReq.{AnyReq}
-use Rattle.store_rules.specs.declared.any.AnyReply.{AnyReply}
 use Rattle.op_names.specs.declared.program.Program.{Program}
 use Rattle.op_names.specs.Programs.{phase_answer}
 use Rattle.place_kit.specs.declared.entry.Moment.TheVariants.{Local}
 use Rattle.place_kit.specs.declared.entry.Note.TheVariants as notes
-use Rattle.place_kit.specs.declared.entry.Refused.{Refused as Refusal}
 use Rattle.place_kit.specs.declared.pass.Pass.{Pass}
 use Rattle.place_kit.specs.Commits as passes
 use Rattle.world_runs.specs.declared.event.Event.{Event}
-use Rattle.world_runs.specs.declared.event.Event.TheVariants.{Began, Refused, Acted, Ended, Stopped, Failed, Dumped}
-use Rattle.world_runs.specs.Moments.{Actor, CanBegin, idle_actor, no_room, begun, refused, program_of, program_answer}
+use Rattle.world_runs.specs.declared.event.Event.TheVariants.{Began, Refused, Ended, Stopped}
+use Rattle.world_runs.specs.Moments.{Actor, idle_actor, no_room, begun, refused, program_of, program_answer}
 use Rattle.world_runs.specs.Report.{transactions}
 use Rattle.world_runs.specs.Served.{IsServed}
 use Rattle.noted_runs.specs.Events.{events_of}
-use Rattle.noted_runs.specs.Limits.{event_cost, used, IsFullForBegin}
+use Rattle.noted_runs.specs.Limits.{event_cost, used}
 use Rattle.noted_runs.specs.OwnRuns.{own_state}
 use Rattle.noted_runs.specs.Laws.{IsSilent}
 use Rattle.noted_runs.proofs.Actors.{same_number}
 use Rattle.noted_runs.proofs.Limits.{used-append}
 use Rattle.actors.specs.ActorState.{ActorState, op_of, next_op_of}
 use Rattle.clients.specs.declared.client.Client.TheInside.{Inside}
-use Rattle.clients.specs.Lives.{ClientLife, events_in, state_in, op_in, RefusesNext}
+use Rattle.clients.specs.Lives.{events_in, RefusesNext}
 use Rattle.clients.specs.Phases.{RunsIn, op_running, WasRefused}
 use Rattle.clients.specs.Inside.{life_of, IsFullOnce, IsClient}
 use Rattle.clients.proofs.Phases.{smooth_begins}

@@ -1,34 +1,29 @@
 -- the fields of a client after what its calls did
-use Rattle.std.proofs.Common.{◌≡◌, ◌≢◌, ℕ, ◌+◌, ◌<◌, ◌≤◌, ◌^◌, ◌⊎◌, inl, inr, true, false, Bool, Option, Some, None, IsSome, IsNone, List, [], ◌∷◌, ◌++◌, length, refl, sym, ap, ◌∙◌, subst, arith}
-use Rattle.std.specs.Prelude.{Result, Ok, Err, IsOk, OnOk, is_err, ◌==◌, vec_len, vec_capacity}
+use Rattle.std.proofs.Common.{◌≡◌, ◌≢◌, ℕ, ◌+◌, ◌<◌, ◌^◌, true, false, Option, Some, None, IsSome, IsNone, [], ◌∷◌, ◌++◌, length, sym, ap, ◌∙◌, subst, arith}
+use Rattle.std.specs.Prelude.{Result, Ok, Err, IsOk, OnOk, is_err, ◌==◌, vec_len}
 use Rattle.tect_ids.specs.declared.ids.Counts.{Counts}
 use Rattle.tect_ids.specs.declared.ids.OpId.{OpId}
 use Rattle.tect_ids.specs.declared.answer.Answer.{Answer}
 use Rattle.tect_ids.specs.declared.command.Command.{Command}
 use Rattle.store_rules.specs.declared.any.AnyReq.{AnyReq}
 use Rattle.store_rules.specs.declared.any.AnyReply.{AnyReply}
-use Rattle.place_kit.specs.declared.entry.Entry.{Entry}
-use Rattle.place_kit.specs.declared.entry.Moment.{Moment}
 use Rattle.place_kit.specs.declared.entry.Moment.TheVariants.{Local}
-use Rattle.place_kit.specs.declared.entry.Note.{Note}
 use Rattle.place_kit.specs.declared.entry.Note.TheVariants as notes
 use Rattle.place_kit.specs.declared.entry.Refused.{Refused}
 use Rattle.place_kit.specs.declared.pass.Pass.{Pass}
 use Rattle.place_kit.specs.Commits as passes
-use Rattle.world_runs.specs.declared.event.Event.{Event}
 use Rattle.world_runs.specs.Moments.{Actor, begun}
 use Rattle.world_runs.specs.Served.{IsServed}
 use Rattle.actors.specs.ActorState.{ActorState, op_of, next_op_of}
 use Rattle.actors.specs.Turns.{turned_by}
 use Rattle.clients.specs.declared.client.Client.TheInside.{Inside}
 use Rattle.clients.specs.declared.turns.Turn.{Turn}
-use Rattle.clients.specs.Commits.{NotedEnd}
-use Rattle.clients.specs.Lives.{ClientLife, events_in, state_in, IsLife, RefusesNext}
+use Rattle.clients.specs.Lives.{ClientLife, state_in, IsLife, RefusesNext}
 use Rattle.clients.specs.Inside.{life_of, IsClient}
-use Rattle.clients.specs.Steps.{OwnStep, WentAstray}
-use Rattle.clients.specs.Turns.{Finishes, TookTurn, LostTurn}
-use Rattle.clients.proofs.Stages.{own_events, Stage}
-use Rattle.clients.proofs.OwnTurns.{life_at, turn_stage, turn_step, lost_step}
+use Rattle.clients.specs.Steps.{OwnStep}
+use Rattle.clients.specs.Turns.{Finishes, TookTurn}
+use Rattle.clients.proofs.Stages.{Stage}
+use Rattle.clients.proofs.OwnTurns.{life_at, turn_stage, turn_step}
 use Rattle.clients.proofs.Lives.{is_life, life_noted, stage_of, client_of}
 use Rattle.clients.proofs.Begins.{none_of, refuses, is_full, all_noted, begun_stage, stopped_stage}
 
@@ -97,7 +92,7 @@ finished_actor : (a b : ActorState) (p r : Pass) (answer : Option Answer) → Fi
 finished_actor a b p r None done = ap (λ (x : ActorState). x.actor) done.0
 finished_actor a b p r (Some x) done = ap (λ (x : ActorState). x.actor) done.0
 
-module _ {W : Type 0} (done : W → W → ℕ → AnyReq → Result Entry Refused → Type 0) (w v : W) (a b : Inside) (l : ClientLife) (is : IsClient a) (view : life_of a ≡ l)
+module _ {W : Type 0} (done : W → W → AnyReq → Result AnyReply Refused → Type 0) (w v : W) (a b : Inside) (l : ClientLife) (is : IsClient a) (view : life_of a ≡ l)
     (noted : l.silent ≡ []) (runs : IsSome (state_in l).running) (counts : b.counts ≡ a.counts) (refused : b.refused ≡ a.refused) where
   noted_before : a.refused.items ≡ []
   noted_before = silent_here a l is view noted

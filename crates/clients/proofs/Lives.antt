@@ -1,31 +1,24 @@
 -- the fields of a client against its life
-use Rattle.std.proofs.Common.{◌≡◌, ◌≢◌, ℕ, ◌+◌, ◌<◌, ◌≤◌, ◌^◌, ◌⊎◌, inl, inr, true, false, Bool, Option, Some, None, IsSome, IsNone, List, [], ◌∷◌, ◌++◌, length, refl, sym, ap, ◌∙◌, subst, arith}
-use Rattle.std.specs.Prelude.{vec_len, vec_capacity, max}
-use Rattle.std.specs.Option.{ForSome}
-use Rattle.std.specs.List.{All}
+use Rattle.std.proofs.Common.{◌≡◌, ◌+◌, ◌<◌, ◌^◌, Option, None, List, [], length, sym, ap, ◌∙◌, subst, arith}
 use Rattle.std.proofs.lemmas.List.{append-nil, length-map}
-use Rattle.std.proofs.lemmas.List.Elements.{All-push, All-nil}
+use Rattle.std.proofs.lemmas.List.Elements.{All-nil}
 use Rattle.tect_ids.specs.Places.{HasPlaces}
 use Rattle.tect_calls.specs.Knowing.{IsActor}
-use Rattle.tect_ids.specs.declared.ids.Counts.{Counts}
 use Rattle.tect_ids.specs.declared.ids.OpId.{OpId}
-use Rattle.tect_ids.specs.declared.answer.Answer.{Answer}
-use Rattle.tect_ids.specs.declared.command.Command.{Command}
 use Rattle.place_kit.specs.declared.pass.Pass.{Pass}
-use Rattle.place_kit.specs.Commits as passes
 use Rattle.place_kit.specs.Moments.{running_in}
 use Rattle.world_runs.specs.declared.event.Event.{Event}
 use Rattle.world_runs.specs.Moments.{Actor, idle_actor}
 use Rattle.world_runs.specs.Report.{transactions}
-use Rattle.noted_runs.specs.Events.{event_of, events_of, own}
-use Rattle.noted_runs.specs.Limits.{OwnLimits, IsFullForBegin, used}
+use Rattle.noted_runs.specs.Events.{event_of, own}
+use Rattle.noted_runs.specs.Limits.{OwnLimits}
 use Rattle.noted_runs.specs.OwnRuns.{OwnRun, own_state}
-use Rattle.noted_runs.specs.Laws.{IsPlaced, IsSilent}
-use Rattle.actors.specs.ActorState.{ActorState, op_of}
+use Rattle.noted_runs.specs.Laws.{IsSilent}
+use Rattle.actors.specs.ActorState.{op_of}
 use Rattle.clients.specs.declared.client.Client.TheInside.{Inside}
-use Rattle.clients.specs.Lives.{ClientLife, events_in, state_in, op_in, IsLife, RefusesNext}
-use Rattle.clients.specs.Phases.{RunsIn, op_running, RunsSmoothly, WasRefused}
-use Rattle.clients.specs.Inside.{life_of, IsFullOnce, IsClient}
+use Rattle.clients.specs.Lives.{events_in, state_in, op_in, IsLife}
+use Rattle.clients.specs.Phases.{RunsIn}
+use Rattle.clients.specs.Inside.{life_of, IsClient}
 use Rattle.clients.proofs.Growing.{transactions-few, serials-few}
 use Rattle.clients.proofs.Stages.{own_events, Stage}
 use Rattle.clients.proofs.OwnTurns.{life_at}

@@ -1,8 +1,7 @@
 -- a client one of whose ops was refused: nothing is noted any more
-use Rattle.std.proofs.Common.{◌≡◌, ◌≢◌, ℕ, ◌+◌, ◌<◌, ◌≤◌, ◌^◌, ◌⊎◌, inl, inr, true, false, Bool, Option, Some, None, IsSome, IsNone, List, [], ◌∷◌, ◌++◌, length, refl, sym, ap, ◌∙◌, subst, arith, append_assoc}
+use Rattle.std.proofs.Common.{◌≡◌, ℕ, ◌<◌, ◌^◌, true, Option, None, IsSome, List, [], ◌∷◌, ◌++◌, sym, ap, ◌∙◌, subst, append_assoc}
 use Rattle.std.specs.Prelude.{vec_len, vec_capacity}
 use Rattle.std.specs.Option.{ForSome}
-use Rattle.std.specs.List.{All}
 use Rattle.std.proofs.lemmas.List.Elements.{All-push}
 use Rattle.tect_ids.specs.declared.ids.Counts.{Counts}
 use Rattle.tect_ids.specs.declared.ids.OpId.{OpId}
@@ -11,15 +10,15 @@ use Rattle.place_kit.specs.Commits as passes
 use Rattle.world_runs.specs.declared.event.Event.{Event}
 use Rattle.world_runs.specs.Moments.{Actor, idle_actor}
 use Rattle.world_runs.specs.Races.{is_own}
-use Rattle.world_runs.specs.Report.{is_act_of, transactions}
+use Rattle.world_runs.specs.Report.{transactions}
 use Rattle.noted_runs.specs.Events.{events_of, own}
 use Rattle.noted_runs.specs.Limits.{KeepsRoom, OwnLimits}
 use Rattle.noted_runs.specs.OwnRuns.{OwnMay, OwnRun, own_after, own_state}
-use Rattle.noted_runs.specs.Laws.{IsPlaced, IsSilent}
-use Rattle.actors.specs.ActorState.{ActorState, op_of}
+use Rattle.noted_runs.specs.Laws.{IsSilent}
+use Rattle.actors.specs.ActorState.{op_of}
 use Rattle.clients.specs.declared.client.Client.TheInside.{Inside}
-use Rattle.clients.specs.Lives.{events_in, state_in, op_in}
-use Rattle.clients.specs.Phases.{RunsIn, op_running, RunsSmoothly, WasRefused}
+use Rattle.clients.specs.Lives.{events_in, state_in}
+use Rattle.clients.specs.Phases.{RunsIn, WasRefused}
 use Rattle.clients.specs.Inside.{life_of, IsFullOnce, IsClient}
 use Rattle.clients.proofs.Growing.{state_push, run_push, limits_push, own_push}
 

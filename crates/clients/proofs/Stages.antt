@@ -1,5 +1,5 @@
 -- a client whose ops were all noted: its actor and its pass, when one moment more comes
-use Rattle.std.proofs.Common.{◌≡◌, ℕ, ◌+◌, ◌<◌, ◌≤◌, ◌^◌, ◌⊎◌, inl, inr, true, false, Bool, Option, Some, None, IsSome, List, [], ◌∷◌, ◌++◌, length, refl, sym, ap, ◌∙◌, subst, arith}
+use Rattle.std.proofs.Common.{◌≡◌, ℕ, ◌+◌, ◌<◌, ◌≤◌, ◌^◌, ◌⊎◌, inl, inr, true, Option, Some, None, IsSome, List, [], ◌∷◌, ◌++◌, refl, sym, ap, ◌∙◌, subst, arith}
 use Rattle.std.specs.Option.{ForSome}
 use Rattle.std.specs.List.{All}
 use Rattle.std.proofs.lemmas.List.{map-append}
@@ -16,26 +16,23 @@ use Rattle.op_names.specs.declared.program.Program.{Program}
 use Rattle.op_names.specs.Programs.{object_number}
 use Rattle.place_kit.specs.declared.entry.Moment.{Moment}
 use Rattle.place_kit.specs.declared.entry.Moment.TheVariants.{Act, Local}
-use Rattle.place_kit.specs.declared.entry.Note.{Note}
 use Rattle.place_kit.specs.declared.entry.Note.TheVariants as notes
-use Rattle.place_kit.specs.declared.entry.Refused.TheVariants as refusals
 use Rattle.place_kit.specs.declared.pass.Pass.{Pass}
 use Rattle.place_kit.specs.Commits as passes
 use Rattle.world_runs.specs.declared.event.Event.{Event}
-use Rattle.world_runs.specs.declared.event.Event.TheVariants.{Began, Refused, Acted, Ended, Stopped, Failed, Dumped}
+use Rattle.world_runs.specs.declared.event.Event.TheVariants.{Acted, Ended, Failed}
 use Rattle.world_runs.specs.Moments.{Actor, idle_actor, IsLack, program_of, program_ask, program_answer, heard, went_on}
 use Rattle.world_runs.specs.Races.{is_own}
 use Rattle.world_runs.specs.Report.{transactions}
 use Rattle.noted_runs.specs.Events.{end_event, event_of, events_of, own}
-use Rattle.noted_runs.specs.Limits.{KeepsRoom, OwnLimits, IsFull}
+use Rattle.noted_runs.specs.Limits.{KeepsRoom, OwnLimits}
 use Rattle.noted_runs.specs.OwnRuns.{OwnMay, OwnRun, own_after, own_state}
 use Rattle.noted_runs.specs.Laws.{IsPlaced}
 use Rattle.noted_runs.proofs.Actors.{same_number}
 use Rattle.actors.specs.ActorState.{ActorState, op_of}
 use Rattle.clients.specs.Commits.{Committed, NotedEnd, entry_at}
 use Rattle.clients.specs.Phases.{RunsSmoothly, op_running}
-use Rattle.clients.specs.Steps.{Tried, Unasked, Did, Denied, Asks, state_after, EndsSo}
-use Rattle.clients.specs.Turns.{ended, Finishes, Tries, after_try}
+use Rattle.clients.specs.Turns.{ended}
 use Rattle.clients.proofs.Phases.{smooth_hears, smooth_answers}
 use Rattle.clients.proofs.Growing.{state_push, run_push, limits_push, own_push, program_own, heard_own, plain_end, count_act, count_other, end_no_act}
 use Rattle.clients.proofs.Weights.{fills, has_room}

@@ -1,13 +1,9 @@
 -- what a pass takes up is what the events of its moments do
-use Rattle.std.proofs.Common.{◌≡◌, ℕ, ◌+◌, ◌<◌, ◌≤◌, ◌^◌, ◌⊎◌, inl, inr, Bool, true, false, ◌&&◌, if◌then◌else◌, Option, Some, None, List, [], ◌∷◌, ◌++◌, length, refl, sym, ap, ◌∙◌, eqb, arith}
-use Rattle.std.specs.List.{All, sum_by}
-use Rattle.std.proofs.lemmas.List.{append-nil}
+use Rattle.std.proofs.Common.{◌≡◌, ℕ, ◌+◌, ◌<◌, ◌^◌, inl, inr, Bool, true, false, ◌&&◌, if◌then◌else◌, List, [], ◌∷◌, refl, sym, ap, ◌∙◌, eqb, arith}
 use Rattle.std.proofs.lemmas.List.Sums.{sum_by-cons}
-use Rattle.std.proofs.lemmas.Bool.Decides.{nat_tests}
 use Rattle.tect_ids.specs.declared.ids.OpId.{OpId}
 use Rattle.tect_ids.specs.declared.answer.Answer.{Answer}
 use Rattle.tect_ids.specs.declared.answer.Answer.TheVariants as answers
-use Rattle.place_kit.specs.declared.entry.Entry.{Entry}
 use Rattle.place_kit.specs.declared.entry.Note.{Note}
 use Rattle.place_kit.specs.declared.entry.Note.TheVariants as notes
 use Rattle.place_kit.specs.declared.entry.Moment.{Moment}
@@ -15,14 +11,12 @@ use Rattle.place_kit.specs.declared.entry.Moment.TheVariants.{Act, Local}
 use Rattle.place_kit.specs.declared.pass.Pass.{Pass}
 use Rattle.place_kit.specs.ReplyBytes.{reply_bytes}
 use Rattle.place_kit.specs.Moments.{op_of, trail_of, all_of_actor, all_notes_of, all_reply_bytes, moment_cost, moments_cost}
-use Rattle.place_kit.specs.Passes.{aside}
 use Rattle.place_kit.specs.Commits as passes
 use Rattle.world_runs.specs.declared.event.Event.{Event}
 use Rattle.world_runs.specs.declared.event.Event.TheVariants.{Began, Refused, Acted, Ended, Stopped, Failed, Dumped}
 use Rattle.noted_runs.specs.Events.{end_event, event_of, events_of}
-use Rattle.noted_runs.specs.Limits.{event_cost, event_bytes, used, kept_bytes, IsFull, IsFullForBegin}
+use Rattle.noted_runs.specs.Limits.{event_cost, event_bytes, used, kept_bytes, IsFull}
 use Rattle.noted_runs.specs.Laws.{IsSilent}
-use Rattle.noted_runs.proofs.Limits.{used-append, kept_bytes-append}
 
 end_cost : (a : ℕ) (op : OpId) (x : Answer) → event_cost a (end_event op x) ≡ 0
 end_cost a op answers.NoMemory = refl

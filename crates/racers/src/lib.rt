@@ -7,6 +7,8 @@ mod fault;
 mod locked;
 mod racer;
 mod stepping;
+#[cfg(test)]
+mod tests;
 
 pub use acts::play_act;
 pub use fault::RacerFault;

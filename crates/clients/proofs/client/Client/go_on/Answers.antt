@@ -1,9 +1,8 @@
-use Rattle.std.proofs.Common.{◌≡◌, ◌∙◌, sym, ap, refl, ◌+◌, subst}
-use Rattle.actors.specs.declared.turned.Turned.{Turned}
+use Rattle.std.proofs.Common.{sym, refl, ◌+◌, subst}
 use Rattle.clients.specs.declared.client.Client.TheInside.{Inside}
 use Rattle.clients.specs.Inside.{life_of}
 use Rattle.clients.specs.Steps.{OwnStep}
-use Rattle.clients.proofs.Lives.{serial_few, count_few}
+use Rattle.clients.proofs.Lives.{serial_few}
 use Rattle.clients.proofs.Closings.{silent_here, turned_client, turned_step}
 use Rattle.clients.proofs.client.Client.go_on.Goals as goal
 

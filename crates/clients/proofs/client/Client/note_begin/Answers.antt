@@ -1,4 +1,4 @@
-use Rattle.std.proofs.Common.{◌≡◌, ◌∙◌, sym, ap, refl, subst, arith}
+use Rattle.std.proofs.Common.{◌∙◌, sym, refl}
 use Rattle.std.specs.Prelude.{IsOk}
 use Rattle.place_kit.specs.Commits.{IsFullForBegin}
 use Rattle.clients.proofs.Closings.{at_ok, ok_no_err, refuses_here, same_full, begun_client}

@@ -1,4 +1,4 @@
-use Rattle.std.proofs.Common.{◌≡◌, ◌∙◌, sym, ap, refl, subst}
+use Rattle.std.proofs.Common.{refl}
 use Rattle.std.specs.Prelude.{IsOk}
 use Rattle.clients.specs.declared.client.Client.TheInside.{Inside}
 use Rattle.clients.proofs.Closings.{at_ok, stopped_client}

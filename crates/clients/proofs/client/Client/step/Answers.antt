@@ -1,4 +1,4 @@
-use Rattle.std.proofs.Common.{◌≡◌, ◌≢◌, ◌∙◌, sym, []}
+use Rattle.std.proofs.Common.{◌≢◌, ◌∙◌, sym, []}
 use Rattle.clients.proofs.Closings.{life_here, some_items, some_there}
 use Rattle.clients.proofs.Following.{same_op}
 use Rattle.clients.proofs.RefusedSteps.{refused_step}

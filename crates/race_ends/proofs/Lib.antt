@@ -1,0 +1,9 @@
+pub mod Members
+pub mod Taken
+pub mod Order
+pub mod Replays
+pub mod Telling
+pub mod Told
+pub mod Gathered
+pub mod Ends
+pub mod Losses

@@ -1,0 +1,48 @@
+-- elements of a list by their places
+use Rattle.std.proofs.Common.{◌≡◌, ℕ, zero, suc, inl, inr, Some, List, [], ◌∷◌, ◌+◌, length, refl, sym, ap, ◌∙◌, subst, arith}
+use Rattle.std.specs.List.{All, AllZip, slice_get}
+use Rattle.merge_runs.proofs.Order.{In}
+use Rattle.merge_runs.proofs.Trails.{in_all}
+use Rattle.race_runs.specs.Stories.{Story}
+use Rattle.racers.specs.declared.racer.Racer.{Racer}
+
+pub in_from_place : {X : Type 0} (xs : List X) (i : ℕ) (x : X) → slice_get xs i ≡ Some x → In x xs
+in_from_place [] i x e = absurd cc
+in_from_place (y ∷ ys) zero x e = inl (cc)
+in_from_place (y ∷ ys) (suc i) x e = inr (in_from_place ys i x e)
+
+pub place_from_in : {X : Type 0} (xs : List X) (x : X) → In x xs → (i : ℕ) × (slice_get xs i ≡ Some x)
+place_from_in [] x h = absurd h
+place_from_in (y ∷ ys) x (inl e) = (0, ap (λ z. Some z) e)
+place_from_in (y ∷ ys) x (inr h) = let at = place_from_in ys x h in (suc at.0, at.1)
+
+pub all_from_places : {X : Type 0} (P : X → Type 0) (xs : List X) → ((i : ℕ) (x : X) → slice_get xs i ≡ Some x → P x) → All P xs
+all_from_places P xs f = in_all P xs (λ x h. let at = place_from_in xs x h in f at.0 x at.1)
+
+-- each element of two lists, side by side, has its fellow
+pub fellow_of_first : {X Y : Type 0} (R : X → Y → Type 0) (xs : List X) (ys : List Y) (x : X) → AllZip R xs ys → In x xs → (y : Y) × In y ys × R x y
+fellow_of_first R [] ys x z h = absurd h
+fellow_of_first R (a ∷ xs) [] x z h = absurd z
+fellow_of_first {X} {Y} R (a ∷ xs) (b ∷ ys) x z (inl e) = (b, inl refl, subst (λ (w : X). R w b) e z.0)
+fellow_of_first R (a ∷ xs) (b ∷ ys) x z (inr h) = let f = fellow_of_first R xs ys x z.1 h in (f.0, inr f.1, f.2)
+
+pub fellow_of_second : {X Y : Type 0} (R : X → Y → Type 0) (xs : List X) (ys : List Y) (y : Y) → AllZip R xs ys → In y ys → (x : X) × In x xs × R x y
+fellow_of_second R xs [] y z h = absurd h
+fellow_of_second R [] (b ∷ ys) y z h = absurd z
+fellow_of_second {X} {Y} R (a ∷ xs) (b ∷ ys) y z (inl e) = (a, inl refl, subst (λ (w : Y). R a w) e z.0)
+fellow_of_second R (a ∷ xs) (b ∷ ys) y z (inr h) = let f = fellow_of_second R xs ys y z.1 h in (f.0, inr f.1, f.2)
+
+pub zip_length : {X Y : Type 0} (R : X → Y → Type 0) (xs : List X) (ys : List Y) → AllZip R xs ys → length xs ≡ length ys
+zip_length R [] [] z = refl
+zip_length R [] (y ∷ ys) z = absurd z
+zip_length R (x ∷ xs) [] z = absurd z
+zip_length R (x ∷ xs) (y ∷ ys) z = ap (λ n. suc n) (zip_length R xs ys z.1)
+
+-- the fellows of elements that count up count up too
+pub zip_numbered : (R : Racer → Story → Type 0) → ((r : Racer) (s : Story) → R r s → s.actor ≡ r.client.actor) → (rs : List Racer) (ss : List Story) (low : ℕ) → AllZip R rs ss
+    → ((i : ℕ) (r : Racer) → slice_get rs i ≡ Some r → r.client.actor ≡ low + i + 1) → (i : ℕ) (s : Story) → slice_get ss i ≡ Some s → s.actor ≡ low + i + 1
+zip_numbered R same rs [] low z own i s e = absurd cc
+zip_numbered R same [] (t ∷ ss) low z own i s e = absurd z
+zip_numbered R same (r ∷ rs) (t ∷ ss) low z own zero s e = let here : t ≡ s = cc in ap (λ (u : Story). u.actor) (sym here) ∙ same r t z.0 ∙ own 0 r refl
+zip_numbered R same (r ∷ rs) (t ∷ ss) low z own (suc i) s e =
+    let rest = zip_numbered R same rs ss (low + 1) z.1 (λ j q g. omega (arith, own (suc j) q g)) i s e in omega (arith, rest)

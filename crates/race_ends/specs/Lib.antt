@@ -1,0 +1,5 @@
+pub mod Passes
+pub mod HaveRun
+pub mod Told
+pub mod Faults
+pub mod Raced

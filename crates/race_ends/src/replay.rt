@@ -1,0 +1,48 @@
+ghost use Rattle.std.specs.Prelude.{◌≡◌, IfOk, OnOk, filter};
+ghost use Rattle.place_kit.specs.Moments.{stamp_of};
+ghost use Rattle.noted_runs.specs.Events.{event_of};
+ghost use Rattle.noted_runs.specs.Laws.{StampsRise};
+ghost use Rattle.noted_runs.specs.Woven.{is_late};
+ghost use Rattle.race_ends.specs.Told.{after_moment, stored_up_to};
+
+use all_shards::Shards;
+use place_kit::Moment;
+use tect_ids::NoMemory;
+
+fn stamp(moment: &Moment) -> u64
+    ensures { result ≡ stamp_of moment.now }
+{
+    match moment {
+        Moment::Act(entry) => entry.stamp,
+        Moment::Local { stamp, .. } => *stamp,
+    }
+}
+
+// Does a moment's transaction again, if it is one.
+fn redo(shards: &mut Shards, moment: &Moment) -> Result<(), NoMemory>
+    ensures { OnOk result (shards.new ≡ record shards.old { store = after_moment shards.old.store moment.now }) }
+{
+    match moment {
+        Moment::Act(entry) => shards.redo(&entry.req),
+        Moment::Local { .. } => Ok(()),
+    }
+}
+
+/// Does the transactions again that are stamped up to the clock, and answers the moments behind them.
+pub(crate) fn redo_up_to<'a>(
+    shards: &mut Shards,
+    moments: &'a [Moment],
+    clock: u64,
+) -> Result<&'a [Moment], NoMemory>
+    requires { StampsRise moments.now }
+    ensures store { OnOk result (shards.new ≡ record shards.old { store = stored_up_to clock shards.old.store moments.now }) }
+    ensures later { IfOk result (λ later. later.now ≡ filter (is_late clock) moments.now) }
+{
+    for (done, moment) in moments.iter().enumerate() {
+        if stamp(moment) > clock {
+            return Ok(&moments[done..]);
+        }
+        redo(shards, moment)?;
+    }
+    Ok(&[])
+}
