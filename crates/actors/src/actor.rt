@@ -162,6 +162,7 @@ impl Actor {
         requires few { self.old.state.serial + 1 < 2 ^ 32 }
         ensures ok { OnOk result ((counts : Counts) (req : AnyReq) → place ≡ request_place counts req
             → self.new ≡ record self.old { state = went_on counts self.old.state req reply.now }) }
+        ensures op { op_of self.new ≡ op_of self.old }
         ensures err { OnErr result (self.new ≡ self.old) }
     {
         let heard = self.heard(place, reply)?;

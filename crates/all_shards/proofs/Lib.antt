@@ -3,3 +3,4 @@ pub mod Together
 pub mod Stepped
 pub mod Sorted
 pub mod Dumped
+pub mod Lent

@@ -178,7 +178,7 @@ any_default (x ∷ xs) (suc i) d e lt = any_default xs i d e (omega (arith, lt))
 module _ (c : Counts) (names : List Names) (files : List Files) (is : AreShards c names files) (p : Place) (r : AnyReq) (at : p ≡ request_place c r) where
   -- a request to a name shard
   module _ (q : NameReq) (same : r ≡ any.Name q) (shard : Names) (read : shard ≡ get_or names p.0 shard) where
-    own_place : p.0 ≡ (dir_place c (dir_of q)).0
+    pub own_place : p.0 ≡ (dir_place c (dir_of q)).0
     own_place = ap (λ (x : Place). x.0) (at ∙ ap (request_place c) same)
 
     pub own_shard : shard ≡ get_or names (dir_place c (dir_of q)).0 no_names
@@ -203,7 +203,7 @@ module _ (c : Counts) (names : List Names) (files : List Files) (is : AreShards 
 
   -- a request to a file shard
   module _ (q : FileReq) (same : r ≡ any.File q) (shard : Files) (read : shard ≡ get_or files (p.0 - c.names) shard) where
-    file_own_place : p.0 ≡ (file_place c (file_of q)).0
+    pub file_own_place : p.0 ≡ (file_place c (file_of q)).0
     file_own_place = ap (λ (x : Place). x.0) (at ∙ ap (request_place c) same)
 
     pub own_file_shard : shard ≡ get_or files ((file_place c (file_of q)).0 - c.names) empty

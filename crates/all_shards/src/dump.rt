@@ -1,12 +1,70 @@
-ghost use Rattle.std.specs.Prelude.{◌≡◌, IfOk, option_map};
+ghost use Rattle.std.specs.Prelude.{◌≡◌, IfOk, map, option_map};
 ghost use Rattle.std.specs.FinMap.{get, keys};
 ghost use Rattle.store_rules.specs.Dumps.{file_line, names_dump, files_dump, store_dump};
 ghost use Rattle.name_shard.specs.DirDumps.{dir_dump};
+ghost use Rattle.all_shards.specs.Whole.{AreShards, together};
 
 use crate::shards::Shards;
-use tect_ids::{DirId, DumpLine, FileId, Layer, NoMemory, place_of};
+use file_shard::FileShard;
+use name_shard::NameShard;
+use std::alloc::Global;
+use std::marker::Model;
+use tect_ids::{Counts, DirId, DumpLine, FileId, Layer, NoMemory, place_of};
+
+/// All shards of a store, lent by whoever keeps them, in the order of their places. Contracts see the whole store that they
+/// are together.
+#[derive(Drop)]
+pub struct LentShards<'a> {
+    alloc: Global,
+    counts: Counts,
+    names: Vec<&'a NameShard>,
+    files: Vec<&'a FileShard>,
+}
+
+impl<'a> Model for LentShards<'a> {
+    ghost use Rattle.std.specs.Prelude.{map};
+    ghost use Rattle.all_shards.specs.Whole.{WholeStore, whole_code, together, AreShards};
+
+    ghost Value = { WholeStore };
+
+    ghost coded = { whole_code };
+
+    ghost view = { λ s. record { counts = s.counts; store = together (map (λ r. r.now) s.names.items) (map (λ r. r.now) s.files.items) } };
+
+    ghost invariant = { λ s. AreShards s.counts (map (λ r. r.now) s.names.items) (map (λ r. r.now) s.files.items) };
+}
 
 impl Shards {
+    /// The lines that a dump of the whole store shows: the directories of all shards by identifier, each followed by its
+    /// entries by name; then the files of all shards by identifier.
+    pub fn dump(&self) -> Result<Vec<DumpLine>, NoMemory>
+        ensures { IfOk result (λ lines. lines.items ≡ store_dump self.now.store) }
+    {
+        let names = self.names.iter().collect(self.alloc)?;
+        let files = self.files.iter().collect(self.alloc)?;
+        LentShards::new(self.alloc, self.counts, names, files).dump()
+    }
+}
+
+impl<'a> LentShards<'a> {
+    /// The shards at all places of a store, where each row is in the shard of its place. It takes no memory.
+    pub fn new(
+        alloc: Global,
+        counts: Counts,
+        names: Vec<&'a NameShard>,
+        files: Vec<&'a FileShard>,
+    ) -> LentShards<'a>
+        requires { AreShards counts (map (λ r. r.now) names.items) (map (λ r. r.now) files.items) }
+        ensures { result ≡ record { counts = counts; store = together (map (λ r. r.now) names.entry.items) (map (λ r. r.now) files.entry.items) } }
+    {
+        LentShards {
+            alloc,
+            counts,
+            names,
+            files,
+        }
+    }
+
     /// The lines that a dump of the whole store shows: the directories of all shards by identifier, each followed by its
     /// entries by name; then the files of all shards by identifier.
     pub fn dump(&self) -> Result<Vec<DumpLine>, NoMemory>

@@ -5,4 +5,5 @@ mod dump;
 mod opening;
 mod shards;
 
+pub use dump::LentShards;
 pub use shards::Shards;

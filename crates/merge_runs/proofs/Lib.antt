@@ -1,0 +1,16 @@
+pub mod Order
+pub mod Members
+pub mod Strict
+pub mod Restricts
+pub mod Search
+pub mod Trails
+pub mod Places
+pub mod Known
+pub mod Keys
+pub mod Firsts
+pub mod Splits
+pub mod Matches
+pub mod Distinct
+pub mod Agreement
+pub mod Gathers
+pub mod Laws

@@ -1,3 +1,4 @@
 pub mod IsKeyed
 pub mod Keyed
 pub mod Merged
+pub mod Splits

@@ -1,6 +1,16 @@
 //! One history of all places and of all actors.
 #![tactic(auto)]
 
+mod agree;
+mod fault;
+mod gathered;
 mod keyed;
 mod same;
 mod sorted;
+mod split;
+
+pub use fault::GatherFault;
+pub use gathered::{Merged, gather};
+
+#[cfg(test)]
+mod tests;

@@ -148,13 +148,13 @@ end_no_dump op answers.NoMemory = tt
 end_no_dump op (answers.HistoryFull p) = tt
 end_no_dump op _ = tt
 
-moment_no_dump : (m : Moment) → IsNoDump (event_of m)
+pub moment_no_dump : (m : Moment) → IsNoDump (event_of m)
 moment_no_dump (Act e) = tt
 moment_no_dump (Local stamp by (notes.Began op c)) = tt
 moment_no_dump (Local stamp by (notes.Ended op a)) = end_no_dump op a
 moment_no_dump (Local stamp by (notes.Stopped op)) = tt
 
-silent_no_dump : (e : Event) → IsSilent e → IsNoDump e
+pub silent_no_dump : (e : Event) → IsSilent e → IsNoDump e
 silent_no_dump (Refused op c) is = tt
 silent_no_dump (Ended op a) is = tt
 silent_no_dump (Stopped op) is = tt
@@ -170,7 +170,7 @@ part_no_dump (m ∷ ms) silent quiet = (moment_no_dump m, part_no_dump ms silent
 
 -- ---- own events of a part
 
-no_dump_own : (actor : ℕ) (e : Event) → IsNoDump e → is_own actor e ≡ concerns actor e
+pub no_dump_own : (actor : ℕ) (e : Event) → IsNoDump e → is_own actor e ≡ concerns actor e
 no_dump_own actor (Began op c) is = refl
 no_dump_own actor (Refused op c) is = refl
 no_dump_own actor (Acted op q x) is = refl

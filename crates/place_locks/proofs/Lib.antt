@@ -1,2 +1,3 @@
 pub mod Adding
 pub mod Committed
+pub mod Crossing

@@ -11,3 +11,6 @@ mod places;
 mod taking;
 
 pub use places::Places;
+
+#[cfg(test)]
+mod tests;

@@ -1,8 +1,9 @@
 -- One history of all clients' stories, and what it shows.
-use Rattle.std.specs.Prelude.{◌≡◌, ℕ, ◌+◌, ◌≤◌, Some, List, [], ◌∷◌, ◌++◌, length, map, filter, slice_get}
+use Rattle.std.specs.Prelude.{◌≡◌, ℕ, ◌+◌, ◌≤◌, Bool, true, false, Some, List, [], ◌∷◌, ◌++◌, length, map, filter, count_by, slice_get}
 use Rattle.std.specs.List.{All, flat_map}
 use Rattle.tect_ids.specs.declared.ids.Counts.{Counts}
 use Rattle.tect_ids.specs.declared.script.Line.{Line}
+use Rattle.tect_ids.specs.declared.script.Line.TheVariants as script_lines
 use Rattle.tect_ids.specs.declared.script.ReportLine.{ReportLine}
 use Rattle.tect_ids.specs.declared.script.ReportLine.TheVariants as report_lines
 use Rattle.tect_ids.specs.Places.{HasPlaces}
@@ -60,10 +61,27 @@ abbrev pub told : List ℕ → List Story → List Moment → List ReportLine
 told [] ss ms = answers_last ss
 told (k ∷ ks) ss ms = answers_now ss ++ map report_lines.Dump (store_dump (store_at k ms)) ++ told ks (map rest_of ss) ms
 
+-- a line of one of so many clients, or a dump
+abbrev pub IsLineOf : ℕ → Line → Type 0
+IsLineOf clients (script_lines.Client client actor act) = (1 ≤ actor) × (actor ≤ clients)
+IsLineOf clients script_lines.Dump = Unit {0}
+IsLineOf clients (script_lines.Store counts) = ⊥
+IsLineOf clients script_lines.Sweep = ⊥
+IsLineOf clients (script_lines.Lose disk) = ⊥
+
+abbrev pub is_dump : Line → Bool
+is_dump (script_lines.Client client actor act) = false
+is_dump script_lines.Dump = true
+is_dump (script_lines.Store counts) = false
+is_dump script_lines.Sweep = false
+is_dump (script_lines.Lose disk) = false
+
 -- These are the stories of all clients, in their order, and one list of all their moments in the order of the stamps; and what each
 -- place keeps is what this list says of it.
 pub record AreGathered (counts : Counts) (names : List (List ℕ)) (lines : List Line) (clocks : List ℕ) (ss : List Story) (ks : List AnyKept) (ms : List Moment) : Type 0 where
   pub places : HasPlaces counts
+  pub asked : All (IsLineOf (length names)) lines
+  pub dumps : count_by is_dump lines ≡ length clocks
   pub number : length ss ≡ length names
   pub numbered : (i : ℕ) (s : Story) → slice_get ss i ≡ Some s → s.actor ≡ i + 1
   pub stories : All (IsStory counts names lines clocks) ss

@@ -10,4 +10,4 @@ returns-clause-done g c =
     let same : c.label-found.result ≡ c.args.want = search rules in
     let at = ap (λ (l : Label). l.place) (sym c.label-found.ensures ∙ same) in
     let e = c.commit.ensures in
-    rw (← at) (committed g.M.Machine.wide_reply c.args.pass.now now.pass kept.label kept.clock now.self.clock (g.M.Machine.wide c.args.req) c.commit.result e.trail e.clocks e.pass)
+    rw (← at) (committed g.M.Machine.wide_reply c.args.pass.now now.pass kept.label kept.clock now.self.clock (g.M.Machine.wide c.args.req) c.commit.result e.trail e.clocks e.bytes e.pass)

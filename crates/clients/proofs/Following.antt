@@ -1,0 +1,185 @@
+-- what a step tells: its op's transaction, or its end; and a command that goes on is nearer to its end
+use Rattle.std.proofs.Common.{◌≡◌, inl, inr, ℕ, ◌+◌, ◌<◌, ◌≤◌, Option, Some, None, IsSome, List, [], ◌∷◌, ◌++◌, refl, sym, ap, ◌∙◌, subst, arith}
+use Rattle.std.specs.Prelude.{Result, Ok, Err, MatchResult, OnOk, OnErr}
+use Rattle.std.proofs.lemmas.List.{append-nil}
+use Rattle.tect_ids.specs.declared.ids.Counts.{Counts}
+use Rattle.tect_ids.specs.declared.ids.OpId.{OpId}
+use Rattle.tect_ids.specs.declared.command.Command.{Command}
+use Rattle.tect_ids.specs.declared.answer.Answer.{Answer}
+use Rattle.tect_ids.specs.declared.answer.Answer.TheVariants as answers
+use Rattle.store_rules.specs.declared.any.AnyReq.{AnyReq}
+use Rattle.store_rules.specs.declared.any.AnyReply.{AnyReply}
+use Rattle.store_rules.specs.Places.{request_place}
+use Rattle.op_names.specs.declared.program.Program.{Program}
+use Rattle.op_names.specs.Programs.{object_number}
+use Rattle.place_kit.specs.declared.entry.Refused.{Refused}
+use Rattle.place_kit.specs.declared.entry.Refused.TheVariants as refusals
+use Rattle.world_runs.specs.declared.event.Event.{Event}
+use Rattle.world_runs.specs.declared.event.Event.TheVariants.{Acted, Ended}
+use Rattle.world_runs.specs.Follows.{Acts, IsEndOf, EndsAfter}
+use Rattle.world_runs.specs.Moments.{Actor, idle_actor, program_ask, heard, went_on}
+use Rattle.noted_runs.specs.Events.{end_event}
+use Rattle.noted_runs.specs.OwnRuns.{own_state, own_after}
+use Rattle.noted_runs.proofs.Actors.{own_state-append}
+use Rattle.actors.specs.declared.turned.Turned.{Turned}
+use Rattle.actors.specs.declared.turned.Turned.TheVariants.{Going, Done}
+use Rattle.actors.specs.Turns.{turned_by}
+use Rattle.clients.specs.declared.commits.Astray.{Astray}
+use Rattle.clients.specs.Lives.{ClientLife, events_in, state_in, op_in, Begins}
+use Rattle.clients.specs.Steps.{Tried, Unasked, Did, Denied, Asks, EndsSo, state_after, WentAstray, tried_events, end_events, tried_life, ended_with, ended_life, OwnStep}
+use Rattle.clients.specs.Turns.{act_count}
+use Rattle.clients.proofs.Ranks.{rank, rank_falls}
+
+-- the events of a step
+abbrev pub step_events : List Event → OpId → Tried → Option Answer → List Event
+step_events silent op tried answer = tried_events op tried ++ end_events silent op answer
+
+-- ---- it goes on by one transaction, or comes to its end
+
+end_is_of : (op : OpId) (a : Answer) → IsEndOf op (end_event op a)
+end_is_of op answers.NoMemory = refl
+end_is_of op (answers.HistoryFull p) = refl
+end_is_of op _ = refl
+
+not_done : (answer : Option Answer) → Going ≡ turned_by answer → answer ≡ None
+not_done None is = refl
+not_done (Some a) is = absurd cc
+
+is_done : (answer : Option Answer) (a : Answer) → Done a ≡ turned_by answer → answer ≡ Some a
+is_done None a is = absurd cc
+is_done (Some b) a is = cc
+
+one_act : (s : Actor) (silent : List Event) (op : OpId) (tried : Tried) → EndsSo s tried None → Acts op 1 (step_events silent op tried None)
+one_act s silent op (Did q x) ends = (refl, (0, refl, refl))
+one_act s silent op Unasked ends = absurd ends
+one_act s silent op (Denied q e) ends = absurd ends
+
+acts_of : (op : OpId) (tried : Tried) → Acts op (act_count tried) (tried_events op tried)
+acts_of op Unasked = refl
+acts_of op (Did q x) = (refl, (0, refl, refl))
+acts_of op (Denied q e) = refl
+
+then_end : (silent : List Event) (op : OpId) (tried : Tried) (a : Answer) → EndsAfter op (act_count tried) (step_events silent op tried (Some a))
+then_end [] op tried a = (tried_events op tried, end_event op a, refl, acts_of op tried, end_is_of op a)
+then_end (e ∷ es) op tried a = (tried_events op tried, Ended op a, refl, acts_of op tried, refl)
+
+module _ {W : Type 0} (done : W → W → AnyReq → Result AnyReply Refused → Type 0) (w v : W) (old new : ClientLife) where
+  pub going_acts : (step : OwnStep done w v old new Going) → Acts (op_in old) 1 (step_events old.silent (op_in old) step.tried step.answer)
+  going_acts step =
+      let none : step.answer ≡ None = not_done step.answer step.told in
+      let here : Acts (op_in old) 1 (step_events old.silent (op_in old) step.tried None) = one_act (state_after old.counts (state_in old) step.tried) old.silent (op_in old) step.tried (rw none at step.ends) in
+      rw none here
+
+  pub done_ends : (a : Answer) (step : OwnStep done w v old new (Done a)) → EndsAfter (op_in old) (act_count step.tried) (step_events old.silent (op_in old) step.tried step.answer)
+  done_ends a step = let is : step.answer ≡ Some a = is_done step.answer a step.told in rw is (then_end old.silent (op_in old) step.tried a)
+
+-- ---- what stays
+
+tried_counts : (l : ClientLife) (stamp : ℕ) (tried : Tried) → (tried_life l stamp tried).counts ≡ l.counts
+tried_counts l stamp Unasked = refl
+tried_counts l stamp (Did q x) = refl
+tried_counts l stamp (Denied q e) = refl
+
+with_counts : (l : ClientLife) (silent : List Event) (op : OpId) (a : Answer) → (ended_with l silent op a).counts ≡ l.counts
+with_counts l [] op a = refl
+with_counts l (e ∷ es) op a = refl
+
+ended_counts : (l : ClientLife) (op : OpId) (answer : Option Answer) → (ended_life l op answer).counts ≡ l.counts
+ended_counts l op None = refl
+ended_counts l op (Some a) = with_counts l l.silent op a
+
+tried_actor : (l : ClientLife) (stamp : ℕ) (tried : Tried) → (tried_life l stamp tried).actor ≡ l.actor
+tried_actor l stamp Unasked = refl
+tried_actor l stamp (Did q x) = refl
+tried_actor l stamp (Denied q e) = refl
+
+with_actor : (l : ClientLife) (silent : List Event) (op : OpId) (a : Answer) → (ended_with l silent op a).actor ≡ l.actor
+with_actor l [] op a = refl
+with_actor l (e ∷ es) op a = refl
+
+ended_actor : (l : ClientLife) (op : OpId) (answer : Option Answer) → (ended_life l op answer).actor ≡ l.actor
+ended_actor l op None = refl
+ended_actor l op (Some a) = with_actor l l.silent op a
+
+end_number : (counts : Counts) (s : Actor) (op : OpId) (a : Answer) → (own_after counts s (end_event op a)).number ≡ s.number
+end_number counts s op answers.NoMemory = refl
+end_number counts s op (answers.HistoryFull p) = refl
+end_number counts s op _ = refl
+
+ends_number : (counts : Counts) (s : Actor) (silent : List Event) (op : OpId) (answer : Option Answer) → (own_state counts s (end_events silent op answer)).number ≡ s.number
+ends_number counts s silent op None = refl
+ends_number counts s [] op (Some a) = end_number counts s op a
+ends_number counts s (e ∷ es) op (Some a) = refl
+
+step_number : (counts : Counts) (s : Actor) (silent : List Event) (op : OpId) (tried : Tried) (answer : Option Answer) → (own_state counts s (step_events silent op tried answer)).number ≡ s.number
+step_number counts s silent op Unasked answer = ends_number counts s silent op answer
+step_number counts s silent op (Did q x) answer = ends_number counts (went_on counts s q x) silent op answer
+step_number counts s silent op (Denied q e) answer = ends_number counts s silent op answer
+
+module _ {W : Type 0} (done : W → W → AnyReq → Result AnyReply Refused → Type 0) (w v : W) (old new : ClientLife) (turned : Turned) (step : OwnStep done w v old new turned) where
+  pub step_counts : new.counts ≡ old.counts
+  step_counts =
+      ap (λ (l : ClientLife). l.counts) step.life ∙ ended_counts (tried_life old step.stamp step.tried) (op_in old) step.answer ∙ tried_counts old step.stamp step.tried
+
+  pub step_actor : new.actor ≡ old.actor
+  step_actor = ap (λ (l : ClientLife). l.actor) step.life ∙ ended_actor (tried_life old step.stamp step.tried) (op_in old) step.answer ∙ tried_actor old step.stamp step.tried
+
+  -- the state after it
+  pub step_state : state_in new ≡ own_state old.counts (state_in old) (step_events old.silent (op_in old) step.tried step.answer)
+  step_state =
+      ap (λ (c : Counts). own_state c idle_actor (events_in new)) step_counts ∙ ap (own_state old.counts idle_actor) step.events
+      ∙ own_state-append old.counts idle_actor (events_in old) (step_events old.silent (op_in old) step.tried step.answer)
+
+  -- it is of the same op
+  pub step_op : op_in new ≡ op_in old
+  step_op =
+      let number : (state_in new).number ≡ (state_in old).number =
+      ap (λ (s : Actor). s.number) step_state ∙ step_number old.counts (state_in old) old.silent (op_in old) step.tried step.answer in
+      λ i. record { actor = step_actor i; number = number i }
+
+-- the same of what a step answers
+pub same_op : {W : Type 0} (done : W → W → AnyReq → Result AnyReply Refused → Type 0) (w v : W) (old new : ClientLife) (r : Result Turned Astray)
+    → MatchResult r (OwnStep done w v old new) (λ e. WentAstray done w v old new (refusals.Astray e.want e.found)) → (new.counts ≡ old.counts) × (op_in new ≡ op_in old)
+same_op done w v old new (Ok turned) step = (step_counts done w v old new turned step, step_op done w v old new turned step)
+same_op done w v old new (Err e) astray = (ap (λ (l : ClientLife). l.counts) astray.life, ap op_in astray.life)
+
+-- a begin
+begins_same : (old new : ClientLife) (c : Command) → Begins old new c → (new.counts ≡ old.counts) × (new.actor ≡ old.actor)
+begins_same old new c (inl (room, is)) = (ap (λ (l : ClientLife). l.counts) is, ap (λ (l : ClientLife). l.actor) is)
+begins_same old new c (inr (full, is)) = (ap (λ (l : ClientLife). l.counts) is, ap (λ (l : ClientLife). l.actor) is)
+
+pub begin_same : {T E : Type 0} (old new : ClientLife) (c : Command) (r : Result T E) → OnOk r (Begins old new c) → OnErr r (new ≡ old)
+    → (new.counts ≡ old.counts) × (new.actor ≡ old.actor)
+begin_same old new c (Ok x) ok err = begins_same old new c ok
+begin_same old new c (Err e) ok err = (ap (λ (l : ClientLife). l.counts) err, ap (λ (l : ClientLife). l.actor) err)
+
+-- ---- a command that goes on
+
+-- how near a running command is to its end: at most how many transactions are to come
+abbrev pub rank_of : Option Program → ℕ
+rank_of None = 0
+rank_of (Some p) = rank p.phase
+
+pub record Nearer (old new : Option Program) : Type 0 where
+  pub runs : IsSome new
+  pub less : rank_of new < rank_of old
+
+heard_nearer : (counts : Counts) (serial : ℕ) (q : AnyReq) (x : AnyReply) (o : Option Program) → program_ask serial o ≡ Some q → Nearer o (heard counts serial q x o)
+heard_nearer counts serial q x None asks = absurd cc
+heard_nearer counts serial q x (Some p) asks =
+    record { runs = refl; less = rank_falls (request_place counts q) p.op (object_number p.op.actor serial) p.command p.phase x q asks }
+
+did_nearer : (counts : Counts) (s st : Actor) (silent : List Event) (op : OpId) (tried : Tried) → Asks s tried → EndsSo st tried None
+    → Nearer s.running (own_state counts s (step_events silent op tried None)).running
+did_nearer counts s st silent op (Did q x) asks ends = heard_nearer counts s.serial q x s.running asks
+did_nearer counts s st silent op Unasked asks ends = absurd ends
+did_nearer counts s st silent op (Denied q e) asks ends = absurd ends
+
+pub step_nearer : {W : Type 0} (done : W → W → AnyReq → Result AnyReply Refused → Type 0) (w v : W) (old new : ClientLife) → OwnStep done w v old new Going
+    → Nearer (state_in old).running (state_in new).running
+step_nearer done w v old new step =
+    let none : step.answer ≡ None = not_done step.answer step.told in
+    let here = did_nearer old.counts (state_in old) (state_after old.counts (state_in old) step.tried) old.silent (op_in old) step.tried step.asks (rw none at step.ends) in
+    let state : state_in new ≡ own_state old.counts (state_in old) (step_events old.silent (op_in old) step.tried None) =
+    step_state done w v old new Going step ∙ ap (λ (a : Option Answer). own_state old.counts (state_in old) (step_events old.silent (op_in old) step.tried a)) none in
+    rw state here

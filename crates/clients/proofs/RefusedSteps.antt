@@ -1,0 +1,60 @@
+-- the step of an op that was refused: its end
+use Rattle.std.proofs.Common.{◌≡◌, ◌≢◌, ℕ, ◌⊎◌, inl, inr, Option, Some, None, IsSome, List, [], ◌∷◌, ◌++◌, refl, sym, ap, ◌∙◌, subst, append_assoc}
+use Rattle.std.specs.Prelude.{Result}
+use Rattle.tect_ids.specs.declared.ids.OpId.{OpId}
+use Rattle.store_rules.specs.declared.any.AnyReq.{AnyReq}
+use Rattle.store_rules.specs.declared.any.AnyReply.{AnyReply}
+use Rattle.op_names.specs.declared.program.Program.{Program}
+use Rattle.place_kit.specs.declared.entry.Entry.{Entry}
+use Rattle.place_kit.specs.declared.entry.Refused.{Refused}
+use Rattle.place_kit.specs.Moments.{running_in}
+use Rattle.world_runs.specs.declared.event.Event.{Event}
+use Rattle.world_runs.specs.declared.event.Event.TheVariants.{Ended, Stopped}
+use Rattle.world_runs.specs.Moments.{no_room, program_answer}
+use Rattle.noted_runs.specs.Events.{events_of}
+use Rattle.actors.specs.declared.turned.Turned.TheVariants as turns
+use Rattle.clients.specs.Lives.{ClientLife, events_in, state_in, op_in, IsLife, stopped_with, stopped_life}
+use Rattle.clients.specs.Phases.{RunsIn, WasRefused}
+use Rattle.clients.specs.Steps.{Unasked, OwnStep, ended_with, end_events}
+use Rattle.clients.proofs.Begins.{refused_answer}
+
+refused_in : (es : List Event) (o : Option OpId) (running : Option Program) → RunsIn es o running → es ≢ [] → WasRefused running
+refused_in [] o running going some = absurd (some refl)
+refused_in (e ∷ es) o running going some = going.1
+
+module _ (old : ClientLife) (some : old.silent ≢ []) where
+  abbrev ended_refused : ClientLife
+  ended_refused = record old { silent = old.silent ++ Ended (op_in old) no_room ∷ [] }
+
+  ends_with : (es : List Event) → es ≢ [] → ended_refused ≡ ended_with old es (op_in old) no_room
+  ends_with [] other = absurd (other refl)
+  ends_with (e ∷ es) other = refl
+
+  end_is : (es : List Event) → es ≢ [] → Ended (op_in old) no_room ∷ [] ≡ end_events es (op_in old) (Some no_room)
+  end_is [] other = absurd (other refl)
+  end_is (e ∷ es) other = refl
+
+  pub stops_with : (es : List Event) → es ≢ [] → (let l : ClientLife = record old { silent = old.silent ++ Stopped (op_in old) ∷ [] } in l ≡ stopped_with old es)
+  stops_with [] other = absurd (other refl)
+  stops_with (e ∷ es) other = refl
+
+  module _ {W : Type 0} (done : W → W → ℕ → AnyReq → Result Entry Refused → Type 0) (w : W) (new : ClientLife) (is : IsLife old) (runs : IsSome (state_in old).running)
+      (after : new ≡ record old { silent = old.silent ++ Ended (op_in old) no_room ∷ [] }) where
+    more_events : events_in new ≡ events_in old ++ ([] ++ end_events old.silent (op_in old) (Some no_room))
+    more_events =
+        ap events_in after ∙ sym (append_assoc (events_of old.moments) old.silent (Ended (op_in old) no_room ∷ []))
+        ∙ ap (λ (es : List Event). events_in old ++ es) (end_is old.silent some)
+
+    pub refused_step : OwnStep done w w old new (turns.Done no_room)
+    refused_step = record {
+      tried = Unasked;
+      stamp = 0;
+      answer = Some no_room;
+      asks = tt;
+      there = refl;
+      later = tt;
+      life = after ∙ ends_with old.silent some;
+      events = more_events;
+      ends = inl (refused_answer (state_in old).running runs (refused_in old.silent (running_in None old.moments) (state_in old).running is.going some));
+      told = refl;
+    }

@@ -1,0 +1,93 @@
+-- the turns that the code takes
+use Rattle.std.proofs.Common.{ℕ, ◌≡◌, ◌⊎◌, inl, inr, Option, Some, None, IsSome, refl, sym, ap, ◌∙◌, subst, arith}
+use Rattle.std.specs.Prelude.{Result, Ok, Err}
+use Rattle.tect_ids.specs.declared.ids.Counts.{Counts}
+use Rattle.tect_ids.specs.declared.ids.Place.{Place}
+use Rattle.tect_ids.specs.declared.answer.Answer.{Answer}
+use Rattle.tect_ids.specs.declared.answer.Answer.TheVariants as answers
+use Rattle.store_rules.specs.declared.any.AnyReq.{AnyReq}
+use Rattle.store_rules.specs.declared.any.AnyReply.{AnyReply}
+use Rattle.store_rules.specs.Places.{request_place}
+use Rattle.op_names.specs.declared.program.Program.{Program}
+use Rattle.op_names.specs.Programs.{object_number}
+use Rattle.place_kit.specs.declared.entry.Entry.{Entry}
+use Rattle.place_kit.specs.declared.entry.Note.TheVariants.{Ended}
+use Rattle.place_kit.specs.declared.entry.Refused.{Refused}
+use Rattle.place_kit.specs.declared.entry.Refused.TheVariants.{NoMemory, HistoryFull, Astray}
+use Rattle.place_kit.specs.declared.pass.Pass.{Pass}
+use Rattle.place_kit.specs.Commits.{IsFull}
+use Rattle.world_runs.specs.Moments.{Actor, program_ask, program_answer, went_on}
+use Rattle.actors.specs.ActorState.{ActorState, op_of}
+use Rattle.clients.specs.declared.turns.Turn.{Turn}
+use Rattle.clients.specs.Commits.{entry_at, Committed, NotedEnd}
+use Rattle.clients.specs.Phases.{RunsSmoothly}
+use Rattle.clients.specs.Steps.{Unasked, Did, Denied, EndsSo, Tried}
+use Rattle.clients.specs.Turns.{ended, Settles, SettlesSo, Tries, TookTurn}
+use Rattle.clients.proofs.Phases.{smooth_goes}
+
+did_so : (a : ActorState) (q : AnyReq) (x : AnyReply) (answer : Option Answer) → SettlesSo a answer → EndsSo a.state (Did q x) answer
+did_so a q x None so = so
+did_so a q x (Some y) so = so
+
+goes_by : (serial : ℕ) (o : Option Program) → RunsSmoothly o → IsSome o → program_ask serial o ≡ None → program_answer o ≡ None → ⊥
+goes_by serial None smooth runs asks answers = absurd (grind (arith, runs))
+goes_by serial (Some p) smooth runs asks answers = smooth_goes p.op (object_number p.op.actor serial) p.command p.phase smooth asks answers
+
+unasked_so : (a : ActorState) (answer : Option Answer) → RunsSmoothly a.state.running → IsSome a.state.running → program_ask a.state.serial a.state.running ≡ None
+    → SettlesSo a answer → EndsSo a.state Unasked answer
+unasked_so a None smooth runs asks so = goes_by a.state.serial a.state.running smooth runs asks so
+unasked_so a (Some x) smooth runs asks so = so
+
+module _ {W : Type 0} (done : W → W → ℕ → AnyReq → Result Entry Refused → Type 0) (counts : Counts) (w v : W) (a b : ActorState) (p r : Pass) where
+  pub did_turn : (m : Pass) (q : AnyReq) (x : AnyReply) (answer : Option Answer) → program_ask a.state.serial a.state.running ≡ Some q → done w v p.clock q (Ok (entry_at counts m.clock p q x)) → ¬ IsFull p
+      → Committed counts p m q x → Settles (record a { state = went_on counts a.state q x }) b m r answer → TookTurn done counts w v a b p r (record { transactions = 1; answer = answer })
+  did_turn m q x answer asks did room committed settles = record {
+    tried = Did q x;
+    middle = m;
+    asks = asks;
+    there = did;
+    tries = (room, committed);
+    ends = did_so (record a { state = went_on counts a.state q x }) q x answer settles.so;
+    finishes = settles.finishes;
+    acted = refl;
+  }
+
+  pub denied_turn : (m : Pass) (q : AnyReq) (e : Refused) (x : Answer) (turn : Turn) → program_ask a.state.serial a.state.running ≡ Some q → done w v p.clock q (Err e)
+      → Tries counts p m (Denied q e) → EndsSo a.state (Denied q e) (Some x) → b ≡ ended a → NotedEnd m r (Ended (op_of a) x)
+      → (let t : Turn = record { transactions = 0; answer = Some x } in turn ≡ t) → TookTurn done counts w v a b p r turn
+  denied_turn m q e x turn asks did tries so after noted is = rw is (record {
+    tried = Denied q e;
+    middle = m;
+    asks = asks;
+    there = did;
+    tries = tries;
+    ends = so;
+    finishes = (after, noted);
+    acted = refl;
+  })
+
+  pub unasked_turn : (answer : Option Answer) → v ≡ w → RunsSmoothly a.state.running → IsSome a.state.running → program_ask a.state.serial a.state.running ≡ None
+      → Settles a b p r answer → TookTurn done counts w v a b p r (record { transactions = 0; answer = answer })
+  unasked_turn answer same smooth runs asks settles = record {
+    tried = Unasked;
+    middle = p;
+    asks = tt;
+    there = same;
+    tries = refl;
+    ends = unasked_so a answer smooth runs asks settles.so;
+    finishes = settles.finishes;
+    acted = refl;
+  }
+
+  pub wanting_turn : (turn : Turn) → v ≡ w → b ≡ ended a → NotedEnd p r (Ended (op_of a) answers.NoMemory)
+      → (let t : Turn = record { transactions = 0; answer = Some answers.NoMemory } in turn ≡ t) → TookTurn done counts w v a b p r turn
+  wanting_turn turn same after noted is = rw is (record {
+    tried = Unasked;
+    middle = p;
+    asks = tt;
+    there = same;
+    tries = refl;
+    ends = inr refl;
+    finishes = (after, noted);
+    acted = refl;
+  })

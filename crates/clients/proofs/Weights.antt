@@ -1,0 +1,104 @@
+-- what a pass takes up is what the events of its moments do
+use Rattle.std.proofs.Common.{◌≡◌, ℕ, ◌+◌, ◌<◌, ◌≤◌, ◌^◌, ◌⊎◌, inl, inr, Bool, true, false, ◌&&◌, if◌then◌else◌, Option, Some, None, List, [], ◌∷◌, ◌++◌, length, refl, sym, ap, ◌∙◌, eqb, arith}
+use Rattle.std.specs.List.{All, sum_by}
+use Rattle.std.proofs.lemmas.List.{append-nil}
+use Rattle.std.proofs.lemmas.List.Sums.{sum_by-cons}
+use Rattle.std.proofs.lemmas.Bool.Decides.{nat_tests}
+use Rattle.tect_ids.specs.declared.ids.OpId.{OpId}
+use Rattle.tect_ids.specs.declared.answer.Answer.{Answer}
+use Rattle.tect_ids.specs.declared.answer.Answer.TheVariants as answers
+use Rattle.place_kit.specs.declared.entry.Entry.{Entry}
+use Rattle.place_kit.specs.declared.entry.Note.{Note}
+use Rattle.place_kit.specs.declared.entry.Note.TheVariants as notes
+use Rattle.place_kit.specs.declared.entry.Moment.{Moment}
+use Rattle.place_kit.specs.declared.entry.Moment.TheVariants.{Act, Local}
+use Rattle.place_kit.specs.declared.pass.Pass.{Pass}
+use Rattle.place_kit.specs.ReplyBytes.{reply_bytes}
+use Rattle.place_kit.specs.Moments.{op_of, trail_of, all_of_actor, all_notes_of, all_reply_bytes, moment_cost, moments_cost}
+use Rattle.place_kit.specs.Passes.{aside}
+use Rattle.place_kit.specs.Commits as passes
+use Rattle.world_runs.specs.declared.event.Event.{Event}
+use Rattle.world_runs.specs.declared.event.Event.TheVariants.{Began, Refused, Acted, Ended, Stopped, Failed, Dumped}
+use Rattle.noted_runs.specs.Events.{end_event, event_of, events_of}
+use Rattle.noted_runs.specs.Limits.{event_cost, event_bytes, used, kept_bytes, IsFull, IsFullForBegin}
+use Rattle.noted_runs.specs.Laws.{IsSilent}
+use Rattle.noted_runs.proofs.Limits.{used-append, kept_bytes-append}
+
+end_cost : (a : ℕ) (op : OpId) (x : Answer) → event_cost a (end_event op x) ≡ 0
+end_cost a op answers.NoMemory = refl
+end_cost a op (answers.HistoryFull p) = refl
+end_cost a op _ = refl
+
+end_bytes : (a : ℕ) (op : OpId) (x : Answer) → event_bytes a (end_event op x) ≡ 0
+end_bytes a op answers.NoMemory = refl
+end_bytes a op (answers.HistoryFull p) = refl
+end_bytes a op _ = refl
+
+both : (b c : Bool) → (b && c) ≡ true → (b ≡ true) × (c ≡ true)
+both true true h = (refl, refl)
+both true false h = absurd cc
+both false c h = absurd cc
+
+note_costs : (a stamp by : ℕ) (note : Note) → all_notes_of a (Local stamp by note ∷ []) ≡ true → event_cost a (event_of (Local stamp by note)) ≡ moment_cost (Local stamp by note)
+note_costs a stamp by (notes.Began op c) own = ap (λ (b : Bool). if b then 2 else 0) (both (eqb op.actor a) true own).0
+note_costs a stamp by (notes.Ended op x) own = end_cost a op x
+note_costs a stamp by (notes.Stopped op) own = refl
+
+note_bytes : (a stamp by : ℕ) (note : Note) → event_bytes a (event_of (Local stamp by note)) ≡ 0
+note_bytes a stamp by (notes.Began op c) = refl
+note_bytes a stamp by (notes.Ended op x) = end_bytes a op x
+note_bytes a stamp by (notes.Stopped op) = refl
+
+pub moments_use : (a : ℕ) (ms : List Moment) → all_of_actor a ms ≡ true → all_notes_of a ms ≡ true → used (events_of ms) a ≡ moments_cost ms
+moments_use a [] own notes = refl
+moments_use a (Act e ∷ ms) own notes =
+    let here = both (eqb e.actor a) (all_of_actor a ms) own in
+    let rest = moments_use a ms here.1 notes in
+    sum_by-cons (event_cost a) (event_of (Act e)) (events_of ms) ∙ ap (λ (b : Bool). (if b then 1 else 0) + used (events_of ms) a) here.0
+    ∙ ap (λ (n : ℕ). 1 + n) rest ∙ sym (sum_by-cons moment_cost (Act e) ms)
+moments_use a (Local stamp by note ∷ ms) own notes =
+    let here = both (eqb by a) (all_of_actor a ms) own in
+    let noted = both (eqb (op_of note).actor a) (all_notes_of a ms) notes in
+    let rest = moments_use a ms here.1 noted.1 in
+    sum_by-cons (event_cost a) (event_of (Local stamp by note)) (events_of ms)
+    ∙ ap (λ (n : ℕ). n + used (events_of ms) a) (note_costs a stamp by note (rw noted.0 refl))
+    ∙ ap (λ (n : ℕ). moment_cost (Local stamp by note) + n) rest ∙ sym (sum_by-cons moment_cost (Local stamp by note) ms)
+
+pub moments_keep : (a : ℕ) (ms : List Moment) → all_of_actor a ms ≡ true → kept_bytes (events_of ms) a ≡ all_reply_bytes (trail_of ms)
+moments_keep a [] own = refl
+moments_keep a (Act e ∷ ms) own =
+    let here = both (eqb e.actor a) (all_of_actor a ms) own in
+    sum_by-cons (event_bytes a) (event_of (Act e)) (events_of ms) ∙ ap (λ (b : Bool). (if b then reply_bytes e.reply else 0) + kept_bytes (events_of ms) a) here.0
+    ∙ ap (λ (n : ℕ). reply_bytes e.reply + n) (moments_keep a ms here.1)
+moments_keep a (Local stamp by note ∷ ms) own =
+    let here = both (eqb by a) (all_of_actor a ms) own in
+    sum_by-cons (event_bytes a) (event_of (Local stamp by note)) (events_of ms)
+    ∙ ap (λ (n : ℕ). n + kept_bytes (events_of ms) a) (note_bytes a stamp by note) ∙ omega (arith, moments_keep a ms here.1)
+
+-- ---- of a pass
+
+module _ (p : Pass) where
+  pub pass_use : used (events_of p.moments.items) p.actor ≡ passes.used p
+  pass_use = moments_use p.actor p.moments.items p.known.own p.known.notes_own ∙ sym p.known.costs
+
+  pub pass_bytes : kept_bytes (events_of p.moments.items) p.actor ≡ p.bytes
+  pass_bytes = moments_keep p.actor p.moments.items p.known.own ∙ sym p.known.weighed
+
+  pub fills : passes.IsFull p → p.clock < 2 ^ 63 → IsFull (events_of p.moments.items) p.actor
+  fills (inl much) early = inl (omega (arith, pass_use, much))
+  fills (inr (inl heavy)) early = inr (omega (arith, pass_bytes, heavy))
+  fills (inr (inr late)) early = absurd (omega (arith, late, early))
+
+  pub has_room : ¬ passes.IsFull p → ¬ IsFull (events_of p.moments.items) p.actor
+  has_room room (inl much) = room (inl (omega (arith, pass_use, much)))
+  has_room room (inr heavy) = room (inr (inl (omega (arith, pass_bytes, heavy))))
+
+-- the events of refused ops take up nothing
+pub silent_cost : (a : ℕ) (e : Event) → IsSilent e → event_cost a e ≡ 0
+silent_cost a (Began op c) silent = absurd silent
+silent_cost a (Acted op q x) silent = absurd silent
+silent_cost a (Refused op c) silent = refl
+silent_cost a (Ended op x) silent = refl
+silent_cost a (Stopped op) silent = refl
+silent_cost a (Failed op x) silent = refl
+silent_cost a Dumped silent = absurd silent

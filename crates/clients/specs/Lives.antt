@@ -1,0 +1,86 @@
+-- What contracts see of a client: what it noted, and what it did in ops that were refused. All else is told by that.
+use Rattle.std.specs.Prelude.{◌≡◌, ℕ, ◌+◌, ◌<◌, ◌≤◌, ◌^◌, ◌⊎◌, true, List, [], ◌∷◌, ◌++◌, Option, Some, None}
+use Rattle.std.specs.List.{All}
+use Rattle.tect_ids.specs.declared.ids.Counts.{Counts}
+use Rattle.tect_ids.specs.declared.ids.OpId.{OpId}
+use Rattle.tect_ids.specs.declared.command.Command.{Command}
+use Rattle.tect_ids.specs.Places.{HasPlaces}
+use Rattle.tect_calls.specs.Knowing.{IsActor}
+use Rattle.op_names.specs.declared.program.Program.{Program}
+use Rattle.place_kit.specs.declared.entry.Moment.{Moment}
+use Rattle.place_kit.specs.declared.entry.Moment.TheVariants.{Local}
+use Rattle.place_kit.specs.declared.entry.Note.TheVariants as notes
+use Rattle.place_kit.specs.Moments.{rises, all_of_actor, all_notes_of, running_in}
+use Rattle.world_runs.specs.declared.event.Event.{Event}
+use Rattle.world_runs.specs.declared.event.Event.TheVariants.{Refused, Stopped}
+use Rattle.world_runs.specs.Moments.{Actor, idle_actor}
+use Rattle.noted_runs.specs.Events.{events_of, own}
+use Rattle.noted_runs.specs.OwnRuns.{OwnRun, own_state}
+use Rattle.noted_runs.specs.Limits.{IsFullForBegin, OwnLimits}
+use Rattle.noted_runs.specs.Laws.{IsPlaced, IsSilent}
+use Rattle.clients.specs.Phases.{RunsIn}
+
+pub record ClientLife : Type 0 where
+  pub counts : Counts
+  pub actor : ℕ
+  pub clock : ℕ
+  pub moments : List Moment
+  pub silent : List Event
+
+-- once an op was refused, so is each further one: nothing is noted behind it
+abbrev pub events_in : ClientLife → List Event
+events_in life = events_of life.moments ++ life.silent
+
+abbrev pub state_in : ClientLife → Actor
+state_in life = own_state life.counts idle_actor (events_in life)
+
+-- the op of its last command, and that of its next one
+abbrev pub op_in : ClientLife → OpId
+op_in life = record { actor = life.actor; number = (state_in life).number }
+
+abbrev pub next_op_in : ClientLife → OpId
+next_op_in life = record { actor = life.actor; number = (state_in life).number + 1 }
+
+-- the next op is refused: its own history has not room for it, or its clock has come to the limit
+abbrev pub RefusesNext : ClientLife → Type 0
+RefusesNext life = IsFullForBegin (events_in life) life.actor ⊎ (2 ^ 63 ≤ life.clock)
+
+-- before it did anything
+abbrev pub idle_life : ℕ → Counts → ClientLife
+idle_life actor counts = record { counts = counts; actor = actor; clock = 0; moments = []; silent = [] }
+
+-- the next op begins the command, and that is noted
+abbrev pub begun_life : ClientLife → Command → ClientLife
+begun_life life c =
+    record life { clock = life.clock + 1; moments = life.moments ++ Local (life.clock + 1) life.actor (notes.Began (next_op_in life) c) ∷ [] }
+
+-- it is refused, and nothing is noted
+abbrev pub refused_life : ClientLife → Command → ClientLife
+refused_life life c = record life { silent = life.silent ++ Refused (next_op_in life) c ∷ [] }
+
+-- one of the two, as there is room
+abbrev pub Begins : ClientLife → ClientLife → Command → Type 0
+Begins old new c = ((¬ RefusesNext old) × (new ≡ begun_life old c)) ⊎ (RefusesNext old × (new ≡ refused_life old c))
+
+-- it stops for good, which is noted, but not in an op that was refused
+abbrev pub stopped_with : ClientLife → List Event → ClientLife
+stopped_with life [] =
+    record life { clock = life.clock + 1; moments = life.moments ++ Local (life.clock + 1) life.actor (notes.Stopped (op_in life)) ∷ [] }
+stopped_with life (e ∷ es) = record life { silent = life.silent ++ Stopped (op_in life) ∷ [] }
+
+abbrev pub stopped_life : ClientLife → ClientLife
+stopped_life life = stopped_with life life.silent
+
+-- What is so of each client: its events are a run of its own, and keep its limits, unless its clock has come to its own.
+pub record IsLife (life : ClientLife) : Type 0 where
+  pub places : HasPlaces life.counts
+  pub is_actor : IsActor life.actor
+  pub run : OwnRun life.counts idle_actor (events_in life)
+  pub limits : life.clock < 2 ^ 63 → OwnLimits life.counts [] idle_actor (events_in life)
+  pub own : own life.actor (events_in life) ≡ events_in life
+  pub moments_own : all_of_actor life.actor life.moments ≡ true
+  pub notes_own : all_notes_of life.actor life.moments ≡ true
+  pub rising : rises 0 life.clock life.moments ≡ true
+  pub placed : All (IsPlaced life.counts) life.moments
+  pub silent : All IsSilent life.silent
+  pub going : RunsIn life.silent (running_in None life.moments) (state_in life).running

@@ -1,0 +1,338 @@
+ghost use Rattle.std.specs.Prelude.{◌≡◌, ◌≢◌, ◌+◌, ◌^◌, ◌<◌, ◌≤◌, ◌++◌, [], ◌∷◌, max, IfOk, OnOk, OnErr, IsSome, IsNone, IsTrue, MatchResult, is_some, false, vec_len, vec_capacity};
+ghost use Rattle.tect_ids.specs.Places.{HasPlaces};
+ghost use Rattle.tect_calls.specs.Knowing.{IsActor};
+ghost use Rattle.place_kit.specs.declared.entry.Refused.TheVariants as refusals;
+ghost use Rattle.world_runs.specs.declared.event.Event.TheVariants as events;
+ghost use Rattle.world_runs.specs.Moments.{no_room, program_ask};
+ghost use Rattle.world_runs.specs.Report.{transactions};
+ghost use Rattle.world_runs.specs.Served.{IsServed};
+ghost use Rattle.actors.specs.Turns.{turned_by};
+ghost use Rattle.clients.specs.Lives.{events_in, state_in, op_in, RefusesNext, idle_life, begun_life, refused_life, Begins, stopped_life, IsLife};
+ghost use Rattle.clients.specs.Steps.{OwnStep, WentAstray};
+
+use crate::commits::{Astray, Commits};
+use crate::turns::take_turn;
+use actors::{Actor, Turned};
+use place_kit::{Note, Pass};
+use std::alloc::Global;
+use std::marker::Model;
+use tect_calls::Asked;
+use tect_ids::{Answer, Command, Counts, NoMemory, OpId, Place};
+use world_runs::Event;
+
+/// An actor, with the pass that notes what it does. Contracts see what it noted, and the events of its ops that were refused.
+#[derive(Drop)]
+pub struct Client {
+    alloc: Global,
+    counts: Counts,
+    actor: Actor,
+    pass: Pass,
+    refused: Vec<Event>,
+    transactions: u64,
+}
+
+impl Model for Client {
+    ghost use Rattle.clients.specs.Lives.{ClientLife};
+
+    ghost Value = { ClientLife };
+
+    ghost use Rattle.clients.specs.Inside.{life_of, IsClient};
+
+    ghost view = { life_of };
+
+    ghost invariant = { IsClient };
+}
+
+/// Adds an event for which there is room. It takes no memory.
+fn push_event(events: &mut Vec<Event>, event: Event)
+    requires { vec_len events.old < vec_capacity events.old }
+    ensures items { events.new.items ≡ events.old.items ++ event ∷ [] }
+    ensures len { vec_len events.new ≡ vec_len events.old + 1 }
+    ensures room { vec_capacity events.old ≤ vec_capacity events.new }
+{
+    if events.push(event).is_err() {
+        unreachable!()
+    }
+}
+
+fn turned_of(answer: Option<Answer>) -> Turned
+    ensures { result ≡ turned_by answer }
+{
+    match answer {
+        None => Turned::Going,
+        Some(answer) => Turned::Done(answer),
+    }
+}
+
+impl Client {
+    /// The client with that actor's number, from 1 to 65, before it did anything, where each layer has that many shards.
+    pub fn start(alloc: Global, actor: u32, counts: Counts) -> Result<Client, NoMemory>
+        requires actor { IsActor actor }
+        requires places { HasPlaces counts }
+        ensures { IfOk result (λ client. client ≡ idle_life actor counts) }
+    {
+        Ok(Client {
+            alloc,
+            counts,
+            actor: Actor::start(alloc, actor, counts)?,
+            pass: Pass::start(alloc, actor),
+            refused: Vec::new(alloc),
+            transactions: 0,
+        })
+    }
+
+    // What is so of each client.
+    fn known(&self)
+        ensures { IsLife self.now }
+    {
+        let _actor = &self.actor;
+    }
+
+    /// The number of its actor. It takes no memory.
+    pub fn actor(&self) -> u32
+        ensures { result ≡ self.now.actor }
+    {
+        self.actor.op().actor
+    }
+
+    /// How many shards each layer has. It takes no memory.
+    pub fn counts(&self) -> Counts
+        ensures { result ≡ self.now.counts }
+    {
+        self.counts
+    }
+
+    /// The clock of its pass: no stamp exceeds it. It takes no memory.
+    pub fn clock(&self) -> u64
+        ensures { result ≡ self.now.clock }
+    {
+        self.pass.clock()
+    }
+
+    /// The op of its last command; number 0 before the first. It takes no memory.
+    pub fn op(&self) -> OpId
+        ensures op { result ≡ op_in self.now }
+        ensures life { IsLife self.now }
+    {
+        self.known();
+        self.actor.op()
+    }
+
+    /// Whether its last command goes on. It takes no memory.
+    pub fn is_running(&self) -> bool
+        ensures running { result ≡ is_some (state_in self.now).running }
+        ensures life { IsLife self.now }
+    {
+        self.known();
+        self.actor.is_running()
+    }
+
+    /// How many transactions its last command took so far, also after its end. It takes no memory.
+    pub fn transactions(&self) -> u64
+        ensures { result ≡ transactions (events_in self.now) (op_in self.now) }
+    {
+        self.transactions
+    }
+
+    /// Whether it may begin a command: its last one has ended, it has not stopped for good, and it began few enough. It takes
+    /// no memory.
+    pub fn can_begin(&self) -> bool
+        ensures idle { IsTrue result → IsNone (state_in self.now).running }
+        ensures goes_on { IsTrue result → (state_in self.now).stopped ≡ false }
+        ensures few { IsTrue result → (state_in self.now).number + 1 < 2 ^ 31 }
+        ensures may { IsNone (state_in self.now).running → (state_in self.now).stopped ≡ false
+            → (state_in self.now).number + 1 < 2 ^ 31 → IsTrue result }
+    {
+        let actor = &self.actor;
+        !actor.is_running() && !actor.has_stopped() && actor.op().number < (1 << 31) - 1
+    }
+
+    /// Makes the clock of its pass at least that number. It takes no memory.
+    pub fn raise(&mut self, clock: u64)
+        requires { clock + 1 < 2 ^ 64 }
+        ensures raised { self.new ≡ record self.old { clock = max self.old.clock clock } }
+        ensures life { IsLife self.new }
+    {
+        self.pass.raise(clock);
+        self.known();
+    }
+
+    /// Begins its next op with that command, and notes it. Where its own history has not room for that and for the op's end,
+    /// or its clock has come to the limit, the op is refused: it has its answer, which says so, and nothing is noted. For
+    /// want of memory nothing is changed.
+    pub fn begin(&mut self, command: Command) -> Result<(), NoMemory>
+        requires idle { IsNone (state_in self.old).running }
+        requires goes_on { (state_in self.old).stopped ≡ false }
+        requires few { (state_in self.old).number + 1 < 2 ^ 31 }
+        requires served { IsServed command }
+        ensures ok { OnOk result (Begins self.old self.new command) }
+        ensures err { OnErr result (self.new ≡ self.old) }
+        ensures same { (self.new.counts ≡ self.old.counts) × (self.new.actor ≡ self.old.actor) }
+        ensures life { IsLife self.new }
+    {
+        let begun = if self.pass.is_full_for_begin() {
+            self.refuse(command)
+        } else {
+            self.note_begin(command)
+        };
+        self.known();
+        begun
+    }
+
+    // The next op begins, and there is room to note it.
+    fn note_begin(&mut self, command: Command) -> Result<(), NoMemory>
+        requires idle { IsNone (state_in self.old).running }
+        requires goes_on { (state_in self.old).stopped ≡ false }
+        requires few { (state_in self.old).number + 1 < 2 ^ 31 }
+        requires served { IsServed command }
+        requires room { ¬ RefusesNext self.old }
+        ensures ok { OnOk result (self.new ≡ begun_life self.old command) }
+        ensures err { OnErr result (self.new ≡ self.old) }
+    {
+        self.pass.reserve_begin()?;
+        let noted = command.copy(self.alloc)?;
+        self.actor.begin(command)?;
+        self.transactions = 0;
+        let op = self.actor.op();
+        let note = Note::Began { op, command: noted };
+        if self.pass.note(note).is_err() {
+            unreachable!()
+        }
+        Ok(())
+    }
+
+    // The next op is refused.
+    fn refuse(&mut self, command: Command) -> Result<(), NoMemory>
+        requires idle { IsNone (state_in self.old).running }
+        requires goes_on { (state_in self.old).stopped ≡ false }
+        requires few { (state_in self.old).number + 1 < 2 ^ 31 }
+        requires served { IsServed command }
+        requires full { RefusesNext self.old }
+        ensures ok { OnOk result (self.new ≡ refused_life self.old command) }
+        ensures err { OnErr result (self.new ≡ self.old) }
+    {
+        self.refused.reserve(2)?;
+        let kept = command.copy(self.alloc)?;
+        self.actor.begin_refused(command);
+        self.transactions = 0;
+        let op = self.actor.op();
+        push_event(&mut self.refused, Event::Refused { op, command: kept });
+        Ok(())
+    }
+
+    /// The request that its command makes next; none where it has its answer, or where no command runs. Nothing is changed.
+    pub fn next(&mut self) -> Result<Option<Asked>, NoMemory>
+        ensures asks { IfOk result (λ req. req ≡ program_ask (state_in self.old).serial (state_in self.old).running) }
+        ensures same { self.new ≡ self.old }
+    {
+        self.actor.next()
+    }
+
+    /// One step of its command: its next request is committed, if it asks one, and the command ends, if it then has its
+    /// answer. It ends too, with the answer that says so, for want of memory, and where its own history is full: then no
+    /// transaction is done, but where the command found no memory to go on at the reply. An op that was refused ends at once.
+    /// Where another machine was found than the one looked for, the client is unchanged.
+    pub fn step<C: Commits>(&mut self, at: &mut C) -> Result<Turned, Astray>
+        requires running { IsSome (state_in self.old).running }
+        requires same { C.counts at.old ≡ self.old.counts }
+        ensures counts { C.counts at.new ≡ C.counts at.old }
+        ensures step { MatchResult result (OwnStep C.done at.old at.new self.old self.new)
+            (λ e. WentAstray C.done at.old at.new self.old self.new (refusals.Astray e.want e.found)) }
+        ensures same { (self.new.counts ≡ self.old.counts) × (op_in self.new ≡ op_in self.old) }
+        ensures life { IsLife self.new }
+    {
+        let turned = if self.refused.is_empty() {
+            self.go_on(at)
+        } else {
+            Ok(self.end_refused())
+        };
+        self.known();
+        turned
+    }
+
+    // The step of an op that was not refused.
+    fn go_on<C: Commits>(&mut self, at: &mut C) -> Result<Turned, Astray>
+        requires running { IsSome (state_in self.old).running }
+        requires same { C.counts at.old ≡ self.old.counts }
+        requires noted { self.old.silent ≡ [] }
+        ensures counts { C.counts at.new ≡ C.counts at.old }
+        ensures step { MatchResult result (OwnStep C.done at.old at.new self.old self.new)
+            (λ e. WentAstray C.done at.old at.new self.old self.new (refusals.Astray e.want e.found)) }
+    {
+        let turn = take_turn(&self.counts, &mut self.actor, &mut self.pass, at)?;
+        self.transactions += turn.transactions;
+        Ok(turned_of(turn.answer))
+    }
+
+    // An op that was refused ends.
+    fn end_refused(&mut self) -> Turned
+        requires running { IsSome (state_in self.old).running }
+        requires refused { self.old.silent ≢ [] }
+        ensures life { self.new ≡ record self.old { silent = self.old.silent ++ events.Ended (op_in self.old) no_room ∷ [] } }
+        ensures told { result ≡ Turned.Done no_room }
+    {
+        let op = self.actor.op();
+        self.actor.end();
+        let answer = Answer::HistoryFull { place: Place(256) };
+        push_event(&mut self.refused, Event::Ended { op, answer });
+        Turned::Done(Answer::HistoryFull { place: Place(256) })
+    }
+
+    /// Stops for good, with its command unfinished. It takes no memory.
+    pub fn stop(&mut self)
+        requires running { IsSome (state_in self.old).running }
+        ensures stopped { self.new ≡ stopped_life self.old }
+        ensures life { IsLife self.new }
+    {
+        if self.refused.is_empty() {
+            self.note_stop();
+        } else {
+            self.stop_refused();
+        }
+        self.known();
+    }
+
+    // Stops in an op that was not refused.
+    fn note_stop(&mut self)
+        requires running { IsSome (state_in self.old).running }
+        requires noted { self.old.silent ≡ [] }
+        ensures { self.new ≡ stopped_life self.old }
+    {
+        let op = self.actor.op();
+        self.actor.stop();
+        if self.pass.note(Note::Stopped { op }).is_err() {
+            unreachable!()
+        }
+    }
+
+    // Stops in an op that was refused.
+    fn stop_refused(&mut self)
+        requires running { IsSome (state_in self.old).running }
+        requires refused { self.old.silent ≢ [] }
+        ensures { self.new ≡ stopped_life self.old }
+    {
+        let op = self.actor.op();
+        self.actor.stop();
+        push_event(&mut self.refused, Event::Stopped { op });
+    }
+
+    /// Its pass. It takes no memory.
+    pub fn pass(&self) -> &Pass
+        ensures pass { (result.now.actor ≡ self.now.actor) × (result.now.clock ≡ self.now.clock) × (result.now.moments.items ≡ self.now.moments) }
+        ensures life { IsLife self.now }
+    {
+        self.known();
+        &self.pass
+    }
+
+    /// Its pass, and the events of its ops that were refused. It takes no memory.
+    pub fn into_pass(self) -> (Pass, Vec<Event>)
+        ensures pass { (result.0.actor ≡ self.actor) × (result.0.clock ≡ self.clock) × (result.0.moments.items ≡ self.moments) }
+        ensures silent { result.1.items ≡ self.silent }
+        ensures life { IsLife self }
+    {
+        self.known();
+        let Client { pass, refused, .. } = self;
+        (pass, refused)
+    }
+}

@@ -1,0 +1,3 @@
+pub mod KeptStore
+pub mod Inside
+pub mod Opening

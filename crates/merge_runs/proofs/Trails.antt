@@ -1,0 +1,54 @@
+-- The entries of a pass are the transactions among its moments.
+use Rattle.std.proofs.Common.{◌≡◌, ◌≢◌, ℕ, inl, inr, List, [], ◌∷◌, ap, refl, get_or}
+use Rattle.std.specs.List.{All, Contains}
+use Rattle.std.proofs.lemmas.List.Elements.{All-contains, Contains-get_or}
+use Rattle.place_kit.specs.declared.any.AnyKept.{AnyKept}
+use Rattle.place_kit.specs.declared.entry.Entry.{Entry}
+use Rattle.place_kit.specs.declared.entry.Moment.{Moment}
+use Rattle.place_kit.specs.declared.entry.Moment.TheVariants.{Act, Local}
+use Rattle.place_kit.specs.declared.pass.Pass.{Pass}
+use Rattle.place_kit.specs.Moments.{trail_of}
+use Rattle.merge_runs.specs.Merged.{moments_of, entries_of, trails, IsStored}
+use Rattle.merge_runs.specs.Splits.{IsStoredMoment}
+use Rattle.merge_runs.proofs.Order.{In}
+use Rattle.merge_runs.proofs.Members.{in_from_contains, contains_from_in, in_flat, flat_in}
+use Rattle.merge_runs.proofs.Restricts.{actor_in}
+
+module _ {X : Type 0} (P : X → Type 0) where
+  pub all_in : (xs : List X) → All P xs → (x : X) → In x xs → P x
+  all_in xs a x i = All-contains P xs x a (contains_from_in xs x i)
+
+  pub in_all : (xs : List X) → ((x : X) → In x xs → P x) → All P xs
+  in_all xs f k d l = f (get_or xs k d) (in_from_contains xs (get_or xs k d) (Contains-get_or xs k d l))
+
+pub act_in : (ms : List Moment) (e : Entry) → In e (trail_of ms) → In (Act e) ms
+act_in [] e i = absurd i
+act_in (Act x ∷ ms) e (inl h) = inl (ap (λ (y : Entry). Act y) h)
+act_in (Act x ∷ ms) e (inr i) = inr (act_in ms e i)
+act_in (Local s a n ∷ ms) e i = inr (act_in ms e i)
+
+pub entry_in : (ms : List Moment) (e : Entry) → In (Act e) ms → In e (trail_of ms)
+entry_in [] e i = absurd i
+entry_in (Act x ∷ ms) e (inl h) = inl cc
+entry_in (Act x ∷ ms) e (inr i) = inr (entry_in ms e i)
+entry_in (Local s a n ∷ ms) e (inl h) = absurd cc
+entry_in (Local s a n ∷ ms) e (inr i) = entry_in ms e i
+
+pub owner_of : (p : Pass) (e : Entry) → In e (entries_of p) → e.actor ≡ p.actor
+owner_of p e i = actor_in p.actor p.moments.items (Act e) p.known.own (act_in p.moments.items e i)
+
+-- an entry of the trails is an entry of one pass
+pub in_trails : (ps : List Pass) (e : Entry) → Contains (trails ps) e → (p : Pass) × In p ps × In e (entries_of p)
+in_trails ps e c = in_flat entries_of ps e (in_from_contains (trails ps) e c)
+
+pub trails_in : (ps : List Pass) (p : Pass) (e : Entry) → In p ps → In e (entries_of p) → Contains (trails ps) e
+trails_in ps p e i j = contains_from_in (trails ps) e (flat_in entries_of ps p e i j)
+
+pub stored_entries : (ks : List AnyKept) (p : Pass) → All (IsStoredMoment ks) (moments_of p) → All (IsStored ks) (entries_of p)
+stored_entries ks p a = in_all (IsStored ks) (entries_of p) (λ e i. all_in (IsStoredMoment ks) (moments_of p) a (Act e) (act_in p.moments.items e i))
+
+abbrev pub IsNotAt : ℕ → Moment → Type 0
+IsNotAt step m = (e : Entry) → m ≡ Act e → e.step ≢ step
+
+pub not_at : (step : ℕ) (p : Pass) → All (IsNotAt step) (moments_of p) → All (λ e. e.step ≢ step) (entries_of p)
+not_at step p a = in_all (λ e. e.step ≢ step) (entries_of p) (λ e i. all_in (IsNotAt step) (moments_of p) a (Act e) (act_in p.moments.items e i) e refl)

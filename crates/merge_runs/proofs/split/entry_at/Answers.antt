@@ -1,0 +1,17 @@
+use Rattle.std.proofs.Common.{arith, ap, length, List}
+use Rattle.place_kit.specs.declared.entry.Moment.{Moment}
+use Rattle.merge_runs.proofs.Trails.{not_at}
+use Rattle.merge_runs.proofs.Splits.{entry_found}
+use Rattle.merge_runs.proofs.split.entry_at.Goals as goal
+
+pub returns-in-Some : goal.returns-in-Some
+returns-in-Some c = (
+  entry_found c.args.pass.now c.loop-moment.moment-index c.moments-moment-items.result.now c.moment-item.result c.in-Some.entry.now
+      c.loop-moment-test.true c.moment-item.is c.moments-moment-items.ensures c.in-Some.ensures.0,
+  c.in-Some.ensures.1,
+)
+
+pub returns : goal.returns
+returns c =
+    not_at c.args.step c.args.pass.now
+    (λ k d l. c.loop-moment.invariant k d (omega arith) (let n = ap (λ (ms : List Moment). length ms) c.moments-moment-items.ensures in omega arith))

@@ -1,0 +1,11 @@
+pub mod Lists
+pub mod Owned
+pub mod ClientLines
+pub mod Timing
+pub mod PartLines
+pub mod Stores
+pub mod Parts
+pub mod Cuts
+pub mod Told
+pub mod Gathered
+pub mod Growing

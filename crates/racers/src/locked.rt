@@ -1,0 +1,34 @@
+ghost use Rattle.std.specs.Prelude.{◌≡◌};
+
+use clients::Commits;
+use place_kit::{Pass, Refused};
+use place_locks::Places;
+use std::sync::Wait;
+use store_rules::AnyReply;
+use tect_calls::Asked;
+use tect_edge::Gate;
+
+/// Places behind locks, as one worker commits there.
+#[derive(Drop)]
+pub struct Locked<'a, R: Wait, G: Gate> {
+    pub rt: &'a R,
+    pub places: &'a Places,
+    pub worker: u32,
+    pub gate: &'a G,
+}
+
+impl<R: Wait, G: Gate> Commits for Locked<'_, R, G> {
+    ghost use Rattle.std.specs.Prelude.{IfErr};
+    ghost use Rattle.store_rules.specs.Places.{request_place};
+    ghost use Rattle.place_locks.specs.Commits.{IsRefusalFor};
+    ghost use Rattle.place_locks.specs.Started.{label_at};
+
+    ghost counts = { λ at. at.places.now };
+
+    ghost done = { λ old new asked result. IfErr result (IsRefusalFor (label_at old.places.now (request_place old.places.now asked).0)) };
+
+    fn commit(&mut self, pass: &mut Pass, asked: Asked) -> Result<AnyReply, Refused> {
+        self.places
+            .commit(self.rt, pass, asked, self.worker, self.gate)
+    }
+}

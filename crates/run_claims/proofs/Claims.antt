@@ -1,0 +1,38 @@
+-- a run within its limits is all that is claimed of a history
+use Rattle.std.proofs.Common.{◌≡◌, ◌≢◌, ℕ, zero, suc, Some, List, [], ◌∷◌, take, ap, ◌∙◌, subst}
+use Rattle.std.specs.List.{slice_get}
+use Rattle.tect_ids.specs.declared.ids.Counts.{Counts}
+use Rattle.tect_ids.specs.declared.ids.OpId.{OpId}
+use Rattle.tect_ids.specs.declared.ids.Place.{Place}
+use Rattle.tect_ids.specs.declared.answer.Answer.{Answer}
+use Rattle.tect_ids.specs.declared.answer.Answer.TheVariants.{Odd}
+use Rattle.world_runs.specs.declared.event.Event.{Event}
+use Rattle.world_runs.specs.declared.event.Event.TheVariants.{Ended}
+use Rattle.world_runs.specs.Moments.{Moment, IsWorldRun, May, RunFrom, after, after_all, answered, moment, opening}
+use Rattle.sound_runs.proofs.RunsKeep.{front_runs, no_run_answers_odd, sound_at_each_moment}
+use Rattle.tree_runs.proofs.Headlines.{run_headline}
+use Rattle.run_bounds.proofs.RunsShort.{each_is_short}
+use Rattle.run_claims.specs.Claims.{EveryRunIsClaimed}
+
+-- each event of a run may happen at the moment after those before it
+may_at : (m : Moment) (es : List Event) (n : ℕ) (e : Event) → RunFrom m es → slice_get es n ≡ Some e → May (after_all m (take n es)) e
+may_at m [] n e run at = absurd cc
+may_at m (f ∷ es) zero e run at = let same : f ≡ e = cc in subst (λ (x : Event). May m x) same run.0
+may_at m (f ∷ es) (suc n) e run at = may_at (after m f) es n e run.1 at
+
+no_end_is_odd : (counts : Counts) (history : List Event) → IsWorldRun counts history → (op : OpId) (a : Answer) (n : ℕ) → slice_get history n ≡ Some (Ended op a)
+    → (place : Place) → a ≢ Odd place
+no_end_is_odd counts history run op a n at place odd =
+    let front : IsWorldRun counts (take n history) = front_runs n history (opening counts) run in
+    let may : answered (moment counts (take n history)) op ≡ Some a = may_at (opening counts) history n (Ended op a) run at in
+    no_run_answers_odd counts (take n history) front op place (may ∙ ap (λ (b : Answer). Some b) odd)
+
+pub every_run_is_claimed : EveryRunIsClaimed
+every_run_is_claimed counts history run limits = record {
+  run = run;
+  limits = limits;
+  sound = sound_at_each_moment counts history run;
+  answers = run_headline counts history run;
+  not_odd = no_end_is_odd counts history run;
+  short = each_is_short counts history run;
+}

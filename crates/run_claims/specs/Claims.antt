@@ -1,0 +1,29 @@
+-- What is claimed of every history, in whatever order its transactions came.
+use Rattle.std.specs.Prelude.{◌≡◌, ◌≢◌, ℕ, Some, List, slice_get}
+use Rattle.tect_ids.specs.declared.ids.Counts.{Counts}
+use Rattle.tect_ids.specs.declared.ids.OpId.{OpId}
+use Rattle.tect_ids.specs.declared.ids.Place.{Place}
+use Rattle.tect_ids.specs.declared.answer.Answer.{Answer}
+use Rattle.tect_ids.specs.declared.answer.Answer.TheVariants.{Odd}
+use Rattle.tect_ids.specs.declared.command.Command.{Command}
+use Rattle.world_runs.specs.declared.event.Event.{Event}
+use Rattle.world_runs.specs.declared.event.Event.TheVariants.{Ended}
+use Rattle.world_runs.specs.Headline.{Headline, command_of}
+use Rattle.world_runs.specs.Moments.{AtEachMoment, IsWorldRun}
+use Rattle.world_runs.specs.Sound.{IsSound}
+use Rattle.noted_runs.specs.Limits.{KeepsLimits}
+use Rattle.run_bounds.specs.Bounds.{IsShort}
+
+-- It is a run of the world, within the limits of its actors' histories. The store is sound at each moment; each answer is the one
+-- that the tree gives at the command's point, or says that there was no room to begin; none says that a reply was odd; and each
+-- command takes few transactions.
+pub record IsHistory (counts : Counts) (history : List Event) : Type 0 where
+  pub run : IsWorldRun counts history
+  pub limits : KeepsLimits counts history
+  pub sound : AtEachMoment IsSound counts history
+  pub answers : Headline history
+  pub not_odd : (op : OpId) (a : Answer) (n : ℕ) → slice_get history n ≡ Some (Ended op a) → (place : Place) → a ≢ Odd place
+  pub short : (op : OpId) (c : Command) → command_of history op ≡ Some c → IsShort history op c
+
+abbrev pub EveryRunIsClaimed : Type 0
+EveryRunIsClaimed = (counts : Counts) (history : List Event) → IsWorldRun counts history → KeepsLimits counts history → IsHistory counts history
