@@ -11,7 +11,7 @@ use Rattle.tect_app.specs.declared.mode.Mode.{Mode}
 use Rattle.tect_app.specs.declared.mode.Mode.TheVariants as modes
 use Rattle.tect_app.specs.declared.status.Status.{Status}
 use Rattle.tect_app.specs.Modes.{SpellsMode, SpellsNone}
-use Rattle.tect_app.specs.RaceEnds.{IsRaceShown, IsRaceCut, IsSplitCause}
+use Rattle.tect_app.specs.RaceEnds.{IsRaceShown, IsRaceCut, IsSplitLine}
 use Rattle.tect_app.specs.Refusals.{fault_text, fault_status, IsNoScript}
 
 abbrev pub usage_text : List ℕ
@@ -31,11 +31,6 @@ IsShown (modes.Race workers) plan old new = IsRaceShown plan old new
 abbrev pub IsCutShort : Mode → Plan → Option (List ℕ) → Option (List ℕ) → Type 0
 IsCutShort modes.Replay plan old new = IsCutReplay plan old new
 IsCutShort (modes.Race workers) plan old new = IsRaceCut plan old new
-
--- only a race ends with such a line
-abbrev pub IsSplit : Mode → List ℕ → Type 0
-IsSplit modes.Replay line = ⊥
-IsSplit (modes.Race workers) line = IsSplitCause line
 
 -- ---- what each status says
 
@@ -78,30 +73,30 @@ pub record IsReadFault (rose : Type 0) (old new : Option (List ℕ)) : Type 0 wh
 abbrev pub IsCutRefusal : Option (List ℕ) → Option (List ℕ) → Option (List ℕ) → Type 0
 IsCutRefusal left old new = (fault : ScriptFault) × IfSome left (IsNoScript fault) × AppendsProperPrefix old new (fault_text fault)
 
--- the line of a split was cut off
-abbrev pub IsCutSplit : Mode → Option (List ℕ) → Option (List ℕ) → Type 0
-IsCutSplit mode old new = (line : List ℕ) × IsSplit mode line × AppendsProperPrefix old new line
+-- the input spells a plan, and the line names a fault of its race
+abbrev pub IsScriptSplit : List ℕ → List ℕ → Type 0
+IsScriptSplit line input = (plan : Plan) × Spells input plan × IsSplitLine plan.counts line
+
+-- the line of such a fault was cut off, which a replay does not write
+abbrev pub IsCutSplit : Mode → Option (List ℕ) → Option (List ℕ) → Option (List ℕ) → Type 0
+IsCutSplit modes.Replay left old new = ⊥
+IsCutSplit (modes.Race workers) left old new = (line : List ℕ) × IfSome left (IsScriptSplit line) × AppendsProperPrefix old new line
 
 -- 5, once the words are a mode: what was to be written by its cause was cut off
 abbrev pub IsCut : Mode → Type 0 → Option (List ℕ) → Option (List ℕ) → Option (List ℕ) → Type 0
 IsCut mode read_failed left old new =
     (read_failed × AppendsProperPrefix old new read_fault_text)
-    ⊎ (IsCutRefusal left old new ⊎ (IfSome left (IsScriptCut mode old new) ⊎ IsCutSplit mode old new))
+    ⊎ (IsCutRefusal left old new ⊎ (IfSome left (IsScriptCut mode old new) ⊎ IsCutSplit mode left old new))
 
 -- 6: nothing was written, or a report was cut off
 abbrev pub IsStarved : Mode → Option (List ℕ) → Option (List ℕ) → Option (List ℕ) → Type 0
 IsStarved mode left old new = Appends old new [] ⊎ IfSome left (IsScriptCut mode old new)
 
--- the input spells a plan
-abbrev pub IsScript : List ℕ → Type 0
-IsScript input = (plan : Plan) × Spells input plan
-
 -- 7: the whole input was read, and it spells a plan; two kept entries, or two labels, differ, and the line that names them was written
-pub record IsSplitEnd (mode : Mode) (left rest old new : Option (List ℕ)) : Type 0 where
+pub record IsSplitEnd (left rest old new : Option (List ℕ)) : Type 0 where
   pub read : IsAtEnd rest
-  pub script : IfSome left IsScript
   pub line : List ℕ
-  pub cause : IsSplit mode line
+  pub cause : IfSome left (IsScriptSplit line)
   pub written : Appends old new line
 
 -- ---- by the words

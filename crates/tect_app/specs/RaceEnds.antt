@@ -1,16 +1,18 @@
 -- What a race writes, and how it may end without a report.
-use Rattle.std.specs.Prelude.{ℕ, ◌≡◌, ◌≢◌, ◌⊎◌, ◌++◌, List, Option, codes}
+use Rattle.std.specs.Prelude.{ℕ, ◌≡◌, ◌++◌, List, Option, codes}
 use Rattle.std.specs.Fmt.{decimal}
 use Rattle.std.specs.Io.KnownBytes.{Appends}
+use Rattle.tect_ids.specs.declared.ids.Counts.{Counts}
 use Rattle.tect_ids.specs.declared.ids.Place.{Place}
 use Rattle.tect_ids.specs.declared.script.Plan.{Plan}
-use Rattle.place_kit.specs.declared.entry.Entry.{Entry}
-use Rattle.place_kit.specs.declared.entry.Label.{Label}
 use Rattle.world_runs.specs.declared.event.Event.{Event}
 use Rattle.world_runs.specs.Races.{race_report}
 use Rattle.tect_edge.specs.Prefixes.{AppendsProperPrefix}
 use Rattle.tect_replay.specs.Output.{lines_text, end_text}
-use Rattle.tect_race.specs.Raced.{IsRaceHistory}
+use Rattle.race_ends.specs.declared.fault.RaceFault.{RaceFault}
+use Rattle.race_ends.specs.declared.fault.RaceFault.TheVariants as faults
+use Rattle.race_ends.specs.Faults.{IsRaceFault}
+use Rattle.race_ends.specs.Raced.{IsRaceHistory}
 
 abbrev pub race_text : Plan → List Event → List ℕ
 race_text plan history = lines_text (race_report plan.counts plan.clients history) ++ end_text
@@ -33,21 +35,15 @@ split_text actor step = codes "split " ++ decimal actor ++ codes " " ++ decimal 
 abbrev pub astray_text : Place → List ℕ
 astray_text place = codes "astray " ++ decimal place.0 ++ codes "\n"
 
--- what the actor kept of its step, and what the places kept of it, are not the same
-pub record IsSplitLine (line : List ℕ) : Type 0 where
-  pub actor : ℕ
-  pub step : ℕ
-  pub in_pass : Option Entry
-  pub in_place : Option Entry
-  pub differ : in_pass ≢ in_place
-  pub line_is : line ≡ split_text actor step
+-- the line that names a fault: by the actor and the step of the two entries that differ, or by the place of the machine that was
+-- not found
+abbrev pub IsNamedBy : RaceFault → List ℕ → Type 0
+IsNamedBy faults.NoMemory line = ⊥
+IsNamedBy (faults.Split actor step in_pass in_place) line = line ≡ split_text actor step
+IsNamedBy (faults.Astray want found) line = line ≡ astray_text want.place
 
--- at a place another machine was found than the one that it was started with
-pub record IsAstrayLine (line : List ℕ) : Type 0 where
-  pub want : Label
-  pub found : Label
-  pub differ : found ≢ want
-  pub line_is : line ≡ astray_text want.place
-
-abbrev pub IsSplitCause : List ℕ → Type 0
-IsSplitCause line = IsSplitLine line ⊎ IsAstrayLine line
+-- the line names a fault that a race over so many places may come to
+pub record IsSplitLine (counts : Counts) (line : List ℕ) : Type 0 where
+  pub fault : RaceFault
+  pub cause : IsRaceFault counts fault
+  pub named : IsNamedBy fault line

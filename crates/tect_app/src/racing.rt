@@ -1,10 +1,10 @@
-ghost use Rattle.std.specs.Prelude.{◌≡◌, ◌≢◌, ◌≤◌, ◌⊎◌, ◌++◌, [], ℕ, List, IfOk, string_bytes};
+ghost use Rattle.std.specs.Prelude.{◌≡◌, ◌≢◌, ◌≤◌, ◌⊎◌, ◌++◌, [], ℕ, List, IfOk, IfSome, string_bytes};
 ghost use Rattle.std.specs.Io.KnownBytes.{Appends};
 ghost use Rattle.tect_edge.specs.Counts.{Rose};
 ghost use Rattle.tect_edge.specs.Prefixes.{AppendsProperPrefix};
 ghost use Rattle.tect_race.specs.Playable.{IsPlayable};
 ghost use Rattle.tect_replay.specs.Output.{lines_text, end_text};
-ghost use Rattle.tect_app.specs.RaceEnds.{split_text, astray_text, IsRaceShown, IsRaceCut, IsSplitCause};
+ghost use Rattle.tect_app.specs.RaceEnds.{split_text, astray_text, IsNamedBy, IsSplitLine, IsRaceShown, IsRaceCut};
 ghost use Rattle.tect_app.specs.Statuses.{IsReportStatus, IsRaceStatus};
 
 use crate::refusal::close;
@@ -46,19 +46,29 @@ fn astray_line(alloc: Global, place: Place) -> Result<String, AllocError>
     format!(in alloc; "astray {number}\n")
 }
 
-/// Writes the line of what differs, if there was memory for it.
-fn close_split<K: Sink>(line: Result<String, AllocError>, sink: &mut K) -> Status
-    requires { IfOk line (λ text. IsSplitCause (string_bytes text)) }
+/// The line that names what differs; `None` for want of memory.
+fn fault_line(alloc: Global, fault: &RaceFault) -> Option<String>
+    ensures { IfSome result (λ line. IsNamedBy fault.now (string_bytes line)) }
+{
+    match fault {
+        RaceFault::NoMemory => None,
+        RaceFault::Split { actor, step, .. } => split_line(alloc, *actor, *step).ok(),
+        RaceFault::Astray { want, .. } => astray_line(alloc, want.place).ok(),
+    }
+}
+
+/// Writes the line of a race that came to no report.
+fn refuse_race<K: Sink>(alloc: Global, fault: &RaceFault, sink: &mut K) -> Status
     ensures only { (result ≡ Status.Split) ⊎ ((result ≡ Status.NoMemory) ⊎ (result ≡ Status.WriteFault)) }
-    ensures whole { result ≡ Status.Split → (text : List ℕ) × IsSplitCause text × Appends (K.written sink.old) (K.written sink.new) text }
-    ensures part { result ≡ Status.WriteFault → (text : List ℕ) × IsSplitCause text × AppendsProperPrefix (K.written sink.old) (K.written sink.new) text }
+    ensures whole { result ≡ Status.Split → (line : List ℕ) × IsNamedBy fault.now line × Appends (K.written sink.old) (K.written sink.new) line }
+    ensures part { result ≡ Status.WriteFault → (line : List ℕ) × IsNamedBy fault.now line × AppendsProperPrefix (K.written sink.old) (K.written sink.new) line }
     ensures starved { result ≡ Status.NoMemory → Appends (K.written sink.old) (K.written sink.new) [] }
     ensures kept { result ≢ Status.WriteFault → K.faults sink.new ≡ K.faults sink.old }
     ensures failed { result ≡ Status.WriteFault → Rose (K.faults sink.old) (K.faults sink.new) }
 {
-    match line {
-        Ok(line) => close(sink, line.as_bytes(), Status::Split),
-        Err(_) => Status::NoMemory,
+    match fault_line(alloc, fault) {
+        Some(line) => close(sink, line.as_bytes(), Status::Split),
+        None => Status::NoMemory,
     }
 }
 
@@ -75,9 +85,9 @@ pub fn race_plan<R: Threads + Wait + Sync, K: Sink, G: Gate + Sync>(
     requires workers { (1 ≤ workers) × (workers ≤ 64) }
     ensures only { IsRaceStatus result }
     ensures whole { result ≡ Status.Ok → IsRaceShown plan.now (K.written sink.old) (K.written sink.new) }
-    ensures split { result ≡ Status.Split → (line : List ℕ) × IsSplitCause line × Appends (K.written sink.old) (K.written sink.new) line }
+    ensures split { result ≡ Status.Split → (line : List ℕ) × IsSplitLine plan.now.counts line × Appends (K.written sink.old) (K.written sink.new) line }
     ensures cut { result ≡ Status.WriteFault → IsRaceCut plan.now (K.written sink.old) (K.written sink.new)
-        ⊎ ((line : List ℕ) × IsSplitCause line × AppendsProperPrefix (K.written sink.old) (K.written sink.new) line) }
+        ⊎ ((line : List ℕ) × IsSplitLine plan.now.counts line × AppendsProperPrefix (K.written sink.old) (K.written sink.new) line) }
     ensures starved { result ≡ Status.NoMemory → Appends (K.written sink.old) (K.written sink.new) []
         ⊎ IsRaceCut plan.now (K.written sink.old) (K.written sink.new) }
     ensures kept { result ≢ Status.WriteFault → K.faults sink.new ≡ K.faults sink.old }
@@ -85,11 +95,6 @@ pub fn race_plan<R: Threads + Wait + Sync, K: Sink, G: Gate + Sync>(
 {
     match race(rt, alloc, plan, workers, gate) {
         Ok(raced) => show(alloc, raced.report.as_slice(), sink),
-        Err(RaceFault::NoMemory) => Status::NoMemory,
-        Err(RaceFault::Split { actor, step, .. }) => close_split(
-            split_line(alloc, actor, step),
-            sink,
-        ),
-        Err(RaceFault::Astray { want, .. }) => close_split(astray_line(alloc, want.place), sink),
+        Err(fault) => refuse_race(alloc, &fault, sink),
     }
 }

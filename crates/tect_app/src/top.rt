@@ -1,6 +1,6 @@
-ghost use Rattle.std.specs.Prelude.{◌≡◌, ◌≢◌, ◌≤◌, ◌⊎◌, map, string_bytes};
+ghost use Rattle.std.specs.Prelude.{◌≡◌, ◌≢◌, ◌≤◌, ◌⊎◌, ℕ, map, string_bytes};
 ghost use Rattle.tect_edge.specs.Counts.{Rose};
-ghost use Rattle.tect_app.specs.Modes.{SpellsNone};
+ghost use Rattle.tect_app.specs.Modes.{SpellsNone, SpellsRace};
 ghost use Rattle.tect_app.specs.Headline.{InMode, IsReadWithin, IsReported, IsUsage, IsRefused, IsReadFault, IsCut, IsCutOff, IsStarved, IsSplitEnd};
 ghost use Rattle.tect_app.specs.Statuses.{IsReportStatus};
 ghost use Rattle.tect_replay.specs.Replays.{IsReplayable, IsReplayed, IsCutReplay};
@@ -76,7 +76,7 @@ pub fn run_race<R: Threads + Wait + Sync, S: Source, K: Sink, G: Gate + Sync>(
     requires { (1 ≤ workers) × (workers ≤ 64) }
     ensures no_others { result ≢ Status.Usage }
     ensures reported { result ≡ Status.Ok → IsReported (Mode.Race workers) (S.left source.old) (S.left source.new) (K.written sink.old) (K.written sink.new) }
-    ensures split { result ≡ Status.Split → IsSplitEnd (Mode.Race workers) (S.left source.old) (S.left source.new) (K.written sink.old) (K.written sink.new) }
+    ensures split { result ≡ Status.Split → IsSplitEnd (S.left source.old) (S.left source.new) (K.written sink.old) (K.written sink.new) }
     ensures refused { result ≡ Status.BadScript → IsRefused (S.left source.old) (K.written sink.old) (K.written sink.new) Status.BadScript }
     ensures too_large { result ≡ Status.TooLarge → IsRefused (S.left source.old) (K.written sink.old) (K.written sink.new) Status.TooLarge }
     ensures read_fault { result ≡ Status.ReadFault → IsReadFault (Rose (S.faults source.old) (S.faults source.new)) (K.written sink.old) (K.written sink.new) }
@@ -132,8 +132,8 @@ pub fn run<R: Threads + Wait + Sync, S: Source, K: Sink, G: Gate + Sync>(
         (λ mode. IsStarved mode (S.left source.old) (K.written sink.old) (K.written sink.new)) }
 
     // 7 comes in a race alone, where two kept entries differ or two labels do, with the line that names them.
-    ensures split { result ≡ Status.Split → InMode (map string_bytes words.now)
-        (λ mode. IsSplitEnd mode (S.left source.old) (S.left source.new) (K.written sink.old) (K.written sink.new)) }
+    ensures split { result ≡ Status.Split → (workers : ℕ) × SpellsRace (map string_bytes words.now) workers
+        × IsSplitEnd (S.left source.old) (S.left source.new) (K.written sink.old) (K.written sink.new) }
 
     // No more than the limit and one byte is read, at least one byte a turn; other faults than these were not met.
     ensures taken { IsReadWithin 67108864 (S.left source.old) (S.left source.new) (S.calls source.old) (S.calls source.new) }
