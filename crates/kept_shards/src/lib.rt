@@ -7,3 +7,6 @@ mod opening;
 mod shards;
 
 pub use shards::KeptShards;
+
+#[cfg(test)]
+mod tests;

@@ -83,7 +83,8 @@ pub fn step_client(
     ensures life { IsLife client.new }
 {
     let actor = client.actor();
-    client.raise(*clock);
+    let last = *clock;
+    client.raise(last);
     let before = client.transactions();
     let turned = match client.step(shards) {
         Ok(turned) => turned,
