@@ -30,7 +30,7 @@ use Rattle.script_forms.specs.Reading.{out_of_state}
 use Rattle.script_forms.specs.Spelling.{AreLines, seen_of, is_told, plan_lines, Spells}
 use Rattle.world_runs.specs.Served.{IsServed}
 use Rattle.world_runs.specs.Turns.{ClientTurn, Idle, Busy, Gone, TakesAct, turn_after, Turns, all_idle, with_turn, InTurnFrom}
-use Rattle.tect_replay.specs.Replays.{IsShallow, IsBounded, IsWithin, IsReplayable}
+use Rattle.script_runs.specs.Playable.{IsShallow, IsBounded, IsWithin, IsPlayable}
 
 -- ---- commands
 
@@ -293,8 +293,8 @@ has_places counts are = record { names = are.names; files = are.files; blocks = 
 filter_le : {X : Type 0} (p : X → Bool) (xs : List X) → length (filter p xs) ≤ length xs
 filter_le p xs = omega (arith, length-filter_both p (λ x. not (p x)) (λ x. refl) xs)
 
-pub spelled_replayable : (bytes : List ℕ) (plan : Plan) → Spells bytes plan → IsReplayable plan
-spelled_replayable bytes plan s =
+pub spelled_playable : (bytes : List ℕ) (plan : Plan) → Spells bytes plan → IsPlayable plan
+spelled_playable bytes plan s =
     let is = s.plan_is in
     let told : length (filter is_told s.texts) ≡ length (plan_lines plan) = ap length s.told ∙ length-map (plan_lines plan) line_text in
     record {

@@ -1,7 +1,8 @@
 ghost use Rattle.std.specs.Prelude.{◌≡◌, ◌≢◌, ◌⊎◌, ◌↔◌, IsTrue, map, string_bytes};
 ghost use Rattle.tect_edge.specs.Counts.{Rose};
 ghost use Rattle.tect_app.specs.Headline.{AreReplay, IsReadWithin, IsReported, IsUsage, IsRefused, IsReadFault, IsCut, IsCutOff, IsStarved, IsReplayStatus};
-ghost use Rattle.tect_replay.specs.Replays.{IsReplayable, IsReplayed, IsCutReplay};
+ghost use Rattle.script_runs.specs.Playable.{IsPlayable};
+ghost use Rattle.tect_replay.specs.Replays.{IsReplayed, IsCutReplay};
 
 use crate::input::{InputFault, read_plan};
 use crate::refusal::{close, refuse};
@@ -22,7 +23,7 @@ fn are_replay(words: &[String]) -> bool
 
 /// Plays a plan, and answers with which status that ended.
 fn play<K: Sink>(alloc: Global, plan: &Plan, sink: &mut K) -> Status
-    requires { IsReplayable plan.now }
+    requires { IsPlayable plan.now }
     ensures only { IsReplayStatus result }
     ensures whole { result ≡ Status.Ok → IsReplayed plan.now (K.written sink.old) (K.written sink.new) }
     ensures cut { result ≢ Status.Ok → IsCutReplay plan.now (K.written sink.old) (K.written sink.new) }

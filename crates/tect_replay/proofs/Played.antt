@@ -26,7 +26,7 @@ use Rattle.script_runs.specs.Smooth.{EndIsNext, EndsAtOnce}
 use Rattle.script_runs.proofs.AtOnce.{not_both}
 use Rattle.tect_world.specs.Life.{Life, present, grown, last_op, next_op}
 use Rattle.tect_world.specs.Steps.{EndsWith, RanToEnd}
-use Rattle.tect_replay.specs.Replays.{IsShallow}
+use Rattle.script_runs.specs.Playable.{IsShallow}
 use Rattle.tect_replay.specs.Plays.{AllShallow, StepsUpTo, PlaysAct, PlaysLine}
 use Rattle.tect_replay.proofs.Results.{some_of}
 use Rattle.tect_replay.proofs.Shallow.{shallow-append}

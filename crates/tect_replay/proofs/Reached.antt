@@ -34,7 +34,8 @@ use Rattle.script_runs.proofs.RunOn.{each_script_can_be_run_on}
 use Rattle.script_runs.proofs.Fixed.{script_fixes_run}
 use Rattle.tect_world.specs.Life.{Life, present}
 use Rattle.tect_replay.specs.Output.{lines_text, end_text, plan_report, AppendsPrefix}
-use Rattle.tect_replay.specs.Replays.{IsWithin, IsReplayable, IsNotOdd, IsHistoryOf, IsCutReplay}
+use Rattle.script_runs.specs.Playable.{IsWithin, IsPlayable}
+use Rattle.tect_replay.specs.Replays.{IsNotOdd, IsHistoryOf, IsCutReplay}
 use Rattle.tect_replay.specs.Plays.{AllShallow, CanStart, CanDo, CanPlay, PlaysLine}
 use Rattle.tect_replay.proofs.Shallow.{shallow-append}
 use Rattle.tect_replay.proofs.Texts.{prefix_longer, prefix_less, lines-append}
@@ -88,7 +89,7 @@ all_step_on : (clients : ℕ) (ls : List Line) → AllByRecursion (IsWithin clie
 all_step_on clients [] all = tt
 all_step_on clients (l ∷ ls) all = (step_on clients l all.0, all_step_on clients ls all.1)
 
-pub history_of : (plan : Plan) (history : List Event) → IsReplayable plan → IsWorldRun plan.counts history → Follows plan.lines history → EndsAtOnce (opening plan.counts) history → IsHistoryOf plan history
+pub history_of : (plan : Plan) (history : List Event) → IsPlayable plan → IsWorldRun plan.counts history → Follows plan.lines history → EndsAtOnce (opening plan.counts) history → IsHistoryOf plan history
 history_of plan history is run follows at_once = record {
   run = run;
   follows = follows;
@@ -152,7 +153,7 @@ split_at : {X : Type 0} (xs : List X) (i : ℕ) (x : X) → i < length xs → x 
 split_at xs i x lt at =
     sym (take-append-drop (i + 1) xs) ∙ ap (λ l. l ++ drop (i + 1) xs) (take_more xs i x lt ∙ ap (λ d. take i xs ++ d ∷ []) (sym at)) ∙ append_assoc (take i xs) (x ∷ []) (drop (i + 1) xs)
 
-module _ (plan : Plan) (i : ℕ) (world : Life) (line : Line) (is : IsReplayable plan) (lt : i < length plan.lines) (at : line ≡ get_or plan.lines i line)
+module _ (plan : Plan) (i : ℕ) (world : Life) (line : Line) (is : IsPlayable plan) (lt : i < length plan.lines) (at : line ≡ get_or plan.lines i line)
     (r : HasPlayed plan (take i plan.lines) world) where
   split : plan.lines ≡ take i plan.lines ++ line ∷ drop (i + 1) plan.lines
   split = split_at plan.lines i line lt at
@@ -226,7 +227,7 @@ module _ (plan : Plan) (i : ℕ) (world : Life) (line : Line) (is : IsReplayable
 
 -- ---- a report that was cut off, and a whole one
 
-pub cut_by : (plan : Plan) (n : ℕ) (world : Life) (old new : Option (List ℕ)) → IsReplayable plan → HasPlayed plan (take n plan.lines) world
+pub cut_by : (plan : Plan) (n : ℕ) (world : Life) (old new : Option (List ℕ)) → IsPlayable plan → HasPlayed plan (take n plan.lines) world
     → AppendsPrefix old new (lines_text (plan_report plan world.history)) → IsCutReplay plan old new
 cut_by plan n world old new is r part =
     let all : take n plan.lines ++ drop n plan.lines ≡ plan.lines = take-append-drop n plan.lines in
@@ -241,5 +242,5 @@ cut_by plan n world old new is r part =
       written = prefix_less old new (lines_text (plan_report plan whole)) end_text (rw text (prefix_longer old new _ _ part)) (omega arith);
     }
 
-pub history_all : (plan : Plan) (n : ℕ) (world : Life) → IsReplayable plan → length plan.lines ≤ n → HasPlayed plan (take n plan.lines) world → IsHistoryOf plan world.history
+pub history_all : (plan : Plan) (n : ℕ) (world : Life) → IsPlayable plan → length plan.lines ≤ n → HasPlayed plan (take n plan.lines) world → IsHistoryOf plan world.history
 history_all plan n world is le r = history_of plan world.history is r.run (subst (λ ls. Follows ls world.history) (take_all n plan.lines le) r.follows) r.at_once

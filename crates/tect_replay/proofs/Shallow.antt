@@ -11,7 +11,7 @@ use Rattle.world_runs.specs.Headline.{command_of, or_later}
 use Rattle.world_runs.specs.Report.{transactions}
 use Rattle.run_bounds.specs.Bounds.{first_path}
 use Rattle.run_bounds.proofs.RunsShort.{each_is_short, idle_has_none}
-use Rattle.tect_replay.specs.Replays.{IsShallow}
+use Rattle.script_runs.specs.Playable.{IsShallow}
 use Rattle.tect_replay.specs.Plays.{AllShallow}
 
 pub shallow-append : (es fs : List Event) → AllShallow es → AllShallow fs → AllShallow (es ++ fs)

@@ -18,7 +18,7 @@ use Rattle.script_runs.specs.Standing.{busy_at}
 use Rattle.script_runs.specs.Smooth.{EndsAtOnce}
 use Rattle.tect_world.specs.Life.{Life, present, grown}
 use Rattle.tect_world.specs.Steps.{RanToEnd}
-use Rattle.tect_replay.specs.Replays.{IsShallow}
+use Rattle.script_runs.specs.Playable.{IsShallow}
 use Rattle.tect_replay.specs.declared.lines.Shown.{Shown}
 use Rattle.tect_replay.specs.declared.lines.Shown.TheVariants as shown
 

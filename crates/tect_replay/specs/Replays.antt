@@ -1,19 +1,14 @@
--- Which plans can be replayed, and what is claimed of a replay.
-use Rattle.std.specs.Prelude.{◌≡◌, ◌≢◌, ℕ, ◌<◌, ◌≤◌, ◌^◌, Option, Some, List, length}
+-- What is claimed of a replay.
+use Rattle.std.specs.Prelude.{◌≡◌, ◌≢◌, ℕ, Option, Some, List}
 use Rattle.std.specs.Io.KnownBytes.{Appends}
 use Rattle.std.specs.List.{AllByRecursion}
 use Rattle.tect_ids.specs.declared.ids.OpId.{OpId}
 use Rattle.tect_ids.specs.declared.ids.Place.{Place}
 use Rattle.tect_ids.specs.declared.answer.Answer.TheVariants as answers
 use Rattle.tect_ids.specs.declared.command.Command.{Command}
-use Rattle.tect_ids.specs.declared.script.Act.{Act}
-use Rattle.tect_ids.specs.declared.script.Act.TheVariants as acts
-use Rattle.tect_ids.specs.declared.script.Line.{Line}
-use Rattle.tect_ids.specs.declared.script.Line.TheVariants as lines
 use Rattle.tect_ids.specs.declared.script.Plan.{Plan}
 use Rattle.tect_ids.specs.declared.script.ReportLine.{ReportLine}
 use Rattle.tect_ids.specs.declared.script.ReportLine.TheVariants as report_lines
-use Rattle.tect_ids.specs.Places.{HasPlaces}
 use Rattle.tect_edge.specs.Prefixes.{AppendsProperPrefix}
 use Rattle.tree_model.specs.Tree.{opening_tree}
 use Rattle.world_runs.specs.declared.event.Event.{Event}
@@ -21,37 +16,10 @@ use Rattle.world_runs.specs.Moments.{opening, IsWorldRun, AtEachMoment}
 use Rattle.world_runs.specs.Sound.{IsSound}
 use Rattle.world_runs.specs.Headline.{Headline, command_of}
 use Rattle.world_runs.specs.Follows.{Follows, NoneFails}
-use Rattle.world_runs.specs.Turns.{InTurn}
 use Rattle.tree_runs.specs.Session.{IsPlayed, session_lines, session_script}
-use Rattle.run_bounds.specs.Bounds.{IsShort, first_path}
+use Rattle.run_bounds.specs.Bounds.{IsShort}
 use Rattle.script_runs.specs.Smooth.{EndsAtOnce, IsSmoothRun}
 use Rattle.tect_replay.specs.Output.{plan_report, output_text}
-
--- ---- the plans
-
--- the path that the command walks has at most 256 names
-abbrev pub IsShallow : Command → Type 0
-IsShallow c = length (first_path c) ≤ 256
-
--- a command that begins is shallow, and a step is of one transaction or more
-abbrev pub IsBounded : Act → Type 0
-IsBounded (acts.Do c) = IsShallow c
-IsBounded (acts.Begin c) = IsShallow c
-IsBounded (acts.Step n) = 1 ≤ n
-IsBounded act = Unit {0}
-
--- the line is of one of so many clients, and what it asks is bounded
-abbrev pub IsWithin : ℕ → Line → Type 0
-IsWithin clients (lines.Client client actor act) = (actor ≤ clients) × IsBounded act
-IsWithin clients line = Unit {0}
-
-pub record IsReplayable (plan : Plan) : Type 0 where
-  pub places : HasPlaces plan.counts
-  pub in_turn : InTurn plan.lines
-  pub few : length plan.lines < 2 ^ 31
-  pub within : AllByRecursion (IsWithin (length plan.clients)) plan.lines
-
--- ---- the claim
 
 -- the line does not say that a reply was odd
 abbrev pub IsNotOdd : ReportLine → Type 0

@@ -1,6 +1,7 @@
 ghost use Rattle.std.specs.Prelude.{◌≡◌, IsErrOf, OnOk, OnErr};
 ghost use Rattle.tect_edge.specs.Counts.{Rose};
-ghost use Rattle.tect_replay.specs.Replays.{IsReplayable, IsReplayed as Replayed, IsCutReplay};
+ghost use Rattle.script_runs.specs.Playable.{IsPlayable};
+ghost use Rattle.tect_replay.specs.Replays.{IsReplayed as Replayed, IsCutReplay};
 
 use crate::fault::ReplayFault;
 use crate::lines::play_line;
@@ -15,7 +16,7 @@ use tect_world::World;
 ///
 /// `NoMemory` comes for want of memory, and `Failed` where the sink failed. What was written is then a front of a report.
 pub fn replay<K: Sink>(alloc: Global, plan: &Plan, sink: &mut K) -> Result<(), ReplayFault>
-    requires { IsReplayable plan.now }
+    requires { IsPlayable plan.now }
     ensures whole { OnOk result (Replayed plan.now (K.written sink.old) (K.written sink.new)) }
     ensures cut { OnErr result (IsCutReplay plan.now (K.written sink.old) (K.written sink.new)) }
     ensures kept { ¬ IsErrOf result ReplayFault.Failed → K.faults sink.new ≡ K.faults sink.old }
