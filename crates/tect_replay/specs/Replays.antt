@@ -16,6 +16,7 @@ use Rattle.world_runs.specs.Moments.{opening, IsWorldRun, AtEachMoment}
 use Rattle.world_runs.specs.Sound.{IsSound}
 use Rattle.world_runs.specs.Headline.{Headline, command_of}
 use Rattle.world_runs.specs.Follows.{Follows, NoneFails}
+use Rattle.noted_runs.specs.Limits.{KeepsLimits}
 use Rattle.tree_runs.specs.Session.{IsPlayed, session_lines, session_script}
 use Rattle.run_bounds.specs.Bounds.{IsShort}
 use Rattle.script_runs.specs.Smooth.{EndsAtOnce, IsSmoothRun}
@@ -39,9 +40,11 @@ IsOnlyRun plan history = NoneFails history → (other : List Event) → IsSmooth
 
 -- The history is one that the world has under the script: a run of the world that follows the script's lines, in which
 -- each command ends as soon as it has its answer; sound at each moment; and each answer is the one that the tree gives at the
--- command's point, or says that there was no room to begin. Each command takes few transactions.
+-- command's point, or says that there was no room to begin. Each command takes few transactions. Ops are refused, and end for want
+-- of room, just where their actor's own history is full.
 pub record IsHistoryOf (plan : Plan) (history : List Event) : Type 0 where
   pub run : IsWorldRun plan.counts history
+  pub limits : KeepsLimits plan.counts history
   pub follows : Follows plan.lines history
   pub at_once : EndsAtOnce (opening plan.counts) history
   pub sound : AtEachMoment IsSound plan.counts history
