@@ -21,11 +21,10 @@ use Rattle.world_runs.specs.Moments.{Moment, after, opening, moment, RunFrom, Is
 use Rattle.world_runs.specs.Follows.{Follows, FollowsFrom}
 use Rattle.world_runs.specs.Turns.{Turns, ClientTurn, Idle, Busy as IsBusy, Gone, TakesAct, turn_after, with_turn, all_idle, turns_after, InTurn, InTurnFrom}
 use Rattle.world_runs.specs.Report.{lines_at, report_after}
-use Rattle.sound_runs.proofs.RunsKeep.{sound_at_each_moment, no_run_answers_odd}
-use Rattle.tree_runs.proofs.Headlines.{run_headline}
+use Rattle.sound_runs.proofs.RunsKeep.{no_run_answers_odd}
 use Rattle.tree_runs.proofs.Scripts.{session_reported}
 use Rattle.tree_runs.proofs.Histories.{after_all-append, run-append, report-append}
-use Rattle.run_bounds.proofs.RunsShort.{each_is_short}
+use Rattle.run_claims.proofs.Claims.{every_run_is_claimed}
 use Rattle.script_runs.specs.Standing.{busy_at, AtTurn}
 use Rattle.script_runs.specs.Smooth.{EndsAtOnce, StepsOn, AllStepOn}
 use Rattle.script_runs.proofs.AtOnce.{at_once-append}
@@ -95,14 +94,10 @@ all_step_on clients (l ∷ ls) all = (step_on clients l all.0, all_step_on clien
 
 pub history_of : (plan : Plan) (history : List Event) → IsPlayable plan → IsWorldRun plan.counts history → KeepsLimits plan.counts history → Follows plan.lines history → EndsAtOnce (opening plan.counts) history → IsHistoryOf plan history
 history_of plan history is run limits follows at_once = record {
-  run = run;
-  limits = limits;
+  claim = every_run_is_claimed plan.counts history run limits;
   follows = follows;
   at_once = at_once;
-  sound = sound_at_each_moment plan.counts history run;
-  answers = run_headline plan.counts history run;
   none_odd = none_odd_after plan.counts plan.clients [] history tt run;
-  short = each_is_short plan.counts history run;
   alone = λ client cs same played none. session_reported plan.counts plan.clients client cs history played run none (subst (λ ls. Follows ls history) same follows);
   fixed = λ none other smooth follows'.
       script_fixes_run plan.counts plan.lines other history (all_step_on (length plan.clients) plan.lines is.within) smooth (record { run = run; none_fails = none; at_once = at_once }) follows' follows;

@@ -5,5 +5,7 @@ pub mod Lives
 pub mod Ranks
 pub mod Running
 pub mod Idle
+pub mod Marking
 pub mod OneStep
+pub mod Outcomes
 pub mod Worlds

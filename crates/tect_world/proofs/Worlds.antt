@@ -44,7 +44,9 @@ use Rattle.tect_world.specs.Inside.{life_of, IsWorld}
 use Rattle.tect_world.specs.Life.{Life, present, grown, last_op, next_op, actor_asks, actor_answer, actor_events, transaction, step_answer, step_events}
 use Rattle.tect_world.specs.Steps.{HasBegun, FailsWith, Stepped}
 use Rattle.tect_world.proofs.Lives.{Grows, of_one, grows, stays, world_run, world_store, world_owns, world_state}
-use Rattle.tect_world.proofs.OneStep.{told_all, marked_all, step_few, marks_length, same_actor, same_counts, clock_rises, clock_early, step_replies, next_is, places_then, outcome, Outcome}
+use Rattle.tect_world.proofs.Marking.{told_all, marked_all, step_few, marks_length}
+use Rattle.tect_world.proofs.OneStep.{same_actor, same_counts, clock_rises, clock_early, step_replies, next_is, places_then}
+use Rattle.tect_world.proofs.Outcomes.{outcome, Outcome}
 use Rattle.tect_world.proofs.Running.{own_program}
 
 -- an end for want of memory or room

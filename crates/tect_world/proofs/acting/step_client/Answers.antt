@@ -7,7 +7,9 @@ use Rattle.tect_world.specs.declared.marks.Mark.{Mark}
 use Rattle.tect_world.specs.Clients.{raised}
 use Rattle.tect_world.specs.ClientSteps.{act_marks, end_marks}
 use Rattle.actors.specs.declared.turned.Turned.{Turned}
-use Rattle.tect_world.proofs.OneStep.{acted_is, has_act, same_actor, same_counts, step_marked}
+use Rattle.tect_world.proofs.Marking.{has_act, step_marked}
+use Rattle.tect_world.proofs.OneStep.{same_actor, same_counts}
+use Rattle.tect_world.proofs.Outcomes.{acted_is}
 use Rattle.tect_world.proofs.acting.step_client.Goals as goal
 
 pub returns-clause-step : goal.returns-clause-step
