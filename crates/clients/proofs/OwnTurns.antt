@@ -1,6 +1,6 @@
 -- the turn of an actor with its pass, as a step of its client's life
 use Rattle.std.proofs.Common.{◌≡◌, ℕ, ◌+◌, inl, inr, Option, Some, None, IsSome, List, [], ◌∷◌, ◌++◌, length, refl, sym, ap, ◌∙◌, subst, arith, append_assoc}
-use Rattle.std.specs.Prelude.{Result}
+use Rattle.std.specs.Prelude.{Result, Ok}
 use Rattle.std.proofs.lemmas.List.{append-nil}
 use Rattle.tect_ids.specs.declared.ids.Counts.{Counts}
 use Rattle.tect_ids.specs.declared.ids.OpId.{OpId}
@@ -27,7 +27,7 @@ use Rattle.actors.specs.Turns.{turned_by}
 use Rattle.clients.specs.declared.turns.Turn.{Turn}
 use Rattle.clients.specs.Commits.{entry_at}
 use Rattle.clients.specs.Lives.{ClientLife, events_in, state_in, op_in}
-use Rattle.clients.specs.Steps.{Tried, Unasked, Did, Denied, Asks, state_after, EndsSo, entry_in, tried_life, ended_life, tried_events, end_events, is_later, OwnStep, WentAstray}
+use Rattle.clients.specs.Steps.{Tried, Unasked, Did, Denied, Asks, DidThere, state_after, EndsSo, entry_in, tried_life, ended_life, tried_events, end_events, is_later, OwnStep, WentAstray}
 use Rattle.clients.specs.Turns.{Finishes, Tries, act_count, after_try, TookTurn, LostTurn}
 use Rattle.clients.proofs.Stages.{own_events, Stage, pushed_events, runs_op, heard_some, acted_pushed, acted_stage, Because, ended_pushed, ended_stage}
 

@@ -1,9 +1,8 @@
 -- the step of an op that was refused: its end
-use Rattle.std.proofs.Common.{◌≡◌, ◌≢◌, inl, Option, Some, None, IsSome, List, [], ◌∷◌, ◌++◌, refl, sym, ap, ◌∙◌, append_assoc}
+use Rattle.std.proofs.Common.{ℕ, ◌≡◌, ◌≢◌, inl, Option, Some, None, IsSome, List, [], ◌∷◌, ◌++◌, refl, sym, ap, ◌∙◌, append_assoc}
 use Rattle.std.specs.Prelude.{Result}
 use Rattle.tect_ids.specs.declared.ids.OpId.{OpId}
 use Rattle.store_rules.specs.declared.any.AnyReq.{AnyReq}
-use Rattle.store_rules.specs.declared.any.AnyReply.{AnyReply}
 use Rattle.op_names.specs.declared.program.Program.{Program}
 use Rattle.place_kit.specs.declared.entry.Entry.{Entry}
 use Rattle.place_kit.specs.declared.entry.Refused.{Refused}
