@@ -3,8 +3,10 @@
 #![tactic(auto)]
 
 mod acting;
+mod history;
 mod marks;
 mod world;
 
 pub use actors::Turned;
+pub use merge_runs::Merged;
 pub use world::World;
