@@ -10,3 +10,6 @@ mod world;
 pub use actors::Turned;
 pub use merge_runs::Merged;
 pub use world::World;
+
+#[cfg(test)]
+mod tests;
