@@ -1,0 +1,14 @@
+pub mod Events
+pub mod Slots
+pub mod Racing
+pub mod CrewLines
+pub mod Dealing
+pub mod Parts
+pub mod Mustering
+pub mod Endings
+pub mod Stories
+pub mod Dumps
+pub mod Finished
+pub mod Looping
+pub mod Crossing
+pub mod Playing

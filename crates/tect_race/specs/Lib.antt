@@ -1,0 +1,6 @@
+pub mod Lines
+pub mod Crews
+pub mod Ready
+pub mod Faults
+pub mod Standing
+pub mod Done
