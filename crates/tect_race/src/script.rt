@@ -1,7 +1,7 @@
 ghost use Rattle.std.specs.Prelude.{◌≡◌, ◌<◌, ◌≤◌, ◌^◌, IfOk, IfErr, length};
 ghost use Rattle.std.specs.List.{All};
 ghost use Rattle.tect_ids.specs.Places.{HasPlaces};
-ghost use Rattle.tect_race.specs.Faults.{IsStray};
+ghost use Rattle.race_ends.specs.Faults.{IsLossOf};
 ghost use Rattle.race_ends.specs.HaveRun.{HaveRun};
 ghost use Rattle.tect_race.specs.Done.{AreNew, IsScript};
 
@@ -53,7 +53,7 @@ pub fn run_script<R: Threads + Wait + Sync, G: Gate + Sync>(
     requires clients { length course.now.clients.now ≤ 64 }
     requires script { IsScript (length course.now.clients.now) course.now.lines.now }
     ensures run { IfOk result (λ run. HaveRun counts course.now.clients.now course.now.lines.now run.racers.items run.ended.items run.last.items) }
-    ensures fault { IfErr result IsStray }
+    ensures fault { IfErr result (IsLossOf course.now.places.now) }
 {
     let alloc = course.alloc;
     let mut racers = new_racers(alloc, counts, course.clients.len())?;
