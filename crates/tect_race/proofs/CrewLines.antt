@@ -14,7 +14,7 @@ use Rattle.racers.specs.Lines.{Plays}
 use Rattle.tect_race.specs.Lines.{Ran, PlaysOrRests}
 use Rattle.tect_race.specs.Crews.{CrewPlays, CrewRan}
 use Rattle.tect_race.specs.Ready.{IsReady, IsCrew, IsOfClient}
-use Rattle.tect_race.proofs.Racing.{adds_actor, ran_none, ran_on, ready_on}
+use Rattle.tect_race.proofs.RacerLines.{adds_actor, ran_none, ran_on, ready_on}
 use Rattle.tect_race.proofs.Slots.{also_at, same_at, some_at, set_here, set_there, stands, place_crew, place_slot, decide}
 
 pub crew_ran_none : (names : List (List ℕ)) (c : Crew) → CrewRan names [] c c

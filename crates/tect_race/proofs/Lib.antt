@@ -1,6 +1,6 @@
 pub mod Events
 pub mod Slots
-pub mod Racing
+pub mod RacerLines
 pub mod CrewLines
 pub mod Losses
 pub mod Dealing

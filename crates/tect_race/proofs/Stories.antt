@@ -25,7 +25,7 @@ use Rattle.tect_race.specs.Lines.{Ran}
 use Rattle.tect_race.specs.Crews.{Closed}
 use Rattle.tect_race.specs.Standing.{Stands, all_silent, last_clock}
 use Rattle.tect_race.proofs.Events.{filter-append, does_lines-append, own_lines-append, both_news, none_before}
-use Rattle.tect_race.proofs.Racing.{adds_actor, adds_counts, adds_moments, adds_silent, adds_events}
+use Rattle.tect_race.proofs.RacerLines.{adds_actor, adds_counts, adds_moments, adds_silent, adds_events}
 
 -- ---- one list for all parts
 
