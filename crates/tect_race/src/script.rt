@@ -7,10 +7,9 @@ ghost use Rattle.tect_race.specs.Progress.{HasCome};
 
 use crate::closing::end_part;
 use crate::course::Course;
-use race_ends::EndedPart;
-use race_ends::RaceFault;
 use crate::part::run_part;
 use clients::Client;
+use race_ends::{EndedPart, RaceFault};
 use racers::Racer;
 use std::alloc::Global;
 use std::sync::Wait;
@@ -58,6 +57,7 @@ fn end_at_dump<R: Threads + Wait + Sync, G: Gate + Sync>(
     progress: Progress,
     dump: usize,
 ) -> Result<Progress, RaceFault>
+    requires places { HasPlaces course.now.places.now }
     requires workers { 0 < course.now.workers }
     requires dump { slice_get course.now.lines.now dump ≡ Some Line.Dump }
     requires come { HasCome course.now.places.now course.now.clients.now course.now.lines.now dump progress }

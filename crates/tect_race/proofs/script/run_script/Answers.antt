@@ -1,10 +1,9 @@
-use Rattle.std.proofs.Common.{◌≡◌, ◌+◌, [], List, length, sym, subst, ◌∙◌, arith}
+use Rattle.std.proofs.Common.{◌+◌, [], List, length, sym, subst, ◌∙◌, arith}
 use Rattle.std.proofs.lemmas.Bool.{false≢true}
 use Rattle.tect_ids.specs.declared.script.Line.{Line}
 use Rattle.race_ends.specs.declared.ended.EndedPart.{EndedPart}
 use Rattle.tect_race.specs.Progress.{Stood, HasCome}
 use Rattle.tect_race.specs.Ready.{IsOfClient}
-use Rattle.tect_race.specs.declared.script.Progress.{Progress}
 use Rattle.tect_race.proofs.Coming.{come_past}
 use Rattle.tect_race.proofs.Looping.{stood_new}
 use Rattle.tect_race.proofs.Parts.{none_yet}
@@ -30,9 +29,9 @@ lines-preserved g c =
     let ls : List Line = c.args.course.now.lines.now in
     let next = c.lines.number + 1 in
     elim c.if-matches.branch [
-      then-matches+in_ok-progress w ↦ subst (HasCome counts names ls next) (sym w.progress-is) w.in_ok-progress.ensures.dumped
-    | else-matches w ↦
-        let come = come_past counts names ls c.lines.progress c.lines.number c.line-item.result c.lines-test.true c.line-item.is
-        (elim c.match-matches.branch [ in-Dump v ↦ absurd (false≢true (sym w.if-matches.false ∙ v.matches-is)) | in_default v ↦ v.in_default.not-Dump ]) c.requires.script.asked c.lines.invariant in
-        subst (HasCome counts names ls next) (sym w.progress-is) come
+      | then-matches+in_ok-progress w ↦ subst (HasCome counts names ls next) (sym w.progress-is) w.in_ok-progress.ensures.dumped
+      | else-matches w ↦
+          let come = come_past counts names ls c.lines.progress c.lines.number c.line-item.result c.lines-test.true c.line-item.is
+          (elim c.match-matches.branch [ in-Dump v ↦ absurd (false≢true (sym w.if-matches.false ∙ v.matches-is)) | in_default v ↦ v.in_default.not-Dump ]) c.requires.script.asked c.lines.invariant in
+          subst (HasCome counts names ls next) (sym w.progress-is) come
     ]
