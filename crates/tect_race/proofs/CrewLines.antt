@@ -10,16 +10,7 @@ use Rattle.script_runs.specs.Standing.{AtTurn}
 use Rattle.clients.specs.Lives.{state_in}
 use Rattle.racers.specs.declared.racer.Racer.{Racer}
 use Rattle.tect_race.specs.declared.crew.Crew.{Crew}
-use Rattle.store_rules.specs.declared.any.AnyReq.{AnyReq}
-use Rattle.store_rules.specs.declared.any.AnyReply.{AnyReply}
-use Rattle.place_kit.specs.declared.entry.Refused.{Refused}
-use Rattle.store_rules.specs.Places.{request_place}
-use Rattle.place_locks.specs.Commits.{IsRefusalFor}
-use Rattle.place_locks.specs.Started.{label_at}
-use Rattle.racers.specs.declared.fault.RacerFault.{RacerFault}
-use Rattle.racers.specs.declared.fault.RacerFault.TheVariants as racer_faults
-use Rattle.racers.specs.Lines.{Plays, IsFaultOf}
-use Rattle.tect_race.specs.Faults.{IsStrayRacer}
+use Rattle.racers.specs.Lines.{Plays}
 use Rattle.tect_race.specs.Lines.{Ran, PlaysOrRests}
 use Rattle.tect_race.specs.Crews.{CrewPlays, CrewRan}
 use Rattle.tect_race.specs.Ready.{IsReady, IsCrew, IsOfClient}
@@ -132,13 +123,6 @@ on_ok (Ok x) (Ok y) k f h = f h
 on_ok (Ok x) (Err e) k f h = tt
 on_ok (Err e) (Ok y) k f h = let w = k refl in cc
 on_ok (Err e) (Err d) k f h = tt
-
--- a client that is astray found another machine
-pub stray_racer : {W : Type 0} → (counts : W → Counts) (o : Result (Unit {0}) RacerFault)
-    → IfErr o (IsFaultOf (λ (w v : W) (q : AnyReq) (r : Result AnyReply Refused). IfErr r (IsRefusalFor (label_at (counts w) (request_place (counts w) q).0)))) → IfErr o IsStrayRacer
-stray_racer counts (Ok x) f = tt
-stray_racer counts (Err racer_faults.NoMemory) f = tt
-stray_racer counts (Err (racer_faults.Astray want found)) f = (f.3).1
 
 module _ (counts : Counts) (names : List (List ℕ)) (clients workers : ℕ) (line : Line) (client : List ℕ) (actor : ℕ) (act : Act) (c : Crew)
     (is : line ≡ lines.Client client actor act) (of : IsOfClient clients line) (ready : (later : List Line) × IsCrew counts clients workers (line ∷ later) c) where

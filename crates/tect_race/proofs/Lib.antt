@@ -2,6 +2,7 @@ pub mod Events
 pub mod Slots
 pub mod Racing
 pub mod CrewLines
+pub mod Losses
 pub mod Dealing
 pub mod Parts
 pub mod Mustering

@@ -9,7 +9,7 @@ use Rattle.tect_ids.specs.declared.script.Line.{Line}
 use Rattle.racers.specs.declared.racer.Racer.{Racer}
 use Rattle.tect_race.specs.declared.crew.Crew.{Crew}
 use Rattle.race_ends.specs.declared.fault.RaceFault.{RaceFault}
-use Rattle.tect_race.specs.Faults.{IsStray}
+use Rattle.race_ends.specs.Faults.{IsLossOf}
 use Rattle.tect_race.specs.Lines.{Ran}
 use Rattle.tect_race.specs.Crews.{CrewRan, CrewEnds, CrewCame, CrewsRan, RacersRan}
 use Rattle.tect_race.specs.Ready.{IsReady, IsCrew, AreRacers, AreCrews, AreDealt}
@@ -168,18 +168,18 @@ all_came counts names w ls later cs rs l h =
         subst (λ (x : Crew). CrewCame counts names w ls later x r) (get_or_from_slice_get cs i c c e)
             (subst (λ (y : Result Crew RaceFault). CrewCame counts names w ls later (get_or cs i c) y) (get_or_from_slice_get rs i r r f) (h i c r (slice_get_within cs i c e))))
 
-stray_of : (counts : Counts) (names : List (List ℕ)) (w : ℕ) (ls later : List Line) (c : Crew) (r : Result Crew RaceFault) → CrewCame counts names w ls later c r → IfErr r IsStray
+stray_of : (counts : Counts) (names : List (List ℕ)) (w : ℕ) (ls later : List Line) (c : Crew) (r : Result Crew RaceFault) → CrewCame counts names w ls later c r → IfErr r (IsLossOf counts)
 stray_of counts names w ls later c (Ok d) came = tt
 stray_of counts names w ls later c (Err e) came = came.so
 
-came_strays : (counts : Counts) (names : List (List ℕ)) (w : ℕ) (ls later : List Line) (cs : List Crew) (rs : List (Result Crew RaceFault)) → AllZip (CrewCame counts names w ls later) cs rs → AllByRecursion (λ r. IfErr r IsStray) rs
+came_strays : (counts : Counts) (names : List (List ℕ)) (w : ℕ) (ls later : List Line) (cs : List Crew) (rs : List (Result Crew RaceFault)) → AllZip (CrewCame counts names w ls later) cs rs → AllByRecursion (λ r. IfErr r (IsLossOf counts)) rs
 came_strays counts names w ls later [] [] z = tt
 came_strays counts names w ls later [] (r ∷ rs) z = absurd z
 came_strays counts names w ls later (c ∷ cs) [] z = absurd z
 came_strays counts names w ls later (c ∷ cs) (r ∷ rs) z = (stray_of counts names w ls later c r z.0, came_strays counts names w ls later cs rs z.1)
 
-pub strays : (counts : Counts) (names : List (List ℕ)) (w : ℕ) (ls later : List Line) (cs : List Crew) (rs : List (Result Crew RaceFault)) → AllZip (CrewCame counts names w ls later) cs rs → All (λ r. IfErr r IsStray) rs
-strays counts names w ls later cs rs z = All-from_recursion (λ r. IfErr r IsStray) rs (came_strays counts names w ls later cs rs z)
+pub strays : (counts : Counts) (names : List (List ℕ)) (w : ℕ) (ls later : List Line) (cs : List Crew) (rs : List (Result Crew RaceFault)) → AllZip (CrewCame counts names w ls later) cs rs → All (λ r. IfErr r (IsLossOf counts)) rs
+strays counts names w ls later cs rs z = All-from_recursion (λ r. IfErr r (IsLossOf counts)) rs (came_strays counts names w ls later cs rs z)
 
 ended_by : (counts : Counts) (names : List (List ℕ)) (w : ℕ) (ls later : List Line) (cs ds : List Crew) → AllZip (CrewCame counts names w ls later) cs (map Ok ds) → AllZip (CrewEnds counts names w ls later) cs ds
 ended_by counts names w ls later [] [] z = tt

@@ -1,18 +1,13 @@
 -- The lines of a plan that can be raced.
-use Rattle.std.proofs.Common.{◌≡◌, ℕ, ◌≤◌, List, [], ◌∷◌, length, Result, Ok, Err, IfErr}
+use Rattle.std.proofs.Common.{◌≡◌, ℕ, ◌≤◌, List, [], ◌∷◌, length}
 use Rattle.std.specs.List.{All, AllByRecursion}
 use Rattle.std.proofs.lemmas.List.Elements.{All-from_recursion}
-use Rattle.tect_ids.specs.declared.ids.Counts.{Counts}
 use Rattle.tect_ids.specs.declared.script.Line.{Line}
 use Rattle.tect_ids.specs.declared.script.Line.TheVariants as lines
 use Rattle.tect_ids.specs.declared.script.Plan.{Plan}
 use Rattle.world_runs.specs.Turns.{Turns, InTurnFrom, with_turn, turn_after, all_idle}
 use Rattle.race_runs.specs.Gathered.{IsLineOf}
-use Rattle.race_ends.specs.declared.fault.RaceFault.{RaceFault}
-use Rattle.race_ends.specs.declared.fault.RaceFault.TheVariants as faults
-use Rattle.race_ends.specs.Faults.{IsRaceFault}
 use Rattle.tect_race.specs.Done.{IsScript}
-use Rattle.tect_race.specs.Faults.{IsStray, IsFault}
 use Rattle.script_runs.specs.Playable.{IsWithin, IsPlayable}
 
 asked : (n : ℕ) (turns : Turns) (ls : List Line) → InTurnFrom turns ls → AllByRecursion (IsWithin n) ls → AllByRecursion (IsLineOf n) ls
@@ -29,23 +24,3 @@ script_of plan is = record {
   few = is.few;
   asked = All-from_recursion (IsLineOf (length plan.clients)) plan.lines (asked (length plan.clients) all_idle plan.lines is.in_turn is.within);
 }
-
-stray_fault : (counts : Counts) (e : RaceFault) → IsStray e → IsFault counts e
-stray_fault counts faults.NoMemory s = tt
-stray_fault counts (faults.Split actor step x y) s = absurd s
-stray_fault counts (faults.Astray want found) s = s
-
-end_fault : (counts : Counts) (e : RaceFault) → IsRaceFault counts e → IsFault counts e
-end_fault counts faults.NoMemory s = tt
-end_fault counts (faults.Split actor step x y) s = s
-end_fault counts (faults.Astray want found) s = s.2
-
-pub if_err : {A E : Type 0} → {P Q : E → Type 0} → (o : Result A E) → ((e : E) → P e → Q e) → IfErr o P → IfErr o Q
-if_err (Ok v) f h = tt
-if_err (Err e) f h = f e h
-
-pub ended_fault : {A : Type 0} → (counts : Counts) (o : Result A RaceFault) → IfErr o (IsRaceFault counts) → IfErr o (IsFault counts)
-ended_fault counts o h = if_err o (end_fault counts) h
-
-pub strayed : {A : Type 0} → (counts : Counts) (o : Result A RaceFault) → IfErr o IsStray → IfErr o (IsFault counts)
-strayed counts o h = if_err o (stray_fault counts) h

@@ -8,7 +8,7 @@ use Rattle.tect_ids.specs.declared.script.ReportLine.{ReportLine}
 use Rattle.racers.specs.declared.racer.Racer.{Racer}
 use Rattle.tect_race.specs.declared.crew.Crew.{Crew}
 use Rattle.race_ends.specs.declared.fault.RaceFault.{RaceFault}
-use Rattle.tect_race.specs.Faults.{IsStray}
+use Rattle.race_ends.specs.Faults.{IsLossOf}
 use Rattle.tect_race.specs.Lines.{Ran, PlaysOrRests}
 use Rattle.tect_race.specs.Ready.{IsCrew}
 
@@ -32,7 +32,7 @@ pub record CrewEnds (counts : Counts) (names : List (List ℕ)) (workers : ℕ) 
 -- so it came to the end, or to a fault
 abbrev pub CrewComes : Counts → List (List ℕ) → ℕ → List Line → List Line → Crew → Result Crew RaceFault → Type 0
 CrewComes counts names workers ls later old (Ok new) = CrewEnds counts names workers ls later old new
-CrewComes counts names workers ls later old (Err e) = IsStray e
+CrewComes counts names workers ls later old (Err e) = IsLossOf counts e
 
 pub record CrewCame (counts : Counts) (names : List (List ℕ)) (workers : ℕ) (ls later : List Line) (old : Crew) (result : Result Crew RaceFault) : Type 0 where
   pub so : CrewComes counts names workers ls later old result

@@ -1,7 +1,6 @@
 ghost use Rattle.std.specs.Prelude.{◌≡◌, ◌<◌, ◌≤◌, ◌^◌, ◌+◌, IfOk, IfErr, OnOk};
 ghost use Rattle.std.specs.List.{All, flat_map};
 ghost use Rattle.tect_race.specs.Crews.{AllClosed, Ended};
-ghost use Rattle.tect_race.specs.Faults.{IsStray};
 
 use race_ends::EndedPart;
 use race_ends::RaceFault;
@@ -55,7 +54,7 @@ pub fn end_part(alloc: Global, racers: &mut [Racer], floor: u64) -> Result<Ended
     ensures highest { IfOk result (λ part. All (λ r. r.client.clock ≤ part.clock) racers.old) }
     ensures closed { IfOk result (λ part. AllClosed part.clock racers.old racers.new) }
     ensures answers { IfOk result (λ part. part.answers.items ≡ flat_map (λ r. r.answers.items) racers.old) }
-    ensures fault { IfErr result IsStray }
+    ensures fault { IfErr result (λ fault. fault ≡ RaceFault.NoMemory) }
 {
     let clock = greatest_clock(racers, floor);
     if clock >= CLOCK_LIMIT {

@@ -10,6 +10,8 @@ mod lines;
 mod part;
 mod racing;
 mod script;
+#[cfg(test)]
+mod tests;
 
 pub use race_ends::{RaceFault, Raced};
 pub use racing::race;

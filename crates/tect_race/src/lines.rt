@@ -1,9 +1,11 @@
-ghost use Rattle.std.specs.Prelude.{◌≡◌, ◌≤◌, ◌<◌, ◌∷◌, List, OnOk, IfErr, IsOk, ◌↔◌, length, drop, slice_range};
+ghost use Rattle.std.specs.Prelude.{◌≡◌, ◌≤◌, ◌<◌, ◌∷◌, List, OnOk, IfErr, length, drop, slice_range};
 ghost use Rattle.std.specs.List.{All};
 ghost use Rattle.tect_ids.specs.declared.script.Line.{Line as ScriptLine};
 ghost use Rattle.tect_race.specs.Crews.{CrewPlays, CrewCame};
 ghost use Rattle.tect_race.specs.Ready.{IsCrew, IsOfClient};
-ghost use Rattle.tect_race.specs.Faults.{IsStray, IsStrayRacer};
+ghost use Rattle.tect_ids.specs.Places.{HasPlaces};
+ghost use Rattle.race_ends.specs.Faults.{IsLossOf};
+ghost use Rattle.tect_race.specs.Faults.{race_result};
 
 use crate::course::Course;
 use race_ends::RaceFault;
@@ -15,8 +17,7 @@ use tect_ids::Line;
 
 /// A client's fault is that of the race.
 fn raced(played: Result<(), RacerFault>) -> Result<(), RaceFault>
-    ensures ok { IsOk played ↔ IsOk result }
-    ensures fault { IfErr played IsStrayRacer → IfErr result IsStray }
+    ensures { result ≡ race_result played }
 {
     match played {
         Ok(()) => Ok(()),
@@ -31,10 +32,11 @@ fn play_line<R: Wait, G: Gate>(
     crew: &mut Crew,
     line: &Line,
 ) -> Result<(), RaceFault>
+    requires places { HasPlaces course.now.places.now }
     requires client { IsOfClient (length course.now.clients.now) line.now }
     requires ready { (later : List ScriptLine) × IsCrew course.now.places.now (length course.now.clients.now) course.now.workers (line.now ∷ later) crew.old }
     ensures plays { OnOk result (CrewPlays course.now.clients.now line.now crew.old crew.new) }
-    ensures fault { IfErr result IsStray }
+    ensures fault { IfErr result (IsLossOf course.now.places.now) }
 {
     let Line::Client { actor, act, .. } = line else {
         unreachable!()
@@ -61,6 +63,7 @@ pub fn run_crew<R: Wait, G: Gate>(
     start: usize,
     end: usize,
 ) -> Result<Crew, RaceFault>
+    requires places { HasPlaces course.now.places.now }
     requires part { (start ≤ end) × (end ≤ length course.now.lines.now) }
     requires clients { All (IsOfClient (length course.now.clients.now)) (slice_range course.now.lines.now start end) }
     requires ready { IsCrew course.now.places.now (length course.now.clients.now) course.now.workers (drop start course.now.lines.now) crew }

@@ -1,6 +1,6 @@
 ghost use Rattle.std.specs.Prelude.{◌≤◌, IfOk, IfErr, length};
 ghost use Rattle.race_ends.specs.Raced.{IsRaced};
-ghost use Rattle.tect_race.specs.Faults.{IsFault};
+ghost use Rattle.race_ends.specs.Faults.{IsRaceFault};
 ghost use Rattle.script_runs.specs.Playable.{IsPlayable};
 
 use crate::course::Course;
@@ -31,7 +31,7 @@ pub fn race<R: Threads + Wait + Sync, G: Gate + Sync>(
     requires clients { length plan.now.clients ≤ 64 }
     requires workers { (1 ≤ workers) × (workers ≤ 64) }
     ensures raced { IfOk result (λ raced. IsRaced plan.now raced.merged raced.report.items) }
-    ensures fault { IfErr result (IsFault plan.now.counts) }
+    ensures fault { IfErr result (IsRaceFault plan.now.counts) }
 {
     let places = Places::start(alloc, plan.counts)?;
     let run = {

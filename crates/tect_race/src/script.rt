@@ -1,6 +1,6 @@
 ghost use Rattle.std.specs.Prelude.{◌≡◌, ◌+◌, ◌<◌, ◌≤◌, Some, IfOk, IfErr, length, slice_get};
 ghost use Rattle.tect_ids.specs.Places.{HasPlaces};
-ghost use Rattle.tect_race.specs.Faults.{IsStray};
+ghost use Rattle.race_ends.specs.Faults.{IsLossOf};
 ghost use Rattle.race_ends.specs.HaveRun.{HaveRun};
 ghost use Rattle.tect_race.specs.Done.{AreNew, IsScript};
 ghost use Rattle.tect_race.specs.Progress.{HasCome};
@@ -62,7 +62,7 @@ fn end_at_dump<R: Threads + Wait + Sync, G: Gate + Sync>(
     requires dump { slice_get course.now.lines.now dump ≡ Some Line.Dump }
     requires come { HasCome course.now.places.now course.now.clients.now course.now.lines.now dump progress }
     ensures dumped { IfOk result (HasCome course.now.places.now course.now.clients.now course.now.lines.now (dump + 1)) }
-    ensures fault { IfErr result IsStray }
+    ensures fault { IfErr result (IsLossOf course.now.places.now) }
 {
     let Progress {
         racers,
@@ -94,7 +94,7 @@ fn end_script<R: Threads + Wait + Sync, G: Gate + Sync>(
     requires script { IsScript (length course.now.clients.now) course.now.lines.now }
     requires come { HasCome course.now.places.now course.now.clients.now course.now.lines.now (length course.now.lines.now) progress }
     ensures run { IfOk result (λ run. HaveRun course.now.places.now course.now.clients.now course.now.lines.now run.racers.items run.ended.items run.last.items) }
-    ensures fault { IfErr result IsStray }
+    ensures fault { IfErr result (IsLossOf course.now.places.now) }
 {
     let Progress {
         racers,
@@ -122,7 +122,7 @@ pub fn run_script<R: Threads + Wait + Sync, G: Gate + Sync>(
     requires clients { length course.now.clients.now ≤ 64 }
     requires script { IsScript (length course.now.clients.now) course.now.lines.now }
     ensures run { IfOk result (λ run. HaveRun counts course.now.clients.now course.now.lines.now run.racers.items run.ended.items run.last.items) }
-    ensures fault { IfErr result IsStray }
+    ensures fault { IfErr result (IsLossOf course.now.places.now) }
 {
     let mut progress = Progress {
         racers: new_racers(course.alloc, counts, course.clients.len())?,

@@ -2,4 +2,4 @@ use Rattle.std.proofs.Common.{◌≡◌, map, Ok}
 use Rattle.tect_race.proofs.part.finished.Given as goal
 
 abbrev pub invariant-crews : goal.invariant-crews
-invariant-crews l = map Ok l.crews.items ≡ l.yielded
+invariant-crews g l = map Ok l.crews.items ≡ l.yielded
