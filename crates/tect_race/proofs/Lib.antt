@@ -11,5 +11,6 @@ pub mod Stories
 pub mod Dumps
 pub mod Finished
 pub mod Looping
+pub mod Coming
 pub mod Crossing
 pub mod Playing

@@ -24,20 +24,12 @@ use Rattle.tect_race.specs.Lines.{Ran}
 use Rattle.tect_race.specs.Crews.{RacersRan, AllClosed, Closed}
 use Rattle.tect_race.specs.Done.{AreNew, IsScript}
 use Rattle.tect_race.specs.Ready.{AreRacers, IsReady, IsOfClient}
+use Rattle.tect_race.specs.Progress.{Stood}
 use Rattle.tect_race.specs.Standing.{Stands, AllStand, HaveEnded, last_clock, first_answers, later_parts}
 use Rattle.tect_race.proofs.Dumps.{all_grown, all_dumped, all_told, all_parts, ended_on, last_is}
 use Rattle.tect_race.proofs.Mustering.{zip_length, zip_at}
 use Rattle.tect_race.proofs.Finished.{finished}
 use Rattle.tect_race.proofs.Slots.{also_at}
-
-pub record Stood (counts : Counts) (names : List (List ℕ)) (done left : List Line) (clock : ℕ) (rs : List Racer) (es : List EndedPart) : Type 0 where
-  pub all : length rs ≡ length names
-  pub ready : AreRacers counts left rs
-  pub stories : List Story
-  pub stand : AllStand counts names done (clocks_of es) rs stories
-  pub ended : HaveEnded es (map (λ s. s.ended) stories)
-  pub dumps : count_by is_dump done ≡ length es
-  pub clock_is : last_clock 0 (clocks_of es) ≡ clock
 
 -- ---- before the first line
 

@@ -4,3 +4,4 @@ pub mod Ready
 pub mod Faults
 pub mod Standing
 pub mod Done
+pub mod Progress
