@@ -99,7 +99,10 @@ count-append (x ∷ xs) ys =
 
 pub no_dumps : (n : ℕ) (ls : List Line) → AllByRecursion (IsOfClient n) ls → count_by is_dump ls ≡ 0
 no_dumps n [] h = refl
-no_dumps n (lines.Client client actor act ∷ ls) h = count_cons (lines.Client client actor act) ls ∙ no_dumps n ls h.1
+no_dumps n (lines.Client client actor act ∷ ls) h =
+    let first : count_by is_dump (lines.Client client actor act ∷ ls) ≡ 0 + count_by is_dump ls = count_cons (lines.Client client actor act) ls in
+    let rest = no_dumps n ls h.1 in
+    omega arith
 no_dumps n (lines.Dump ∷ ls) h = absurd h.0
 no_dumps n (lines.Store counts ∷ ls) h = absurd h.0
 no_dumps n (lines.Sweep ∷ ls) h = absurd h.0
