@@ -1,25 +1,23 @@
 -- The stories of all clients, when a dump ends a part.
-use Rattle.std.proofs.Common.{◌≡◌, ℕ, zero, suc, ◌+◌, ◌<◌, ◌≤◌, max, None, List, [], ◌∷◌, ◌++◌, length, length-append, map, filter, refl, sym, ap, subst, ◌∙◌, arith}
-use Rattle.std.specs.List.{All, AllZip, AllByRecursion, flat_map}
+use Rattle.std.proofs.Common.{◌≡◌, ℕ, suc, ◌+◌, ◌≤◌, max, None, List, [], ◌∷◌, ◌++◌, length, length-append, map, filter, refl, sym, ap, subst, ◌∙◌, arith}
+use Rattle.std.specs.List.{AllByRecursion, flat_map}
 use Rattle.std.proofs.lemmas.List.Elements.{All-nil}
 use Rattle.tect_ids.specs.declared.ids.Counts.{Counts}
 use Rattle.tect_ids.specs.declared.script.Line.{Line}
 use Rattle.tect_ids.specs.declared.script.Line.TheVariants as lines
-use Rattle.tect_ids.specs.declared.script.ReportLine.{ReportLine}
 use Rattle.place_kit.specs.Moments.{stamp_of}
-use Rattle.world_runs.specs.declared.event.Event.{Event}
 use Rattle.world_runs.specs.declared.event.Event.TheVariants.{Dumped}
 use Rattle.world_runs.specs.Races.{line_concerns}
 use Rattle.noted_runs.specs.ClientLines.{DoesLines}
-use Rattle.clients.specs.Lives.{ClientLife, events_in, state_in}
-use Rattle.race_runs.specs.Stories.{Part, Story, Timely, all_moments, all_events, with_dumps}
+use Rattle.clients.specs.Lives.{ClientLife, events_in}
+use Rattle.race_runs.specs.Stories.{Part, Story, with_dumps}
 use Rattle.race_runs.proofs.Growing as growing
 use Rattle.race_runs.proofs.Growing.{no_part, dumped, moments_dumped, events_dumped, dumps_dumped, timely_dumped, answers_dumped}
 use Rattle.racers.specs.declared.racer.Racer.{Racer}
 use Rattle.racers.specs.Lives.{busy_in}
 use Rattle.race_ends.specs.declared.ended.EndedPart.{EndedPart}
 use Rattle.tect_race.specs.Crews.{Closed, AllClosed, RacersRan}
-use Rattle.tect_race.specs.Standing.{Stands, AllStand, all_silent, last_clock, first_answers, later_parts, HaveEnded}
+use Rattle.tect_race.specs.Standing.{Stands, AllStand, last_clock, first_answers, later_parts, HaveEnded}
 use Rattle.tect_race.proofs.Events.{filter-append, does_lines-append}
 use Rattle.tect_race.proofs.Stories.{silent_dumped, grown_story, stands_grown, same_ended, weaker}
 

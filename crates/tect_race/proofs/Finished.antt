@@ -1,23 +1,21 @@
 -- What a client's story is when it is finished.
-use Rattle.std.proofs.Common.{◌≡◌, ℕ, ◌+◌, ◌<◌, ◌≤◌, ◌^◌, ◌&&◌, ◌==◌, Bool, true, List, [], ◌∷◌, ◌++◌, length, map, refl, sym, ap, subst, ◌∙◌, arith}
+use Rattle.std.proofs.Common.{◌≡◌, ℕ, ◌<◌, ◌^◌, ◌==◌, true, List, [], ◌∷◌, ◌++◌, sym, ap, subst, ◌∙◌, arith}
 use Rattle.std.specs.List.{All, AllByRecursion}
 use Rattle.std.proofs.lemmas.Grind.{common_steps}
 use Rattle.std.proofs.lemmas.List.Elements.{All-from_recursion, recursion_from_All}
 use Rattle.tect_ids.specs.declared.ids.Counts.{Counts}
-use Rattle.tect_ids.specs.declared.ids.OpId.{OpId}
 use Rattle.tect_ids.specs.declared.script.Line.{Line}
 use Rattle.tect_ids.proofs.KeyTests.{num_eq_cases}
 use Rattle.place_kit.specs.declared.entry.Moment.{Moment}
 use Rattle.place_kit.specs.declared.entry.Moment.TheVariants.{Act, Local}
 use Rattle.place_kit.specs.declared.entry.Note.TheVariants as notes
-use Rattle.place_kit.specs.Moments.{all_of_actor, all_notes_of, actor_of}
-use Rattle.world_runs.specs.declared.event.Event.{Event}
+use Rattle.place_kit.specs.Moments.{all_of_actor, all_notes_of}
 use Rattle.world_runs.specs.Moments.{idle_actor}
 use Rattle.noted_runs.specs.Laws.{IsPlaced, IsOwnNote, IsSilent}
 use Rattle.noted_runs.specs.Limits.{OwnLimits}
 use Rattle.noted_runs.specs.OwnRuns.{OwnRun}
 use Rattle.clients.specs.Lives.{ClientLife, events_in, IsLife}
-use Rattle.race_runs.specs.Stories.{Part, Story, IsStory, AllSilent, all_moments, all_events}
+use Rattle.race_runs.specs.Stories.{Part, Story, AllSilent, all_moments, all_events}
 use Rattle.racers.specs.declared.racer.Racer.{Racer}
 use Rattle.racers.specs.Lives.{busy_in}
 use Rattle.tect_race.specs.Crews.{Closed}

@@ -1,9 +1,8 @@
 -- How far the loop over the parts of a script has come.
-use Rattle.std.proofs.Common.{◌≡◌, ℕ, zero, suc, ◌+◌, ◌-◌, ◌<◌, ◌≤◌, ◌^◌, Bool, true, false, Some, None, List, [], ◌∷◌, ◌++◌, length, length-append, map, take, drop, get_or, count_by, if◌then◌else◌, refl, sym, ap, subst, ◌∙◌, arith, append_assoc, slice_get}
+use Rattle.std.proofs.Common.{◌≡◌, ℕ, suc, ◌+◌, ◌<◌, ◌≤◌, Some, List, [], ◌∷◌, ◌++◌, length, length-append, map, count_by, if◌then◌else◌, refl, sym, ap, subst, ◌∙◌, arith, slice_get}
 use Rattle.std.specs.List.{All, AllZip, AllByRecursion, flat_map}
-use Rattle.std.proofs.lemmas.List.{append-nil, take_all, take_more}
 use Rattle.std.proofs.lemmas.List.Sums.{sum_by-cons}
-use Rattle.std.proofs.lemmas.List.Elements.{All-append, All-nil, recursion_from_All, All-from_recursion}
+use Rattle.std.proofs.lemmas.List.Elements.{All-nil, recursion_from_All}
 use Rattle.tect_ids.specs.declared.ids.Counts.{Counts}
 use Rattle.tect_ids.specs.declared.script.Line.{Line}
 use Rattle.tect_ids.specs.declared.script.Line.TheVariants as lines
@@ -13,7 +12,7 @@ use Rattle.world_runs.specs.Turns.{all_idle}
 use Rattle.clients.specs.Lives.{ClientLife, idle_life, events_in, state_in}
 use Rattle.race_runs.specs.Stories.{Story, Part}
 use Rattle.race_runs.specs.Gathered.{IsLineOf, is_dump, answers_now, part_of, rest_of}
-use Rattle.race_runs.proofs.Growing.{no_part, no_story, dumped}
+use Rattle.race_runs.proofs.Growing.{no_story, dumped}
 use Rattle.racers.specs.declared.racer.Racer.{Racer}
 use Rattle.racers.specs.Lives.{busy_in}
 use Rattle.race_ends.specs.declared.ended.EndedPart.{EndedPart}
@@ -99,7 +98,10 @@ count-append (x ∷ xs) ys =
 
 pub no_dumps : (n : ℕ) (ls : List Line) → AllByRecursion (IsOfClient n) ls → count_by is_dump ls ≡ 0
 no_dumps n [] h = refl
-no_dumps n (lines.Client client actor act ∷ ls) h = count_cons (lines.Client client actor act) ls ∙ no_dumps n ls h.1
+no_dumps n (lines.Client client actor act ∷ ls) h =
+    let first : count_by is_dump (lines.Client client actor act ∷ ls) ≡ 0 + count_by is_dump ls = count_cons (lines.Client client actor act) ls in
+    let rest = no_dumps n ls h.1 in
+    omega arith
 no_dumps n (lines.Dump ∷ ls) h = absurd h.0
 no_dumps n (lines.Store counts ∷ ls) h = absurd h.0
 no_dumps n (lines.Sweep ∷ ls) h = absurd h.0

@@ -1,13 +1,11 @@
 -- The stories of all clients, when a part is done and when it ends.
-use Rattle.std.proofs.Common.{◌≡◌, ℕ, zero, suc, ◌+◌, ◌<◌, ◌≤◌, max, Bool, true, ◌&&◌, nat_lt, nat_le, None, Option, List, [], ◌∷◌, ◌++◌, length, length-append, map, filter, refl, sym, ap, subst, ◌∙◌, arith, ◌⊎◌, inl, inr, append_assoc}
-use Rattle.std.specs.List.{All, AllZip, AllByRecursion, flat_map}
+use Rattle.std.proofs.Common.{◌≡◌, ℕ, ◌<◌, ◌≤◌, true, None, List, [], ◌∷◌, ◌++◌, filter, refl, sym, ap, subst, ◌∙◌, arith, ◌⊎◌, inl, inr, append_assoc}
+use Rattle.std.specs.List.{All, AllByRecursion}
 use Rattle.std.proofs.lemmas.Grind.{common_steps}
 use Rattle.std.proofs.lemmas.List.{append-nil}
-use Rattle.std.proofs.lemmas.List.Elements.{All-nil, All-append, recursion_from_All, All-from_recursion}
+use Rattle.std.proofs.lemmas.List.Elements.{All-append, All-from_recursion}
 use Rattle.tect_ids.specs.declared.ids.Counts.{Counts}
-use Rattle.tect_ids.specs.declared.ids.OpId.{OpId}
 use Rattle.tect_ids.specs.declared.script.Line.{Line}
-use Rattle.tect_ids.specs.declared.script.Line.TheVariants as lines
 use Rattle.tect_ids.specs.declared.script.ReportLine.{ReportLine}
 use Rattle.place_kit.specs.declared.entry.Moment.{Moment}
 use Rattle.place_kit.specs.Moments.{rises, stamp_of}
@@ -15,14 +13,12 @@ use Rattle.world_runs.specs.declared.event.Event.{Event}
 use Rattle.world_runs.specs.declared.event.Event.TheVariants.{Dumped}
 use Rattle.world_runs.specs.Races.{line_concerns, own_lines}
 use Rattle.noted_runs.specs.ClientLines.{DoesLines}
-use Rattle.clients.specs.Lives.{ClientLife, events_in, state_in, idle_life}
+use Rattle.clients.specs.Lives.{events_in}
 use Rattle.race_runs.specs.Stories.{Part, Story, Timely, Answers, all_moments, all_events, with_dumps, part_events}
-use Rattle.race_runs.proofs.Growing.{no_part, no_story, with_part, dumped, moments_with, moments_dumped, events_with, events_dumped, dumps_with, dumps_dumped, timely_dumped, answers_dumped}
+use Rattle.race_runs.proofs.Growing.{no_part, with_part}
 use Rattle.racers.specs.declared.racer.Racer.{Racer}
-use Rattle.racers.specs.Lines.{Adds}
 use Rattle.racers.specs.Lives.{busy_in, news_events}
 use Rattle.tect_race.specs.Lines.{Ran}
-use Rattle.tect_race.specs.Crews.{Closed}
 use Rattle.tect_race.specs.Standing.{Stands, all_silent, last_clock}
 use Rattle.tect_race.proofs.Events.{filter-append, does_lines-append, own_lines-append, both_news, none_before}
 use Rattle.tect_race.proofs.RacerLines.{adds_actor, adds_counts, adds_moments, adds_silent, adds_events}
