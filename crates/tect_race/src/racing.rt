@@ -13,13 +13,20 @@ use std::thread::Threads;
 use tect_edge::Gate;
 use tect_ids::Plan;
 
-/// Runs the script of a plan on so many workers, each in a thread of its own. Client number i, from 0, is of the worker
-/// `i % workers`, which does the lines of its clients in the order of the script. At a dump all workers have ended.
+/// Runs the script of a plan on so many workers. Client number i, from 0, is of the worker `i % workers`, which does the lines of
+/// its clients in the order of the script, in a thread of its own. What a thread that could not start would have done is done all
+/// the same. The gate is told of each commit, with the number of the worker.
 ///
-/// What came of it is one history, which is claimed to be a run of the world that follows the script client by client, and its report.
-/// There is no memory where memory is wanting, and where a client's clock has come to 2^63. A race is split where what its clients kept
-/// and what its places kept are not the same transactions, and astray where another machine was found than the one that was looked
-/// for.
+/// At a dump, and at the end, all workers have ended. A dump comes at the greatest clock of all clients, and each client's clock is
+/// raised to it, so that what is stamped up to it was done before the dump, and all else after it.
+///
+/// The report has the answers of the lines before each dump, client by client in first-seen order, and behind them the dump; last
+/// come the answers of the lines behind the last dump. With it comes one history of all that the clients and the places kept. It
+/// is claimed to be a run of the world that follows the script client by client, and the report to be its own.
+///
+/// There is no memory where memory is wanting, and where a client's clock has come to 2^63. A race is split where what its clients
+/// kept and what its places kept are not the same transactions, and astray where at a place another machine was found than the one
+/// that it was started with.
 pub fn race<R: Threads + Wait + Sync, G: Gate + Sync>(
     rt: &R,
     alloc: Global,
