@@ -112,9 +112,10 @@ pub fn run<R: Threads + Wait + Sync, S: Source, K: Sink, G: Gate + Sync>(
     ensures reported { result ≡ Status.Ok → InMode (map string_bytes words.now)
         (λ mode. IsReported mode (S.left source.old) (S.left source.new) (K.written sink.old) (K.written sink.new)) }
 
-    // 2 comes exactly by the words.
+    // 2 comes exactly by the words, and then nothing is read.
     ensures usage { result ≡ Status.Usage → IsUsage (map string_bytes words.now) (K.written sink.old) (K.written sink.new) }
     ensures no_other { SpellsNone (map string_bytes words.now) → (result ≡ Status.Usage) ⊎ (result ≡ Status.WriteFault) }
+    ensures unread { SpellsNone (map string_bytes words.now) → source.new ≡ source.old }
 
     // 3 and 8 come only for an input that spells no plan, with its first fault.
     ensures refused { result ≡ Status.BadScript → InMode (map string_bytes words.now)
