@@ -66,9 +66,11 @@ all_grown counts names done ls clocks (x ∷ rs) [] ss a r = absurd r
 all_grown counts names done ls clocks [] [] (s ∷ ss) a r = absurd a
 all_grown counts names done ls clocks (x ∷ rs) (t ∷ ts) [] a r = absurd a
 all_grown counts names done ls clocks (x ∷ rs) (t ∷ ts) (s ∷ ss) a r =
-    let rest = all_grown counts names done ls clocks rs ts ss a.1 r.1 in
-    (grown_story counts names done ls clocks x t s a.0 r.0 ∷ rest.0, (stands_grown counts names done ls clocks x t s a.0 r.0, rest.1),
-      ap (λ e. e ∷ map (λ (u : Story). u.ended) rest.0) (same_ended counts names done ls clocks x t s a.0 r.0) ∙ ap (λ l. s.ended ∷ l) rest.2)
+    let rest = all_grown counts names done ls clocks rs ts ss a.1 r.1 in (
+      grown_story counts names done ls clocks x t s a.0 r.0 ∷ rest.0,
+      (stands_grown counts names done ls clocks x t s a.0 r.0, rest.1),
+      ap (λ e. e ∷ map (λ (u : Story). u.ended) rest.0) (same_ended counts names done ls clocks x t s a.0 r.0) ∙ ap (λ l. s.ended ∷ l) rest.2,
+    )
 
 pub all_dumped : (counts : Counts) (names : List (List ℕ)) (done : List Line) (clocks : List ℕ) (k : ℕ) (rs ts : List Racer) (ss : List Story) → AllStand counts names done clocks rs ss
     → AllByRecursion (λ r. r.client.clock ≤ k) rs → AllClosed k rs ts → AllStand counts names (done ++ lines.Dump ∷ []) (clocks ++ k ∷ []) ts (map dumped ss)
