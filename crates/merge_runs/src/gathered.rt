@@ -1,5 +1,5 @@
 //! One history of all places and passes.
-ghost use Rattle.std.specs.Prelude.{◌≡◌, IfOk, IfErr, OnOk, OnErr, IsPermutation, All, Err};
+ghost use Rattle.std.specs.Prelude.{◌≡◌, IfOk, IfErr, OnOk, OnErr, IsPermutation, All, Err, map};
 ghost use Rattle.std.specs.List.{flat_map};
 ghost use Rattle.merge_runs.specs.Merged.{moments_of, trails, Agree, IsInOrder, HaveDifferentActors, StandInOrder, RestrictsToTrails, RestrictsToHistories, IsStored};
 ghost use Rattle.merge_runs.specs.Splits.{IsFault};
@@ -12,50 +12,25 @@ use place_kit::{AnyKept, Moment, Pass};
 use std::alloc::Global;
 use tect_ids::NoMemory;
 
-/// One history, with the places and the passes of which it was made.
-#[derive(Drop)]
-pub struct Merged {
-    /// All entries and notes, by stamp, then by place, then by actor. A note's place counts as 256.
-    pub entries: Vec<Moment>,
-    pub places: Vec<AnyKept>,
-    pub passes: Vec<Pass>,
-}
-
 /// Makes one history of all places and all passes. The places are numbered from 0 on, in order, and no two passes are of one
-/// actor.
+/// actor. The history has the entries and the notes as the passes keep them, by stamp, then by place, then by actor; a note's
+/// place counts as 256.
 ///
 /// It is answered only where the trails of the passes and the histories of the places have the same entries, each once. Else
 /// the answer is a `Split`, which names the actor and the step of an entry that not both of them have; or there was no
 /// memory.
-pub fn gather(alloc: Global, kepts: Vec<AnyKept>, passes: Vec<Pass>) -> Result<Merged, GatherFault>
-    requires places { StandInOrder 0 kepts.items }
-    requires actors { HaveDifferentActors passes.items }
-    ensures given { IfOk result (λ m. (m.places.items ≡ kepts.items) × (m.passes.items ≡ passes.items)) }
-    ensures agree { OnOk result (Agree kepts.items passes.items) }
-    ensures whole { IfOk result (λ m. IsPermutation (flat_map moments_of passes.items) m.entries.items) }
-    ensures order { IfOk result (λ m. IsInOrder m.entries.items) }
-    ensures trails { IfOk result (λ m. RestrictsToTrails passes.items m.entries.items) }
-    ensures histories { IfOk result (λ m. RestrictsToHistories kepts.items m.entries.items) }
-    ensures stored { OnOk result (All (IsStored kepts.items) (trails passes.items)) }
-    ensures split { IfErr result (IsFault kepts.items passes.items) }
-    ensures memory { OnErr result (Agree kepts.items passes.items → result ≡ Err GatherFault.NoMemory) }
-{
-    let entries = gathered(alloc, kepts.as_slice(), passes.as_slice())?;
-    Ok(Merged {
-        entries,
-        places: kepts,
-        passes,
-    })
-}
-
-fn gathered(alloc: Global, kepts: &[AnyKept], passes: &[Pass]) -> Result<Vec<Moment>, GatherFault>
+pub fn gather<'a>(
+    alloc: Global,
+    kepts: &[AnyKept],
+    passes: &'a [Pass],
+) -> Result<Vec<&'a Moment>, GatherFault>
     requires places { StandInOrder 0 kepts.now }
     requires actors { HaveDifferentActors passes.now }
     ensures agree { OnOk result (Agree kepts.now passes.now) }
-    ensures whole { IfOk result (λ v. IsPermutation (flat_map moments_of passes.now) v.items) }
-    ensures order { IfOk result (λ v. IsInOrder v.items) }
-    ensures trails { IfOk result (λ v. RestrictsToTrails passes.now v.items) }
-    ensures histories { IfOk result (λ v. RestrictsToHistories kepts.now v.items) }
+    ensures whole { IfOk result (λ v. IsPermutation (flat_map moments_of passes.now) (map (λ m. m.now) v.items)) }
+    ensures order { IfOk result (λ v. IsInOrder (map (λ m. m.now) v.items)) }
+    ensures trails { IfOk result (λ v. RestrictsToTrails passes.now (map (λ m. m.now) v.items)) }
+    ensures histories { IfOk result (λ v. RestrictsToHistories kepts.now (map (λ m. m.now) v.items)) }
     ensures stored { OnOk result (All (IsStored kepts.now) (trails passes.now)) }
     ensures split { IfErr result (IsFault kepts.now passes.now) }
     ensures memory { OnErr result (Agree kepts.now passes.now → result ≡ Err GatherFault.NoMemory) }

@@ -10,7 +10,7 @@ mod sorted;
 mod split;
 
 pub use fault::GatherFault;
-pub use gathered::{Merged, gather};
+pub use gathered::gather;
 
 #[cfg(test)]
 mod tests;

@@ -10,14 +10,14 @@ use std::alloc::Global;
 use tect_ids::NoMemory;
 
 /// All moments of the passes, in order.
-pub fn merged(alloc: Global, passes: &[Pass]) -> Result<Vec<Moment>, NoMemory>
+pub fn merged<'a>(alloc: Global, passes: &'a [Pass]) -> Result<Vec<&'a Moment>, NoMemory>
     requires { HaveDifferentActors passes.now }
-    ensures all { IfOk result (λ v. IsPermutation (flat_map moments_of passes.now) v.items) }
-    ensures order { IfOk result (λ v. IsInOrder v.items) }
+    ensures all { IfOk result (λ v. IsPermutation (flat_map moments_of passes.now) (map (λ m. m.now) v.items)) }
+    ensures order { IfOk result (λ v. IsInOrder (map (λ m. m.now) v.items)) }
 {
     let mut keyed = keyed_moments(alloc, passes)?;
     keyed.sort_unstable_by_key(|k| key_of(k));
-    copies(alloc, keyed.as_slice())
+    moments(alloc, keyed.as_slice())
 }
 
 // By stamp, then by place, then by actor.
@@ -46,12 +46,12 @@ fn append<'a>(all: &mut Vec<Keyed<'a>>, moments: &'a [Moment]) -> Result<(), NoM
     Ok(())
 }
 
-fn copies(alloc: Global, keyed: &[Keyed]) -> Result<Vec<Moment>, NoMemory>
-    ensures { IfOk result (λ v. v.items ≡ map moment_in keyed.now) }
+fn moments<'a>(alloc: Global, keyed: &[Keyed<'a>]) -> Result<Vec<&'a Moment>, NoMemory>
+    ensures { IfOk result (λ v. map (λ m. m.now) v.items ≡ map moment_in keyed.now) }
 {
     let mut moments = Vec::with_capacity(alloc, keyed.len())?;
     for k in keyed {
-        moments.push(k.moment.copy(alloc)?)?;
+        moments.push(k.moment)?;
     }
     Ok(moments)
 }

@@ -1,7 +1,7 @@
 ghost use Rattle.std.specs.Prelude.{◌≡◌, OnOk, IfOk, None};
 ghost use Rattle.merge_runs.specs.Merged.{HaveDifferentActors};
 
-use crate::{GatherFault, Merged, gather};
+use crate::gather;
 use file_shard::FileShard;
 use name_shard::NameShard;
 use place_kit::{AnyKept, Kept, Moment, Note, Pass};
@@ -77,54 +77,8 @@ fn acted(alloc: Global) -> Result<Scene, Fail>
     })
 }
 
-fn gathered(
-    alloc: Global,
-    names: Kept<NameShard>,
-    files: Kept<FileShard>,
-    passes: Vec<Pass>,
-) -> Result<Merged, GatherFault>
-    requires places { (names.label.place.0 ≡ 0) × (files.label.place.0 ≡ 1) }
-    requires actors { HaveDifferentActors passes.items }
-{
-    let kepts = match vec![in alloc; AnyKept::Name(names), AnyKept::File(files)] {
-        Ok(kepts) => kepts,
-        Err(_) => return Err(GatherFault::NoMemory),
-    };
-    gather(alloc, kepts, passes)
-}
-
-fn both(
-    alloc: Global,
-    names: Kept<NameShard>,
-    files: Kept<FileShard>,
-    one: Pass,
-    two: Pass,
-) -> Result<Merged, GatherFault>
-    requires places { (names.label.place.0 ≡ 0) × (files.label.place.0 ≡ 1) }
-    requires actors { (one.actor ≡ 1) × (two.actor ≡ 2) }
-{
-    match vec![in alloc; one, two] {
-        Ok(passes) => gathered(alloc, names, files, passes),
-        Err(_) => Err(GatherFault::NoMemory),
-    }
-}
-
-fn alone(
-    alloc: Global,
-    names: Kept<NameShard>,
-    files: Kept<FileShard>,
-    one: Pass,
-) -> Result<Merged, GatherFault>
-    requires places { (names.label.place.0 ≡ 0) × (files.label.place.0 ≡ 1) }
-{
-    match vec![in alloc; one] {
-        Ok(passes) => gathered(alloc, names, files, passes),
-        Err(_) => Err(GatherFault::NoMemory),
-    }
-}
-
 /// Stamp, place and actor of each moment.
-fn told(alloc: Global, moments: &[Moment]) -> Result<String, AllocError> {
+fn told(alloc: Global, moments: &[&Moment]) -> Result<String, AllocError> {
     let mut text = String::new(alloc);
     for moment in moments {
         match moment {
@@ -139,22 +93,52 @@ fn told(alloc: Global, moments: &[Moment]) -> Result<String, AllocError> {
     Ok(text)
 }
 
-/// What was gathered of both passes or, where they are not the same, what the fault says.
-fn outcome(alloc: Global, gathered: Result<Merged, GatherFault>) -> Result<String, AllocError> {
-    match gathered {
-        Ok(merged) => told(alloc, merged.entries.as_slice()),
+/// What is gathered of both places and these passes or, where they are not the same, what the fault says.
+fn outcome(
+    alloc: Global,
+    names: Kept<NameShard>,
+    files: Kept<FileShard>,
+    passes: &[Pass],
+) -> Result<String, AllocError>
+    requires places { (names.label.place.0 ≡ 0) × (files.label.place.0 ≡ 1) }
+    requires actors { HaveDifferentActors passes.now }
+{
+    let kepts = vec![in alloc; AnyKept::Name(names), AnyKept::File(files)]?;
+    match gather(alloc, kepts.as_slice(), passes) {
+        Ok(entries) => told(alloc, entries.as_slice()),
         Err(fault) => format!(in alloc; "{fault:?}"),
     }
+}
+
+fn both(
+    alloc: Global,
+    names: Kept<NameShard>,
+    files: Kept<FileShard>,
+    one: Pass,
+    two: Pass,
+) -> Result<String, AllocError>
+    requires places { (names.label.place.0 ≡ 0) × (files.label.place.0 ≡ 1) }
+    requires actors { (one.actor ≡ 1) × (two.actor ≡ 2) }
+{
+    outcome(alloc, names, files, &[one, two])
+}
+
+fn alone(
+    alloc: Global,
+    names: Kept<NameShard>,
+    files: Kept<FileShard>,
+    one: Pass,
+) -> Result<String, AllocError>
+    requires places { (names.label.place.0 ≡ 0) × (files.label.place.0 ≡ 1) }
+{
+    outcome(alloc, names, files, &[one])
 }
 
 #[test]
 fn moments_are_in_order(rt: HostRuntime) -> Result<(), Fail> {
     let alloc = rt.alloc();
     let done = acted(alloc)?;
-    let text = outcome(
-        alloc,
-        both(alloc, done.names, done.files, done.one, done.two),
-    )?;
+    let text = both(alloc, done.names, done.files, done.one, done.two)?;
     assert_eq!(&rt;
         text.as_str(),
         "1 1 2, 1 note 1, 2 0 1, 3 0 2, 3 1 1, 4 note 1, "
@@ -166,7 +150,7 @@ fn moments_are_in_order(rt: HostRuntime) -> Result<(), Fail> {
 fn a_pass_is_missing(rt: HostRuntime) -> Result<(), Fail> {
     let alloc = rt.alloc();
     let done = acted(alloc)?;
-    let text = outcome(alloc, alone(alloc, done.names, done.files, done.one))?;
+    let text = alone(alloc, done.names, done.files, done.one)?;
     let split =
         "Split { actor: 2, step: 1, in_pass: None, in_place: Some(Entry { stamp: 3, place: Place(0), actor: 2, number: 0, step: 1, req: Name(CheckDir { dir: DirId(1) }), reply: Name(DirIs { parent: DirId(0), sealed: false }) }) }";
     assert_eq!(&rt; text.as_str(), split);
@@ -178,7 +162,7 @@ fn a_place_lacks_an_entry(rt: HostRuntime) -> Result<(), Fail> {
     let alloc = rt.alloc();
     let done = acted(alloc)?;
     let empty = Kept::open_files(alloc, Place(1));
-    let text = outcome(alloc, both(alloc, done.names, empty, done.one, done.two))?;
+    let text = both(alloc, done.names, empty, done.one, done.two)?;
     let split =
         "Split { actor: 1, step: 1, in_pass: Some(Entry { stamp: 3, place: Place(1), actor: 1, number: 4, step: 1, req: File(Release { file: FileId(9), hold: Hold { op: OpId { actor: 1, number: 4 }, part: 0 } }), reply: File(Released { was: false }) }), in_place: None }";
     assert_eq!(&rt; text.as_str(), split);
@@ -199,7 +183,7 @@ fn a_place_has_another_entry(rt: HostRuntime) -> Result<(), Fail> {
     let alloc = rt.alloc();
     let other = other_files(alloc)?;
     let done = acted(alloc)?;
-    let text = outcome(alloc, both(alloc, done.names, other, done.one, done.two))?;
+    let text = both(alloc, done.names, other, done.one, done.two)?;
     let split =
         "Split { actor: 1, step: 0, in_pass: Some(Entry { stamp: 2, place: Place(0), actor: 1, number: 4, step: 0, req: Name(CheckDir { dir: DirId(1) }), reply: Name(DirIs { parent: DirId(0), sealed: false }) }), in_place: Some(Entry { stamp: 1, place: Place(1), actor: 1, number: 0, step: 0, req: File(Release { file: FileId(9), hold: Hold { op: OpId { actor: 1, number: 4 }, part: 0 } }), reply: File(Released { was: false }) }) }";
     assert_eq!(&rt; text.as_str(), split);

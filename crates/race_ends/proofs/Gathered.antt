@@ -1,5 +1,5 @@
 -- what the clients kept, gathered in one list, is gathered of their stories
-use Rattle.std.proofs.Common.{◌≡◌, ℕ, ◌+◌, ◌-◌, ◌<◌, ◌≤◌, Some, List, [], ◌∷◌, length, refl, sym, ap, ◌∙◌, arith}
+use Rattle.std.proofs.Common.{◌≡◌, ℕ, ◌+◌, ◌-◌, ◌≤◌, Some, List, [], ◌∷◌, length, refl, sym, ap, ◌∙◌, subst, arith}
 use Rattle.std.proofs.lemmas.List.{length-map}
 use Rattle.std.proofs.lemmas.List.Sorted.{All-permutation}
 use Rattle.std.proofs.lemmas.Option.{slice_get_within}
@@ -12,7 +12,6 @@ use Rattle.place_kit.specs.declared.entry.Moment.{Moment}
 use Rattle.place_kit.specs.declared.pass.Pass.{Pass}
 use Rattle.place_kit.specs.Moments.{actor_of, is_of}
 use Rattle.place_kit.specs.Started.{AreStarted}
-use Rattle.merge_runs.specs.declared.gathered.Merged.{Merged}
 use Rattle.merge_runs.specs.Merged.{HaveDifferentActors, moments_of}
 use Rattle.merge_runs.proofs.Order.{In}
 use Rattle.merge_runs.proofs.Members.{contains_from_in, in_flat}
@@ -39,6 +38,10 @@ clocks_rise : (clocks : List ℕ) (ss : List Story) (ms : List Moment) → All (
 clocks_rise clocks [] [] known timely = no_clocks_fall 0 clocks
 clocks_rise clocks [] (m ∷ ms) known timely = absurd (let k : (1 ≤ actor_of m) × (actor_of m ≤ 0) = known 0 m (omega arith) in omega (arith, k.0, k.1))
 clocks_rise clocks (s ∷ ss) ms known timely = timely_clocks_rise ms 0 clocks s.ended s.last (timely 0 s refl)
+
+-- gathered of what is read through borrows
+pub gathered_behind : (js ks : List AnyKept) (qs ps : List Pass) (ms : List Moment) → js ≡ ks → qs ≡ ps → IsGathered js qs ms → IsGathered ks ps ms
+gathered_behind js ks qs ps ms places passes g = subst (λ (xs : List AnyKept). IsGathered xs ps ms) places (subst (λ (ys : List Pass). IsGathered js ys ms) passes g)
 
 module _ (counts : Counts) (names : List (List ℕ)) (lines : List Line) (racers : List Racer) (ended : List EndedPart) (last : List ReportLine)
     (run : HaveRun counts names lines racers ended last) (ps : List Pass) (taken : AllZip IsPassOf racers ps) where
@@ -88,10 +91,7 @@ module _ (counts : Counts) (names : List (List ℕ)) (lines : List Line) (racers
       let within = slice_get_within racers at.0 r at.1 in
       (omega (arith, number), omega (arith, number, within, run.number))
 
-  module _ (ks : List AnyKept) (merged : Merged) (g : IsGathered ks ps merged) where
-    abbrev entries : List Moment
-    entries = merged.entries.items
-
+  module _ (ks : List AnyKept) (entries : List Moment) (g : IsGathered ks ps entries) where
     trail : (i : ℕ) (s : Story) → slice_get run.stories i ≡ Some s → filter (is_of s.actor) entries ≡ all_moments s.ended s.last
     trail i s e =
         let k = kept i s e in

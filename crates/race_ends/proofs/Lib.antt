@@ -2,6 +2,7 @@ pub mod Members
 pub mod Taken
 pub mod Order
 pub mod Replays
+pub mod Borrowed
 pub mod Telling
 pub mod Told
 pub mod Gathered

@@ -4,6 +4,7 @@ use Rattle.std.specs.List.{Contains, flat_map}
 use Rattle.tect_ids.specs.declared.script.Plan.{Plan}
 use Rattle.tect_ids.specs.declared.script.ReportLine.{ReportLine}
 use Rattle.place_kit.specs.declared.any.AnyKept.{AnyKept}
+use Rattle.place_kit.specs.declared.entry.Moment.{Moment}
 use Rattle.place_kit.specs.declared.pass.Pass.{Pass}
 use Rattle.place_kit.specs.Started.{AreStarted}
 use Rattle.world_runs.specs.declared.event.Event.{Event}
@@ -11,17 +12,14 @@ use Rattle.world_runs.specs.Races.{FollowsByClient, race_report}
 use Rattle.noted_runs.specs.Laws.{AreSilent}
 use Rattle.noted_runs.specs.Woven.{Cut, woven}
 use Rattle.run_claims.specs.Claims.{IsHistory}
-use Rattle.merge_runs.specs.declared.gathered.Merged.{Merged}
 use Rattle.merge_runs.specs.Merged.{HaveDifferentActors, IsInOrder, RestrictsToTrails, RestrictsToHistories, moments_of}
 
--- one list of all moments of these passes, in order, which has the history of each of these places
-pub record IsGathered (ks : List AnyKept) (ps : List Pass) (merged : Merged) : Type 0 where
-  pub places : merged.places.items ≡ ks
-  pub passes : merged.passes.items ≡ ps
-  pub whole : IsPermutation (flat_map moments_of ps) merged.entries.items
-  pub order : IsInOrder merged.entries.items
-  pub trails : RestrictsToTrails ps merged.entries.items
-  pub histories : RestrictsToHistories ks merged.entries.items
+-- it is the one list of all moments of these passes, in order, and has the history of each of these places
+pub record IsGathered (ks : List AnyKept) (ps : List Pass) (entries : List Moment) : Type 0 where
+  pub whole : IsPermutation (flat_map moments_of ps) entries
+  pub order : IsInOrder entries
+  pub trails : RestrictsToTrails ps entries
+  pub histories : RestrictsToHistories ks entries
 
 -- it is all that is claimed of a history, and follows the script by client
 pub record IsRaceHistory (plan : Plan) (history : List Event) : Type 0 where
@@ -33,16 +31,18 @@ pub record AreOfClients (plan : Plan) (passes : List Pass) : Type 0 where
   pub different : HaveDifferentActors passes
   pub each : (actor : ℕ) → 1 ≤ actor → actor ≤ length plan.clients → (p : Pass) × Contains passes p × (p.actor ≡ actor)
 
--- The report is that of a history of the plan. The entries are its events in their order, but for dumps and the events of refused
--- ops; they have the trail of each client and the history of each place.
-pub record IsRaced (plan : Plan) (merged : Merged) (report : List ReportLine) : Type 0 where
+-- The report is that of a history of the plan. There is one list of all moments of these passes, in order, which has the trail of
+-- each client and the history of each of these places; its entries are the events of the history in their order, but for dumps and
+-- the events of refused ops.
+pub record IsRaced (plan : Plan) (places : List AnyKept) (passes : List Pass) (report : List ReportLine) : Type 0 where
   pub history : List Event
   pub of_plan : IsRaceHistory plan history
   pub shows : report ≡ race_report plan.counts plan.clients history
+  pub entries : List Moment
+  pub gathered : IsGathered places passes entries
   pub cuts : List Cut
   pub last : List Event
-  pub entries : history ≡ woven cuts last merged.entries.items
+  pub weaves : history ≡ woven cuts last entries
   pub silent : AreSilent cuts last
-  pub gathered : IsGathered merged.places.items merged.passes.items merged
-  pub started : AreStarted plan.counts merged.places.items
-  pub clients : AreOfClients plan merged.passes.items
+  pub started : AreStarted plan.counts places
+  pub clients : AreOfClients plan passes

@@ -1,5 +1,5 @@
 -- What a report tells of parts that dumps ended, and of the store at each dump.
-use Rattle.std.specs.Prelude.{◌≡◌, ℕ, ◌≤◌, List, [], ◌∷◌, ◌++◌, map, filter}
+use Rattle.std.specs.Prelude.{ℕ, ◌≤◌, List, [], ◌∷◌, ◌++◌, map, filter}
 use Rattle.std.specs.List.{All}
 use Rattle.tect_ids.specs.declared.script.ReportLine.{ReportLine}
 use Rattle.tect_ids.specs.declared.script.ReportLine.TheVariants.{Dump}

@@ -1,4 +1,4 @@
-ghost use Rattle.std.specs.Prelude.{◌≡◌, IfOk, IfErr};
+ghost use Rattle.std.specs.Prelude.{◌≡◌, IfOk, IfErr, map};
 ghost use Rattle.place_kit.specs.Started.{AreStarted};
 ghost use Rattle.place_locks.specs.Started.{IsLoss};
 ghost use Rattle.merge_runs.specs.Merged.{HaveDifferentActors, StandInOrder};
@@ -10,18 +10,19 @@ use crate::ended::EndedPart;
 use crate::fault::RaceFault;
 use crate::passes::take_passes;
 use crate::report::tell;
-use merge_runs::{GatherFault, Merged, gather};
-use place_kit::{AnyKept, Pass, Refused};
+use merge_runs::{GatherFault, gather};
+use place_kit::{AnyKept, Moment, Pass, Refused};
 use place_locks::Places;
 use racers::Racer;
 use std::alloc::Global;
 use tect_ids::{Plan, ReportLine};
 
-/// What a race came to: one history of all that its clients and its places kept, and the report.
+/// What a race came to: the report, and all that its places and its clients kept, which is one history.
 #[derive(Drop)]
 pub struct Raced {
-    pub merged: Merged,
     pub report: Vec<ReportLine>,
+    pub places: Vec<AnyKept>,
+    pub passes: Vec<Pass>,
 }
 
 /// Ends a race whose clients have done all lines of the plan. What they and the places kept is gathered to one history. The
@@ -41,15 +42,20 @@ pub fn finish(
 ) -> Result<Raced, RaceFault>
     requires places { places ≡ plan.now.counts }
     requires run { HaveRun plan.now.counts plan.now.clients plan.now.lines racers.items ended.items last.items }
-    ensures raced { IfOk result (λ raced. IsRaced plan.now raced.merged raced.report.items) }
+    ensures raced { IfOk result (λ raced. IsRaced plan.now raced.places.items raced.passes.items raced.report.items) }
     ensures fault { IfErr result (IsRaceFault plan.now.counts) }
 {
     let passes = take_passes(alloc, racers)?;
     let kepts = take_kepts(places)?;
-    let merged = gather_all(alloc, kepts, passes)?;
-    let entries = merged.entries.as_slice();
-    let report = tell(alloc, plan.counts, entries, ended, last)?;
-    Ok(Raced { merged, report })
+    let report = {
+        let entries = gather_all(alloc, kepts.as_slice(), passes.as_slice())?;
+        tell(alloc, plan.counts, entries.as_slice(), ended, last)?
+    };
+    Ok(Raced {
+        report,
+        places: kepts,
+        passes,
+    })
 }
 
 // All shards, in the order of their places.
@@ -66,14 +72,18 @@ fn take_kepts(places: Places) -> Result<Vec<AnyKept>, RaceFault>
 }
 
 // One history of all places and passes.
-fn gather_all(alloc: Global, kepts: Vec<AnyKept>, passes: Vec<Pass>) -> Result<Merged, RaceFault>
-    requires places { StandInOrder 0 kepts.items }
-    requires actors { HaveDifferentActors passes.items }
-    ensures gathered { IfOk result (IsGathered kepts.items passes.items) }
-    ensures split { IfErr result (IsSplitOf kepts.items passes.items) }
+fn gather_all<'a>(
+    alloc: Global,
+    kepts: &[AnyKept],
+    passes: &'a [Pass],
+) -> Result<Vec<&'a Moment>, RaceFault>
+    requires places { StandInOrder 0 kepts.now }
+    requires actors { HaveDifferentActors passes.now }
+    ensures gathered { IfOk result (λ v. IsGathered kepts.now passes.now (map (λ m. m.now) v.items)) }
+    ensures split { IfErr result (IsSplitOf kepts.now passes.now) }
 {
     match gather(alloc, kepts, passes) {
-        Ok(merged) => Ok(merged),
+        Ok(entries) => Ok(entries),
         Err(GatherFault::NoMemory) => Err(RaceFault::NoMemory),
         Err(
             GatherFault::Split {

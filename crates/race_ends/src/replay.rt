@@ -1,4 +1,4 @@
-ghost use Rattle.std.specs.Prelude.{◌≡◌, IfOk, OnOk, filter};
+ghost use Rattle.std.specs.Prelude.{◌≡◌, ◌≤◌, IfOk, OnOk, drop, filter, length, map};
 ghost use Rattle.place_kit.specs.Moments.{stamp_of};
 ghost use Rattle.noted_runs.specs.Events.{event_of};
 ghost use Rattle.noted_runs.specs.Laws.{StampsRise};
@@ -28,21 +28,22 @@ fn redo(shards: &mut Shards, moment: &Moment) -> Result<(), NoMemory>
     }
 }
 
-/// Does the transactions again that are stamped up to the clock, and answers the moments behind them.
-pub(crate) fn redo_up_to<'a>(
+/// Does the transactions again that are stamped up to the clock, and answers how many moments are stamped so.
+pub(crate) fn redo_up_to(
     shards: &mut Shards,
-    moments: &'a [Moment],
+    moments: &[&Moment],
     clock: u64,
-) -> Result<&'a [Moment], NoMemory>
-    requires { StampsRise moments.now }
-    ensures store { OnOk result (shards.new ≡ record shards.old { store = stored_up_to clock shards.old.store moments.now }) }
-    ensures later { IfOk result (λ later. later.now ≡ filter (is_late clock) moments.now) }
+) -> Result<usize, NoMemory>
+    requires { StampsRise (map (λ m. m.now) moments.now) }
+    ensures store { OnOk result (shards.new ≡ record shards.old { store = stored_up_to clock shards.old.store (map (λ m. m.now) moments.now) }) }
+    ensures within { IfOk result (λ done. done ≤ length moments.now) }
+    ensures later { IfOk result (λ done. drop done (map (λ m. m.now) moments.now) ≡ filter (is_late clock) (map (λ m. m.now) moments.now)) }
 {
     for (done, moment) in moments.iter().enumerate() {
         if stamp(moment) > clock {
-            return Ok(&moments[done..]);
+            return Ok(done);
         }
         redo(shards, moment)?;
     }
-    Ok(&[])
+    Ok(moments.len())
 }

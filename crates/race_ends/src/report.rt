@@ -15,14 +15,14 @@ use tect_ids::{Counts, DumpLine, NoMemory, ReportLine};
 pub(crate) fn tell(
     alloc: Global,
     counts: Counts,
-    moments: &[Moment],
+    moments: &[&Moment],
     ended: Vec<EndedPart>,
     last: Vec<ReportLine>,
 ) -> Result<Vec<ReportLine>, NoMemory>
     requires places { HasPlaces counts }
-    requires rising { StampsRise moments.now }
-    requires dumps { DumpsRise moments.now 0 ended.items }
-    ensures { IfOk result (λ report. report.items ≡ told_by ended.items last.items moments.now) }
+    requires rising { StampsRise (map (λ m. m.now) moments.now) }
+    requires dumps { DumpsRise (map (λ m. m.now) moments.now) 0 ended.items }
+    ensures { IfOk result (λ report. report.items ≡ told_by ended.items last.items (map (λ m. m.now) moments.now)) }
 {
     if ended.is_empty() {
         return Ok(last);
@@ -30,9 +30,9 @@ pub(crate) fn tell(
     let mut last = last;
     let mut report = Vec::new(alloc);
     let mut shards = Shards::start(alloc, counts)?;
-    let mut later = moments;
+    let mut done = 0;
     for part in ended {
-        later = redo_up_to(&mut shards, later, part.clock)?;
+        done += redo_up_to(&mut shards, &moments[done..], part.clock)?;
         add_part(&mut report, part, &shards)?;
     }
     report.append(&mut last)?;

@@ -4,23 +4,26 @@ use Rattle.std.specs.Io.KnownBytes.{Appends}
 use Rattle.tect_ids.specs.declared.script.Plan.{Plan}
 use Rattle.tect_ids.specs.declared.script.ReportLine.{ReportLine}
 use Rattle.tect_edge.specs.Prefixes.{AppendsProperPrefix}
-use Rattle.merge_runs.specs.declared.gathered.Merged.{Merged}
+use Rattle.place_kit.specs.declared.any.AnyKept.{AnyKept}
+use Rattle.place_kit.specs.declared.pass.Pass.{Pass}
 use Rattle.race_ends.specs.Raced.{IsRaced}
 use Rattle.tect_app.specs.RaceEnds.{race_text, IsRaceShown, IsRaceCut}
 
-pub race_shown : (plan : Plan) (merged : Merged) (report lines : List ReportLine) (old new : Option (List ℕ)) → IsRaced plan merged report → lines ≡ report
+pub race_shown : (plan : Plan) (places : List AnyKept) (passes : List Pass) (report lines : List ReportLine) (old new : Option (List ℕ)) → IsRaced plan places passes report → lines ≡ report
     → Appends old new (race_text lines) → IsRaceShown plan old new
-race_shown plan merged report lines old new raced same written = record {
-  merged = merged;
+race_shown plan places passes report lines old new raced same written = record {
+  places = places;
+  passes = passes;
   report = report;
   raced = raced;
   written = subst (λ (ls : List ReportLine). Appends old new (race_text ls)) same written;
 }
 
-pub race_cut : (plan : Plan) (merged : Merged) (report lines : List ReportLine) (old new : Option (List ℕ)) → IsRaced plan merged report → lines ≡ report
+pub race_cut : (plan : Plan) (places : List AnyKept) (passes : List Pass) (report lines : List ReportLine) (old new : Option (List ℕ)) → IsRaced plan places passes report → lines ≡ report
     → AppendsProperPrefix old new (race_text lines) → IsRaceCut plan old new
-race_cut plan merged report lines old new raced same written = record {
-  merged = merged;
+race_cut plan places passes report lines old new raced same written = record {
+  places = places;
+  passes = passes;
   report = report;
   raced = raced;
   written = subst (λ (ls : List ReportLine). AppendsProperPrefix old new (race_text ls)) same written;

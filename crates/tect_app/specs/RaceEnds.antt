@@ -6,7 +6,8 @@ use Rattle.tect_ids.specs.declared.ids.Counts.{Counts}
 use Rattle.tect_ids.specs.declared.ids.Place.{Place}
 use Rattle.tect_ids.specs.declared.script.Plan.{Plan}
 use Rattle.tect_ids.specs.declared.script.ReportLine.{ReportLine}
-use Rattle.merge_runs.specs.declared.gathered.Merged.{Merged}
+use Rattle.place_kit.specs.declared.any.AnyKept.{AnyKept}
+use Rattle.place_kit.specs.declared.pass.Pass.{Pass}
 use Rattle.tect_edge.specs.Prefixes.{AppendsProperPrefix}
 use Rattle.tect_replay.specs.Output.{lines_text, end_text}
 use Rattle.race_ends.specs.declared.fault.RaceFault.{RaceFault}
@@ -21,16 +22,18 @@ race_text report = lines_text report ++ end_text
 -- The race came to one history of the plan, which is what its clients and its places kept; and the whole report of this history was
 -- written.
 pub record IsRaceShown (plan : Plan) (old new : Option (List ℕ)) : Type 0 where
-  pub merged : Merged
+  pub places : List AnyKept
+  pub passes : List Pass
   pub report : List ReportLine
-  pub raced : IsRaced plan merged report
+  pub raced : IsRaced plan places passes report
   pub written : Appends old new (race_text report)
 
 -- a front of the report of such a history was written, and not all
 pub record IsRaceCut (plan : Plan) (old new : Option (List ℕ)) : Type 0 where
-  pub merged : Merged
+  pub places : List AnyKept
+  pub passes : List Pass
   pub report : List ReportLine
-  pub raced : IsRaced plan merged report
+  pub raced : IsRaced plan places passes report
   pub written : AppendsProperPrefix old new (race_text report)
 
 abbrev pub split_text : ℕ → ℕ → List ℕ

@@ -21,8 +21,8 @@ use tect_ids::Plan;
 /// raised to it, so that what is stamped up to it was done before the dump, and all else after it.
 ///
 /// The report has the answers of the lines before each dump, client by client in first-seen order, and behind them the dump; last
-/// come the answers of the lines behind the last dump. With it comes one history of all that the clients and the places kept. It
-/// is claimed to be a run of the world that follows the script client by client, and the report to be its own.
+/// come the answers of the lines behind the last dump. With it comes all that the places and the clients kept. That is one history,
+/// which is claimed to be a run of the world that follows the script client by client, and the report to be its own.
 ///
 /// There is no memory where memory is wanting, and where a client's clock has come to 2^63. A race is split where what its clients
 /// kept and what its places kept are not the same transactions, and astray where at a place another machine was found than the one
@@ -37,7 +37,7 @@ pub fn race<R: Threads + Wait + Sync, G: Gate + Sync>(
     requires plan { IsPlayable plan.now }
     requires clients { length plan.now.clients ≤ 64 }
     requires workers { (1 ≤ workers) × (workers ≤ 64) }
-    ensures raced { IfOk result (λ raced. IsRaced plan.now raced.merged raced.report.items) }
+    ensures raced { IfOk result (λ raced. IsRaced plan.now raced.places.items raced.passes.items raced.report.items) }
     ensures fault { IfErr result (IsRaceFault plan.now.counts) }
 {
     let places = Places::start(alloc, plan.counts)?;

@@ -15,8 +15,8 @@ use Rattle.world_runs.specs.declared.event.Event.{Event}
 use Rattle.noted_runs.specs.Events.{events_of}
 use Rattle.noted_runs.specs.Laws.{IsSilent}
 use Rattle.clients.specs.Lives.{ClientLife, events_in, idle_life}
-use Rattle.merge_runs.specs.declared.gathered.Merged.{Merged}
 use Rattle.merge_runs.specs.Merged.{Agree, RestrictsToHistories, RestrictsToTrails, HaveDifferentActors}
+use Rattle.tect_world.specs.declared.history.WorldHistory.{WorldHistory}
 use Rattle.tect_world.specs.declared.world.World.TheInside.{Inside}
 use Rattle.tect_world.specs.Clients.{client_at, events_by}
 use Rattle.tect_world.specs.Inside.{life_of, noted_in, IsWorld}
@@ -77,22 +77,22 @@ module _ (w : Inside) (is : IsWorld w) where
     all_agree =
         agree c ks w.shards.entries ps w.clock w.order.items (moments_by c ls) started kept is.noted (have_marks w is) (of_actor w is ps taken) (of_pass w is ps taken) actors_differ
 
-    pub gathered : (m : Merged) → IsOneList ks ps m → IsGathered (life_of w) m
-    gathered m g =
-        let same : m.entries.items ≡ noted_in w =
+    pub gathered : (h : WorldHistory) → IsOneList ks ps h → IsGathered (life_of w) h
+    gathered h g =
+        let same : h.entries.items ≡ noted_in w =
         merged_is c ks w.shards.entries ps w.clock w.order.items (moments_by c ls) started kept is.noted (have_marks w is) (of_actor w is ps taken) (of_pass w is ps taken) actors_differ
-        m.entries.items g.whole g.order in
+        h.entries.items g.whole g.order in
         record {
           told = subst (λ (ms : List Moment). Notes (life_of w).history ms) (sym same) noted_history;
           order = g.order;
           whole = rw g.passes g.whole;
           started = rw g.places started;
-          histories = subst (λ (xs : List AnyKept). RestrictsToHistories xs m.entries.items) (sym g.places) g.histories;
-          trails = subst (λ (xs : List Pass). RestrictsToTrails xs m.entries.items) (sym g.passes) g.trails;
+          histories = subst (λ (xs : List AnyKept). RestrictsToHistories xs h.entries.items) (sym g.places) g.histories;
+          trails = subst (λ (xs : List Pass). RestrictsToTrails xs h.entries.items) (sym g.passes) g.trails;
           different = rw g.passes actors_differ;
           each = rw g.passes (each w is ps taken);
         }
 
-    pub gathered_ok : {E : Type 0} (result : Result Merged E) → IfOk result (IsOneList ks ps) → IfOk result (IsGathered (life_of w))
-    gathered_ok (Ok m) g = gathered m g
+    pub gathered_ok : {E : Type 0} (result : Result WorldHistory E) → IfOk result (IsOneList ks ps) → IfOk result (IsGathered (life_of w))
+    gathered_ok (Ok h) g = gathered h g
     gathered_ok (Err e) g = tt

@@ -10,8 +10,8 @@ use Rattle.world_runs.specs.declared.event.Event.TheVariants.{Dumped}
 use Rattle.noted_runs.specs.Events.{event_of}
 use Rattle.noted_runs.specs.Laws.{IsSilent}
 use Rattle.clients.specs.Lives.{ClientLife}
-use Rattle.merge_runs.specs.declared.gathered.Merged.{Merged}
 use Rattle.merge_runs.specs.Merged.{HaveDifferentActors, IsInOrder, RestrictsToTrails, RestrictsToHistories, moments_of}
+use Rattle.tect_world.specs.declared.history.WorldHistory.{WorldHistory}
 use Rattle.tect_world.specs.Life.{Life}
 
 -- no moment notes it: a dump, or an event of an op that was refused
@@ -31,22 +31,22 @@ pub record IsPassOf (l : ClientLife) (p : Pass) : Type 0 where
   pub moments : p.moments.items ≡ l.moments
 
 -- one list of all moments of these passes, in order, which has the history of each of these places
-pub record IsOneList (ks : List AnyKept) (ps : List Pass) (m : Merged) : Type 0 where
-  pub places : m.places.items ≡ ks
-  pub passes : m.passes.items ≡ ps
-  pub whole : IsPermutation (flat_map moments_of ps) m.entries.items
-  pub order : IsInOrder m.entries.items
-  pub trails : RestrictsToTrails ps m.entries.items
-  pub histories : RestrictsToHistories ks m.entries.items
+pub record IsOneList (ks : List AnyKept) (ps : List Pass) (h : WorldHistory) : Type 0 where
+  pub places : h.places.items ≡ ks
+  pub passes : h.passes.items ≡ ps
+  pub whole : IsPermutation (flat_map moments_of ps) h.entries.items
+  pub order : IsInOrder h.entries.items
+  pub trails : RestrictsToTrails ps h.entries.items
+  pub histories : RestrictsToHistories ks h.entries.items
 
 -- All moments of the passes, by their stamps: in that order they are the noted events of the history. They have of each place what
 -- it keeps, and of each actor its pass.
-pub record IsGathered (w : Life) (m : Merged) : Type 0 where
-  pub told : Notes w.history m.entries.items
-  pub order : IsInOrder m.entries.items
-  pub whole : IsPermutation (flat_map moments_of m.passes.items) m.entries.items
-  pub started : AreStarted w.counts m.places.items
-  pub histories : RestrictsToHistories m.places.items m.entries.items
-  pub trails : RestrictsToTrails m.passes.items m.entries.items
-  pub different : HaveDifferentActors m.passes.items
-  pub each : (actor : ℕ) → 1 ≤ actor → actor ≤ 65 → (p : Pass) × Contains m.passes.items p × (p.actor ≡ actor)
+pub record IsGathered (w : Life) (h : WorldHistory) : Type 0 where
+  pub told : Notes w.history h.entries.items
+  pub order : IsInOrder h.entries.items
+  pub whole : IsPermutation (flat_map moments_of h.passes.items) h.entries.items
+  pub started : AreStarted w.counts h.places.items
+  pub histories : RestrictsToHistories h.places.items h.entries.items
+  pub trails : RestrictsToTrails h.passes.items h.entries.items
+  pub different : HaveDifferentActors h.passes.items
+  pub each : (actor : ℕ) → 1 ≤ actor → actor ≤ 65 → (p : Pass) × Contains h.passes.items p × (p.actor ≡ actor)

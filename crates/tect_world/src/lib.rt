@@ -8,7 +8,7 @@ mod marks;
 mod world;
 
 pub use actors::Turned;
-pub use merge_runs::Merged;
+pub use history::WorldHistory;
 pub use world::World;
 
 #[cfg(test)]

@@ -32,9 +32,9 @@ fn create(world: &mut World, alloc: Global, actor: u32, name: &[u8]) -> Result<b
 
 /// How many places and passes there are, and how many entries and notes.
 fn count(world: World, alloc: Global) -> Result<(usize, usize, usize), Fail> {
-    let merged = world.history(alloc)?;
-    let (places, passes) = (merged.places.len(), merged.passes.len());
-    Ok((places, passes, merged.entries.len()))
+    let history = world.history(alloc)?;
+    let (places, passes) = (history.places.len(), history.passes.len());
+    Ok((places, passes, history.entries.len()))
 }
 
 // Each create begins, does two transactions and ends; a dump is not noted.

@@ -1,14 +1,23 @@
-use Rattle.std.proofs.Common.{subst, sym, List}
-use Rattle.std.specs.List.{All}
-use Rattle.place_kit.specs.declared.any.AnyKept.{AnyKept}
-use Rattle.place_kit.specs.declared.pass.Pass.{Pass}
-use Rattle.merge_runs.specs.Merged.{HaveDifferentActors, IsStored, trails}
+use Rattle.std.proofs.Common.{map}
+use Rattle.merge_runs.proofs.Agreement.{agreement, apart_disagrees, stored_trails}
+use Rattle.merge_runs.proofs.Gathers.{restricts_to_trails, restricts_to_histories}
 use Rattle.merge_runs.proofs.gathered.gather.Goals as goal
 
-pub gathered-requires-clause-actors : goal.gathered-requires-clause-actors
-gathered-requires-clause-actors c = subst (λ (ps : List Pass). HaveDifferentActors ps) (sym c.as_slice-2.ensures.value) c.requires.actors
+pub returns-in-Some-clause-memory : goal.returns-in-Some-clause-memory
+returns-in-Some-clause-memory c = λ a. absurd (apart_disagrees c.args.kepts.now c.args.passes.now c.in-Some.apart.now c.in-Some.ensures a)
 
-pub returns-clause-stored : goal.returns-clause-stored
-returns-clause-stored c =
-    let here = subst (λ (ks : List AnyKept). All (IsStored ks) (trails c.as_slice-2.result.now)) c.as_slice.ensures.value c.in_ok-entries.ensures.stored in
-    subst (λ (ps : List Pass). All (IsStored c.args.kepts.items) (trails ps)) c.as_slice-2.ensures.value here
+pub returns-in-Ok-clause-agree : goal.returns-in-Ok-clause-agree
+returns-in-Ok-clause-agree c = agreement c.args.kepts.now c.args.passes.now c.requires.places c.requires.actors c.in_default.ensures.0 c.in_default.ensures.1
+
+pub returns-in-Ok-clause-trails : goal.returns-in-Ok-clause-trails
+returns-in-Ok-clause-trails c =
+    restricts_to_trails c.args.kepts.now c.args.passes.now (map (λ m. m.now) c.in-Ok.entries.items) c.requires.places c.requires.actors c.in-Ok.ensures.all c.in-Ok.ensures.order
+    c.in_default.ensures.0 c.in_default.ensures.1
+
+pub returns-in-Ok-clause-histories : goal.returns-in-Ok-clause-histories
+returns-in-Ok-clause-histories c =
+    restricts_to_histories c.args.kepts.now c.args.passes.now (map (λ m. m.now) c.in-Ok.entries.items) c.requires.places c.requires.actors c.in-Ok.ensures.all c.in-Ok.ensures.order
+    c.in_default.ensures.0 c.in_default.ensures.1
+
+pub returns-in-Ok-clause-stored : goal.returns-in-Ok-clause-stored
+returns-in-Ok-clause-stored c = stored_trails c.args.kepts.now c.args.passes.now c.in_default.ensures.1

@@ -1,49 +1,66 @@
-use Rattle.std.proofs.Common.{List, subst, sym, ap, ◌∙◌}
+use Rattle.std.proofs.Common.{List, map, subst, sym, ap, ◌∙◌}
 use Rattle.std.proofs.lemmas.Result.{err_from_is_err_and}
 use Rattle.tect_ids.specs.declared.ids.Counts.{Counts}
+use Rattle.place_kit.specs.declared.any.AnyKept.{AnyKept}
 use Rattle.place_kit.specs.declared.entry.Moment.{Moment}
+use Rattle.place_kit.specs.declared.pass.Pass.{Pass}
 use Rattle.place_kit.specs.Started.{AreStarted}
-use Rattle.noted_runs.specs.Laws.{StampsRise}
-use Rattle.race_ends.specs.Told.{DumpsRise, told_by}
+use Rattle.merge_runs.specs.Merged.{HaveDifferentActors, StandInOrder}
+use Rattle.race_ends.specs.Faults.{IsSplitOf}
+use Rattle.race_ends.specs.Told.{told_by}
 use Rattle.race_ends.proofs.Ends.{raced}
-use Rattle.race_ends.proofs.Gathered.{differ, dumps}
+use Rattle.race_ends.proofs.Gathered.{differ, dumps, gathered_behind}
 use Rattle.race_ends.proofs.Losses.{split_is_fault}
 use Rattle.race_ends.proofs.Order.{order_rises, started_stand}
 use Rattle.race_ends.proofs.ending.finish.Goals as goal
 
 pub gather_all-requires-clause-places : goal.gather_all-requires-clause-places
-gather_all-requires-clause-places c = started_stand c.args.places c.in_ok-kepts.kepts.items c.in_ok-kepts.ensures.all
+gather_all-requires-clause-places c =
+    subst (λ (ks : List AnyKept). StandInOrder 0 ks) (sym c.as_slice.ensures.value) (started_stand c.args.places c.in_ok-kepts.kepts.items c.in_ok-kepts.ensures.all)
 
 pub gather_all-requires-clause-actors : goal.gather_all-requires-clause-actors
 gather_all-requires-clause-actors c =
     let plan = c.args.plan.now in
-    differ plan.counts plan.clients plan.lines c.args.racers.items c.args.ended.items c.args.last.items c.requires.run c.in_ok-passes.passes.items c.in_ok-passes.ensures
+    subst (λ (ps : List Pass). HaveDifferentActors ps) (sym c.as_slice-2.ensures.value)
+    (differ plan.counts plan.clients plan.lines c.args.racers.items c.args.ended.items c.args.last.items c.requires.run c.in_ok-passes.passes.items c.in_ok-passes.ensures)
 
-pub returns-in_err-merged-clause-fault : goal.returns-in_err-merged-clause-fault
-returns-in_err-merged-clause-fault c =
+pub returns-in_err-entries-clause-fault : goal.returns-in_err-entries-clause-fault
+returns-in_err-entries-clause-fault c =
     let plan = c.args.plan.now in
-    let started = subst (λ (counts : Counts). AreStarted counts c.in_ok-kepts.kepts.items) c.requires.places c.in_ok-kepts.ensures.all in
-    let actors = differ plan.counts plan.clients plan.lines c.args.racers.items c.args.ended.items c.args.last.items c.requires.run c.in_ok-passes.passes.items c.in_ok-passes.ensures in
-    let fault = split_is_fault plan.counts c.in_ok-kepts.kepts.items c.in_ok-passes.passes.items c.in_err-merged.field-0.0 started actors c.in_err-merged.ensures.split in
-    let p = err_from_is_err_and c.from_residual-in_err-merged.result c.from_residual-in_err-merged.ensures.1 in
-    rw (p.1, p.2) fault
+    let kepts = c.in_ok-kepts.kepts.items in
+    let passes = c.in_ok-passes.passes.items in
+    let started = subst (λ (counts : Counts). AreStarted counts kepts) c.requires.places c.in_ok-kepts.ensures.all in
+    let actors = differ plan.counts plan.clients plan.lines c.args.racers.items c.args.ended.items c.args.last.items c.requires.run passes c.in_ok-passes.ensures in
+    let split = subst (λ (ks : List AnyKept). IsSplitOf ks passes c.in_err-entries.field-0.0) c.as_slice.ensures.value
+    (subst (λ (ps : List Pass). IsSplitOf c.as_slice.result.now ps c.in_err-entries.field-0.0) c.as_slice-2.ensures.value c.in_err-entries.ensures.split) in
+    let p = err_from_is_err_and c.from_residual-in_err-entries.result c.from_residual-in_err-entries.ensures.1 in
+    rw (p.1, p.2) (split_is_fault plan.counts kepts passes c.in_err-entries.field-0.0 started actors split)
 
 pub tell-requires-clause-rising : goal.tell-requires-clause-rising
-tell-requires-clause-rising c = subst (λ (ms : List Moment). StampsRise ms) (sym c.as_slice-entries.ensures.value) (order_rises c.in_ok-merged.merged.entries.items c.in_ok-merged.ensures.gathered.order)
+tell-requires-clause-rising c =
+    let entries = c.in_ok-entries.entries.items in
+    let order = c.in_ok-entries.ensures.gathered.order in
+    rw c.as_slice-3.ensures.value (order_rises (map (λ m. m.now) entries) order)
 
 pub tell-requires-clause-dumps : goal.tell-requires-clause-dumps
 tell-requires-clause-dumps c =
     let plan = c.args.plan.now in
-    subst (λ (ms : List Moment). DumpsRise ms 0 c.args.ended.items) (sym c.as_slice-entries.ensures.value)
-    (dumps plan.counts plan.clients plan.lines c.args.racers.items c.args.ended.items c.args.last.items c.requires.run c.in_ok-passes.passes.items c.in_ok-passes.ensures
-    c.in_ok-kepts.kepts.items c.in_ok-merged.merged c.in_ok-merged.ensures.gathered)
+    let kepts = c.in_ok-kepts.kepts.items in
+    let passes = c.in_ok-passes.passes.items in
+    let entries : List Moment = map (λ m. m.now) c.in_ok-entries.entries.items in
+    let gathered = gathered_behind c.as_slice.result.now kepts c.as_slice-2.result.now passes entries c.as_slice.ensures.value c.as_slice-2.ensures.value c.in_ok-entries.ensures.gathered in
+    rw c.as_slice-3.ensures.value
+    (dumps plan.counts plan.clients plan.lines c.args.racers.items c.args.ended.items c.args.last.items c.requires.run passes c.in_ok-passes.ensures kepts entries gathered)
 
 pub returns-clause-raced : goal.returns-clause-raced
 returns-clause-raced c =
     let plan = c.args.plan.now in
-    let started = subst (λ (counts : Counts). AreStarted counts c.in_ok-kepts.kepts.items) c.requires.places c.in_ok-kepts.ensures.all in
+    let kepts = c.in_ok-kepts.kepts.items in
+    let passes = c.in_ok-passes.passes.items in
+    let entries : List Moment = map (λ m. m.now) c.in_ok-entries.entries.items in
+    let started = subst (λ (counts : Counts). AreStarted counts kepts) c.requires.places c.in_ok-kepts.ensures.all in
+    let gathered = gathered_behind c.as_slice.result.now kepts c.as_slice-2.result.now passes entries c.as_slice.ensures.value c.as_slice-2.ensures.value c.in_ok-entries.ensures.gathered in
     let ended = c.args.ended.items in
     let last = c.args.last.items in
-    raced plan c.args.racers.items ended last c.requires.run c.in_ok-passes.passes.items c.in_ok-passes.ensures c.in_ok-kepts.kepts.items started
-    c.in_ok-merged.merged c.in_ok-merged.ensures.gathered c.in_ok-report.report.items
-    (c.in_ok-report.ensures ∙ ap (λ (ms : List Moment). told_by ended last ms) c.as_slice-entries.ensures.value)
+    raced plan c.args.racers.items ended last c.requires.run passes c.in_ok-passes.ensures kepts started entries gathered c.in_ok-report.report.items
+    (c.in_ok-report.ensures ∙ ap (λ ms. told_by ended last (map (λ m. m.now) ms)) c.as_slice-3.ensures.value)

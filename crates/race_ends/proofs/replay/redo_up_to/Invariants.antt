@@ -1,4 +1,4 @@
-use Rattle.std.proofs.Common.{◌≡◌, take}
+use Rattle.std.proofs.Common.{◌≡◌, map, take}
 use Rattle.noted_runs.specs.Events.{events_of}
 use Rattle.noted_runs.specs.OwnRuns.{stored_after}
 use Rattle.race_runs.proofs.Timing.{AllUpTo}
@@ -6,6 +6,6 @@ use Rattle.race_ends.proofs.replay.redo_up_to.Given as goal
 
 abbrev pub invariant-loop-done : goal.invariant-loop-done
 invariant-loop-done l = record {
-  early : AllUpTo l.clock (take l.done l.moments);
-  store : l.shards ≡ record l.initial.shards { store = stored_after l.initial.shards.store (events_of (take l.done l.moments)) };
+  early : AllUpTo l.clock (take l.done (map (λ m. m.now) l.moments));
+  store : l.shards ≡ record l.initial.shards { store = stored_after l.initial.shards.store (events_of (take l.done (map (λ m. m.now) l.moments))) };
 }

@@ -1,6 +1,0 @@
-use Rattle.std.proofs.Common.{◌≡◌, map, take}
-use Rattle.merge_runs.specs.Keyed.{moment_in}
-use Rattle.merge_runs.proofs.sorted.copies.Given as goal
-
-abbrev pub invariant-loop-k : goal.invariant-loop-k
-invariant-loop-k l = l.moments.items ≡ map moment_in (take l.k-index l.keyed)
