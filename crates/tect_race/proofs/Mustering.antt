@@ -1,17 +1,14 @@
 -- The clients of all crews, before and behind some lines.
-use Rattle.std.proofs.Common.{◌≡◌, ℕ, zero, suc, ◌+◌, ◌*◌, ◌/◌, ◌%◌, ◌<◌, ◌↔◌, Some, Result, Ok, Err, IfOk, IfErr, List, [], ◌∷◌, length, map, get_or, refl, sym, ap, subst, ◌∙◌, arith, slice_get}
-use Rattle.std.specs.List.{AllZip, All, AllByRecursion}
-use Rattle.std.proofs.lemmas.List.Elements.{All-from_recursion}
+use Rattle.std.proofs.Common.{◌≡◌, ℕ, zero, suc, ◌+◌, ◌*◌, ◌/◌, ◌%◌, ◌<◌, ◌↔◌, Some, Result, Ok, Err, IfOk, List, [], ◌∷◌, length, get_or, refl, sym, ap, subst, ◌∙◌, arith, slice_get}
+use Rattle.std.specs.List.{AllZip, All}
 use Rattle.std.proofs.lemmas.Option.{slice_get_within, slice_get-get_or, get_or_from_slice_get}
 use Rattle.std.proofs.Math.Nat.{mod-lt}
 use Rattle.tect_ids.specs.declared.ids.Counts.{Counts}
 use Rattle.tect_ids.specs.declared.script.Line.{Line}
 use Rattle.racers.specs.declared.racer.Racer.{Racer}
 use Rattle.tect_race.specs.declared.crew.Crew.{Crew}
-use Rattle.race_ends.specs.declared.fault.RaceFault.{RaceFault}
-use Rattle.race_ends.specs.Faults.{IsLossOf}
 use Rattle.tect_race.specs.Lines.{Ran}
-use Rattle.tect_race.specs.Crews.{CrewRan, CrewEnds, CrewCame, CrewsRan, RacersRan}
+use Rattle.tect_race.specs.Crews.{CrewRan, CrewEnds, CrewsRan, RacersRan}
 use Rattle.tect_race.specs.Ready.{IsCrew, AreRacers, AreCrews, AreDealt}
 use Rattle.tect_race.proofs.Slots.{also_at, same_at, some_at, stands, place_crew, place_slot}
 

@@ -1,4 +1,4 @@
-use Rattle.std.proofs.Common.{◌≡◌, ◌∷◌, ◌++◌, [], List, drop, slice_range, sym, subst}
+use Rattle.std.proofs.Common.{◌∷◌, ◌++◌, [], List, drop, slice_range, sym, subst}
 use Rattle.std.specs.List.{AllZip}
 use Rattle.std.proofs.lemmas.Slice.Zip.{all_zipped_more}
 use Rattle.tect_race.specs.declared.crew.Crew.{Crew}

@@ -1,4 +1,4 @@
-use Rattle.std.proofs.Common.{rules, ◌≡◌, ◌<◌, List, Vec, length, get_or, drop, slice_range, slice_index_or, IsOk, sym, subst, ◌∙◌}
+use Rattle.std.proofs.Common.{rules, ◌≡◌, List, Vec, length, get_or, drop, slice_range, IsOk, sym, subst, ◌∙◌}
 use Rattle.std.specs.declared.alloc.Global.{Global}
 use Rattle.std.specs.List.{All, AllZip, flat_map}
 use Rattle.tect_race.specs.declared.crew.Crew.{Crew}
