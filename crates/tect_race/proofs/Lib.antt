@@ -6,7 +6,9 @@ pub mod Losses
 pub mod Dealing
 pub mod Parts
 pub mod Mustering
+pub mod Batching
 pub mod Endings
+pub mod Cutting
 pub mod Stories
 pub mod Dumps
 pub mod Finished

@@ -1,17 +1,14 @@
 -- The clients of all crews, before and behind some lines.
-use Rattle.std.proofs.Common.{◌≡◌, ℕ, zero, suc, ◌+◌, ◌*◌, ◌/◌, ◌%◌, ◌<◌, ◌↔◌, Some, Result, Ok, Err, IfOk, IfErr, List, [], ◌∷◌, length, map, get_or, refl, sym, ap, subst, ◌∙◌, arith, slice_get}
-use Rattle.std.specs.List.{AllZip, All, AllByRecursion}
-use Rattle.std.proofs.lemmas.List.Elements.{All-from_recursion}
+use Rattle.std.proofs.Common.{◌≡◌, ℕ, zero, suc, ◌+◌, ◌*◌, ◌/◌, ◌%◌, ◌<◌, ◌↔◌, Some, Result, Ok, Err, IfOk, List, [], ◌∷◌, length, get_or, refl, sym, ap, subst, ◌∙◌, arith, slice_get}
+use Rattle.std.specs.List.{AllZip, All}
 use Rattle.std.proofs.lemmas.Option.{slice_get_within, slice_get-get_or, get_or_from_slice_get}
 use Rattle.std.proofs.Math.Nat.{mod-lt}
 use Rattle.tect_ids.specs.declared.ids.Counts.{Counts}
 use Rattle.tect_ids.specs.declared.script.Line.{Line}
 use Rattle.racers.specs.declared.racer.Racer.{Racer}
 use Rattle.tect_race.specs.declared.crew.Crew.{Crew}
-use Rattle.race_ends.specs.declared.fault.RaceFault.{RaceFault}
-use Rattle.race_ends.specs.Faults.{IsLossOf}
 use Rattle.tect_race.specs.Lines.{Ran}
-use Rattle.tect_race.specs.Crews.{CrewRan, CrewEnds, CrewCame, CrewsRan, RacersRan}
+use Rattle.tect_race.specs.Crews.{CrewRan, CrewEnds, CrewsRan, RacersRan}
 use Rattle.tect_race.specs.Ready.{IsCrew, AreRacers, AreCrews, AreDealt}
 use Rattle.tect_race.proofs.Slots.{also_at, same_at, some_at, stands, place_crew, place_slot}
 
@@ -159,37 +156,7 @@ crews_dealt counts w ls rs cs racers dealt = record {
       });
 }
 
--- ---- what the workers came to
-
-pub all_came : (counts : Counts) (names : List (List ℕ)) (w : ℕ) (ls later : List Line) (cs : List Crew) (rs : List (Result Crew RaceFault)) → length rs ≡ length cs
-    → ((i : ℕ) (c : Crew) (r : Result Crew RaceFault) → i < length cs → CrewCame counts names w ls later (get_or cs i c) (get_or rs i r)) → AllZip (CrewCame counts names w ls later) cs rs
-all_came counts names w ls later cs rs l h =
-    zip_from (CrewCame counts names w ls later) cs rs l (λ i c r e f.
-    subst (λ (x : Crew). CrewCame counts names w ls later x r) (get_or_from_slice_get cs i c c e)
-    (subst (λ (y : Result Crew RaceFault). CrewCame counts names w ls later (get_or cs i c) y) (get_or_from_slice_get rs i r r f) (h i c r (slice_get_within cs i c e))))
-
-stray_of : (counts : Counts) (names : List (List ℕ)) (w : ℕ) (ls later : List Line) (c : Crew) (r : Result Crew RaceFault) → CrewCame counts names w ls later c r → IfErr r (IsLossOf counts)
-stray_of counts names w ls later c (Ok d) came = tt
-stray_of counts names w ls later c (Err e) came = came.so
-
-came_strays : (counts : Counts) (names : List (List ℕ)) (w : ℕ) (ls later : List Line) (cs : List Crew) (rs : List (Result Crew RaceFault)) → AllZip (CrewCame counts names w ls later) cs rs → AllByRecursion (λ r. IfErr r (IsLossOf counts)) rs
-came_strays counts names w ls later [] [] z = tt
-came_strays counts names w ls later [] (r ∷ rs) z = absurd z
-came_strays counts names w ls later (c ∷ cs) [] z = absurd z
-came_strays counts names w ls later (c ∷ cs) (r ∷ rs) z = (stray_of counts names w ls later c r z.0, came_strays counts names w ls later cs rs z.1)
-
-pub strays : (counts : Counts) (names : List (List ℕ)) (w : ℕ) (ls later : List Line) (cs : List Crew) (rs : List (Result Crew RaceFault)) → AllZip (CrewCame counts names w ls later) cs rs → All (λ r. IfErr r (IsLossOf counts)) rs
-strays counts names w ls later cs rs z = All-from_recursion (λ r. IfErr r (IsLossOf counts)) rs (came_strays counts names w ls later cs rs z)
-
-ended_by : (counts : Counts) (names : List (List ℕ)) (w : ℕ) (ls later : List Line) (cs ds : List Crew) → AllZip (CrewCame counts names w ls later) cs (map Ok ds) → AllZip (CrewEnds counts names w ls later) cs ds
-ended_by counts names w ls later [] [] z = tt
-ended_by counts names w ls later [] (d ∷ ds) z = absurd z
-ended_by counts names w ls later (c ∷ cs) [] z = absurd z
-ended_by counts names w ls later (c ∷ cs) (d ∷ ds) z = ((z.0).so, ended_by counts names w ls later cs ds z.1)
-
-pub all_ended : (counts : Counts) (names : List (List ℕ)) (w : ℕ) (ls later : List Line) (cs : List Crew) (rs : List (Result Crew RaceFault)) (ds : List Crew) → AllZip (CrewCame counts names w ls later) cs rs → map Ok ds ≡ rs
-    → AllZip (CrewEnds counts names w ls later) cs ds
-all_ended counts names w ls later cs rs ds z e = ended_by counts names w ls later cs ds (subst (λ (l : List (Result Crew RaceFault)). AllZip (CrewCame counts names w ls later) cs l) (sym e) z)
+-- ---- what the crews came to
 
 pub ended_ran : (counts : Counts) (names : List (List ℕ)) (w : ℕ) (ls later : List Line) (cs ds : List Crew) → AllZip (CrewEnds counts names w ls later) cs ds → CrewsRan names ls cs ds
 ended_ran counts names w ls later [] [] z = tt

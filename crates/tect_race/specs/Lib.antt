@@ -5,3 +5,4 @@ pub mod Faults
 pub mod Standing
 pub mod Done
 pub mod Progress
+pub mod Batches

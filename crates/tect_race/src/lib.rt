@@ -1,7 +1,8 @@
-//! A race: the clients of a script run side by side on workers, each in a thread of its own, over locked shards. What they did
-//! is one run of the world.
+//! A race: the clients of a script run side by side on workers, each that has something to do in a thread of its own, over locked
+//! shards. What they did is one run of the world.
 #![tactic(auto)]
 
+mod batches;
 mod closing;
 mod course;
 mod crew;

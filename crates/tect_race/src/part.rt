@@ -1,14 +1,15 @@
-ghost use Rattle.std.specs.Prelude.{◌≡◌, ◌≤◌, ◌<◌, IfOk, IfErr, length, drop, slice_range, map};
-ghost use Rattle.std.specs.List.{All};
+ghost use Rattle.std.specs.Prelude.{◌≡◌, ◌≤◌, ◌<◌, IfOk, IfErr, IsOk, length, drop, slice_range};
+ghost use Rattle.std.specs.List.{All, flat_map};
+ghost use Rattle.tect_race.specs.Batches.{ended_crews};
 ghost use Rattle.tect_race.specs.Crews.{CrewsRan, RacersRan};
 ghost use Rattle.tect_ids.specs.Places.{HasPlaces};
 ghost use Rattle.race_ends.specs.Faults.{IsLossOf};
 ghost use Rattle.tect_race.specs.Ready.{AreCrews, AreRacers, IsOfClient};
 
+use crate::batches::{cut, run_batch};
 use crate::course::Course;
 use crate::crew::Crew;
 use crate::crews::{deal, muster};
-use crate::lines::run_crew;
 use race_ends::RaceFault;
 use racers::Racer;
 use std::sync::Wait;
@@ -16,25 +17,27 @@ use std::thread;
 use std::thread::Threads;
 use tect_edge::Gate;
 
-/// The crews that came to the end, or the fault of the first that did not.
+/// The crews of all batches, in order, that came to the end, or the fault of the first batch that did not.
 fn finished<R: Wait, G: Gate>(
     course: &Course<'_, R, G>,
-    ran: Vec<Result<Crew, RaceFault>>,
+    ran: Vec<Result<Vec<Crew>, RaceFault>>,
 ) -> Result<Vec<Crew>, RaceFault>
-    requires { All (λ crew. IfErr crew (IsLossOf course.now.places.now)) ran.items }
-    ensures all { IfOk result (λ crews. map Ok crews.items ≡ ran.items) }
+    requires { All (λ batch. IfErr batch (IsLossOf course.now.places.now)) ran.items }
+    ensures ended { IfOk result (λ crews. All (λ batch. IsOk batch) ran.items) }
+    ensures joined { IfOk result (λ crews. crews.items ≡ flat_map ended_crews ran.items) }
     ensures fault { IfErr result (IsLossOf course.now.places.now) }
 {
     let mut crews = Vec::new(course.alloc);
-    'crews: for crew in ran {
-        let Ok(()) = crews.push(crew?) else {
+    'batches: for batch in ran {
+        let mut ended = batch?;
+        let Ok(()) = crews.append(&mut ended) else {
             return Err(RaceFault::NoMemory);
         };
     }
     Ok(crews)
 }
 
-/// All crews do their lines among those from `start` up to `end`, each in a thread of its own. All have ended then.
+/// All crews do their lines among those from `start` up to `end`, each that has one in a thread of its own. All have ended then.
 fn run_crews<R: Threads + Wait + Sync, G: Gate + Sync>(
     course: &Course<'_, R, G>,
     crews: Vec<Crew>,
@@ -56,7 +59,8 @@ fn run_crews<R: Threads + Wait + Sync, G: Gate + Sync>(
     let lines = course.lines;
     let workers = course.workers;
     let gate = course.gate;
-    let work = |crew: Crew| {
+    let batches = cut(alloc, crews, &lines[start..end], workers)?;
+    let work = |batch: Vec<Crew>| {
         let course = Course {
             rt,
             alloc,
@@ -66,9 +70,9 @@ fn run_crews<R: Threads + Wait + Sync, G: Gate + Sync>(
             workers,
             gate,
         };
-        run_crew(&course, crew, start, end)
+        run_batch(&course, batch, start, end)
     };
-    match thread::map_vec(rt, crews, &work) {
+    match thread::map_vec(rt, batches, &work) {
         Ok(ran) => finished(course, ran),
         Err(_) => Err(RaceFault::NoMemory),
     }

@@ -1,5 +1,10 @@
-use Rattle.std.proofs.Common.{◌≡◌, map, Ok}
+use Rattle.std.proofs.Common.{◌≡◌, IsOk}
+use Rattle.std.specs.List.{All, flat_map}
+use Rattle.tect_race.specs.Batches.{ended_crews}
 use Rattle.tect_race.proofs.part.finished.Given as goal
 
-abbrev pub invariant-crews : goal.invariant-crews
-invariant-crews g l = map Ok l.crews.items ≡ l.yielded
+abbrev pub invariant-batches : goal.invariant-batches
+invariant-batches g l = record {
+  ended : All (λ batch. IsOk batch) l.yielded;
+  joined : l.crews.items ≡ flat_map ended_crews l.yielded;
+}
