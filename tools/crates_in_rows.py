@@ -1,6 +1,6 @@
 #!/usr/bin/env python3
-"""The crates in rows, read from crates.txt: each crate stands on crates of lower rows alone. Crates of which no other one's
-code uses anything, so definitions and laws alone, stand on the right.
+"""The crates in rows, read from crates.txt: each crate stands on crates of lower rows alone. On the right stand those of
+which no other crate's code uses anything: the laws, and the small machine.
 
 crates_in_rows.py [NAME..]: behind each named crate, the crates that it stands on directly.
 """
@@ -21,7 +21,7 @@ def crates():
 def called():
     """Each crate of which another one's code uses an item."""
     files = [(path.parts[-3], path.read_text()) for path in TOP.glob("crates/*/src/*.rt")]
-    return {name for name in crates() for other, text in files if other != name and re.search(rf"^use {name}\b", text, re.M)}
+    return {name for name in crates() for other, text in files if other != name and re.search(rf"^(pub )?use {name}\b", text, re.M)}
 
 
 def main():
