@@ -1,7 +1,7 @@
 #!/usr/bin/env python3
 """The same commands through SQLite in memory and through plain files in a RAM file system, beside tect.
 
-compare.py SCRIPT [TIMES]: a script of make_script.py or make_race_script.py. Each way TIMES times (3 if left out), the best counts.
+compare.py [LINES [TIMES]] (60,000 and 3 if left out): a script of make_race_script.py. Each way TIMES times, the fastest counts.
 What it leaves out: SQLite and the files do the commands one after another, by one caller, with no shards, no history of transactions
 and no client that may stop in between; SQLite has each command as one transaction of its own, and its text is parsed once for each kind of command;
 the files are made, looked up, renamed and removed by system calls. Both are called from Python, whose own share is measured by a run
@@ -10,13 +10,14 @@ that only goes over the commands, and taken off. tect reads the script, and writ
 import os
 import shutil
 import sqlite3
-import subprocess
 import sys
 import tempfile
 import time
 
-PROGRAM = os.path.join(os.path.dirname(os.path.abspath(__file__)), "..", "crates", "tect", "out", "tect")
+from measuring import fastest, make, table
+
 RAM = "/dev/shm"
+FOLDER_IS_THERE = "where exists (select 1 from entry where path = ?3 and kind = 'dir')"
 
 
 def commands(script):
@@ -28,10 +29,7 @@ def commands(script):
 
 
 def nothing(_):
-    def do(verb, path, new):
-        return verb, path, new
-
-    return do
+    return lambda verb, path, new: None
 
 
 def sqlite(_):
@@ -43,9 +41,9 @@ def sqlite(_):
 
     def do(verb, path, new):
         if verb == "create":
-            base.execute("insert or replace into entry select ?1, 'file', ?2 where exists (select 1 from entry where path = ?3 and kind = 'dir')", (path, next(numbers), path[: path.rindex("/")] or "/"))
+            base.execute(f"insert or replace into entry select ?1, 'file', ?2 {FOLDER_IS_THERE}", (path, next(numbers), path[: path.rindex("/")] or "/"))
         elif verb == "mkdir":
-            base.execute("insert or ignore into entry select ?1, 'dir', ?2 where exists (select 1 from entry where path = ?3 and kind = 'dir')", (path, next(numbers), path[: path.rindex("/")] or "/"))
+            base.execute(f"insert or ignore into entry select ?1, 'dir', ?2 {FOLDER_IS_THERE}", (path, next(numbers), path[: path.rindex("/")] or "/"))
         elif verb == "look":
             base.execute("select kind, id from entry where path = ?", (path,)).fetchone()
         elif verb == "rename":
@@ -88,28 +86,24 @@ def seconds(kind, work):
         shutil.rmtree(room)
 
 
-def tect(script, words):
-    with open(script, "rb") as source:
-        start = time.perf_counter()
-        run = subprocess.run([PROGRAM, *words], stdin=source, stdout=subprocess.DEVNULL)
-        if run.returncode != 0:
-            sys.exit(f"{words}: status {run.returncode}")
-        return time.perf_counter() - start
+def measured(script, times):
+    work = [*commands(script)]
+    idle = min(seconds(nothing, work) for _ in range(times))
+    own = fastest(times, script, "replay").seconds
+    yield "`tect replay`", f"{own:.3f} s", "1"
+    for name, kind in [("SQLite in memory", sqlite), ("files in RAM", files)]:
+        took = min(seconds(kind, work) for _ in range(times)) - idle
+        yield name, f"{took:.3f} s", f"{took / own:.2f}"
+    for workers in (1, 2, 4):
+        took = fastest(times, script, "race", "--workers", str(workers)).seconds
+        yield f"`tect race --workers {workers}`", f"{took:.3f} s", f"{took / own:.2f}"
 
 
 def main():
-    script, times = sys.argv[1], int(sys.argv[2]) if len(sys.argv) > 2 else 3
-    work = [*commands(script)]
-    best = lambda run: min(run() for _ in range(times))
-    idle = best(lambda: seconds(nothing, work))
-    own = best(lambda: tect(script, ["replay"]))
-    print(f"{len(work)} commands by tect replay: {own:.3f} s, the measure of the others")
-    for name, kind in [("SQLite in memory", sqlite), ("files in RAM", files)]:
-        took = best(lambda: seconds(kind, work)) - idle
-        print(f"{name}: {took:.3f} s, {took / own:.2f} of it")
-    for workers in (1, 2, 4):
-        took = best(lambda: tect(script, ["race", "--workers", str(workers)]))
-        print(f"tect race --workers {workers}: {took:.3f} s, {took / own:.2f} of it")
+    lines, times = [int(word) for word in sys.argv[1:]] + [60000, 3][len(sys.argv) - 1 :]
+    with tempfile.TemporaryDirectory() as room:
+        print(f"{lines:,} lines, six of ten create, two look, one renames, one deletes:\n")
+        print(table(("Way", "Time", "Of replay's"), *measured(make(room, "make_race_script.py", lines), times)))
 
 
 main()

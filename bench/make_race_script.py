@@ -1,12 +1,12 @@
 #!/usr/bin/env python3
 """Writes a script whose clients work side by side, each in a directory of its own: make_race_script.py LINES [CLIENTS [SHARDS]].
 
-Each client makes its directory, and then in turn files, looks at them, renames and deletes them; a directory holds at most 1,000
+Each client makes its directory, and then in turn files, looks at them, renames and deletes them; a directory holds at most 2,000
 entries. The lines go round by client.
 """
 import sys
 
-FULL = 1000
+FULL = 2000
 
 
 def client_lines(client, count):
