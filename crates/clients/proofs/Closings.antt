@@ -6,7 +6,7 @@ use Rattle.tect_ids.specs.declared.ids.OpId.{OpId}
 use Rattle.tect_ids.specs.declared.answer.Answer.{Answer}
 use Rattle.tect_ids.specs.declared.command.Command.{Command}
 use Rattle.store_rules.specs.declared.any.AnyReq.{AnyReq}
-use Rattle.store_rules.specs.declared.any.AnyReply.{AnyReply}
+use Rattle.place_kit.specs.declared.entry.Entry.{Entry}
 use Rattle.place_kit.specs.declared.entry.Moment.TheVariants.{Local}
 use Rattle.place_kit.specs.declared.entry.Note.TheVariants as notes
 use Rattle.place_kit.specs.declared.entry.Refused.{Refused}
@@ -92,7 +92,7 @@ finished_actor : (a b : ActorState) (p r : Pass) (answer : Option Answer) → Fi
 finished_actor a b p r None done = ap (λ (x : ActorState). x.actor) done.0
 finished_actor a b p r (Some x) done = ap (λ (x : ActorState). x.actor) done.0
 
-module _ {W : Type 0} (done : W → W → AnyReq → Result AnyReply Refused → Type 0) (w v : W) (a b : Inside) (l : ClientLife) (is : IsClient a) (view : life_of a ≡ l)
+module _ {W : Type 0} (done : W → W → ℕ → AnyReq → Result Entry Refused → Type 0) (w v : W) (a b : Inside) (l : ClientLife) (is : IsClient a) (view : life_of a ≡ l)
     (noted : l.silent ≡ []) (runs : IsSome (state_in l).running) (counts : b.counts ≡ a.counts) (refused : b.refused ≡ a.refused) where
   noted_before : a.refused.items ≡ []
   noted_before = silent_here a l is view noted

@@ -11,6 +11,7 @@ use Rattle.store_rules.specs.declared.any.AnyReply.{AnyReply}
 use Rattle.store_rules.specs.Places.{request_place}
 use Rattle.op_names.specs.declared.program.Program.{Program}
 use Rattle.op_names.specs.Programs.{object_number}
+use Rattle.place_kit.specs.declared.entry.Entry.{Entry}
 use Rattle.place_kit.specs.declared.entry.Refused.{Refused}
 use Rattle.place_kit.specs.declared.entry.Refused.TheVariants as refusals
 use Rattle.world_runs.specs.declared.event.Event.{Event}
@@ -62,7 +63,7 @@ then_end : (silent : List Event) (op : OpId) (tried : Tried) (a : Answer) → En
 then_end [] op tried a = (tried_events op tried, end_event op a, refl, acts_of op tried, end_is_of op a)
 then_end (e ∷ es) op tried a = (tried_events op tried, Ended op a, refl, acts_of op tried, refl)
 
-module _ {W : Type 0} (done : W → W → AnyReq → Result AnyReply Refused → Type 0) (w v : W) (old new : ClientLife) where
+module _ {W : Type 0} (done : W → W → ℕ → AnyReq → Result Entry Refused → Type 0) (w v : W) (old new : ClientLife) where
   pub going_acts : (step : OwnStep done w v old new Going) → Acts (op_in old) 1 (step_events old.silent (op_in old) step.tried step.answer)
   going_acts step =
       let none : step.answer ≡ None = not_done step.answer step.told in
@@ -115,7 +116,7 @@ step_number counts s silent op Unasked answer = ends_number counts s silent op a
 step_number counts s silent op (Did q x) answer = ends_number counts (went_on counts s q x) silent op answer
 step_number counts s silent op (Denied q e) answer = ends_number counts s silent op answer
 
-module _ {W : Type 0} (done : W → W → AnyReq → Result AnyReply Refused → Type 0) (w v : W) (old new : ClientLife) (turned : Turned) (step : OwnStep done w v old new turned) where
+module _ {W : Type 0} (done : W → W → ℕ → AnyReq → Result Entry Refused → Type 0) (w v : W) (old new : ClientLife) (turned : Turned) (step : OwnStep done w v old new turned) where
   pub step_counts : new.counts ≡ old.counts
   step_counts =
       ap (λ (l : ClientLife). l.counts) step.life ∙ ended_counts (tried_life old step.stamp step.tried) (op_in old) step.answer ∙ tried_counts old step.stamp step.tried
@@ -137,7 +138,7 @@ module _ {W : Type 0} (done : W → W → AnyReq → Result AnyReply Refused →
       λ i. record { actor = step_actor i; number = number i }
 
 -- the same of what a step answers
-pub same_op : {W : Type 0} (done : W → W → AnyReq → Result AnyReply Refused → Type 0) (w v : W) (old new : ClientLife) (r : Result Turned Astray)
+pub same_op : {W : Type 0} (done : W → W → ℕ → AnyReq → Result Entry Refused → Type 0) (w v : W) (old new : ClientLife) (r : Result Turned Astray)
     → MatchResult r (OwnStep done w v old new) (λ e. WentAstray done w v old new (refusals.Astray e.want e.found)) → (new.counts ≡ old.counts) × (op_in new ≡ op_in old)
 same_op done w v old new (Ok turned) step = (step_counts done w v old new turned step, step_op done w v old new turned step)
 same_op done w v old new (Err e) astray = (ap (λ (l : ClientLife). l.counts) astray.life, ap op_in astray.life)
@@ -174,7 +175,7 @@ did_nearer counts s st silent op (Did q x) asks ends = heard_nearer counts s.ser
 did_nearer counts s st silent op Unasked asks ends = absurd ends
 did_nearer counts s st silent op (Denied q e) asks ends = absurd ends
 
-pub step_nearer : {W : Type 0} (done : W → W → AnyReq → Result AnyReply Refused → Type 0) (w v : W) (old new : ClientLife) → OwnStep done w v old new Going
+pub step_nearer : {W : Type 0} (done : W → W → ℕ → AnyReq → Result Entry Refused → Type 0) (w v : W) (old new : ClientLife) → OwnStep done w v old new Going
     → Nearer (state_in old).running (state_in new).running
 step_nearer done w v old new step =
     let none : step.answer ≡ None = not_done step.answer step.told in

@@ -1,6 +1,6 @@
 -- the turn of an actor with its pass, as a step of its client's life
 use Rattle.std.proofs.Common.{◌≡◌, ℕ, ◌+◌, inl, inr, Option, Some, None, IsSome, List, [], ◌∷◌, ◌++◌, length, refl, sym, ap, ◌∙◌, subst, arith, append_assoc}
-use Rattle.std.specs.Prelude.{Result}
+use Rattle.std.specs.Prelude.{Result, Ok}
 use Rattle.std.proofs.lemmas.List.{append-nil}
 use Rattle.tect_ids.specs.declared.ids.Counts.{Counts}
 use Rattle.tect_ids.specs.declared.ids.OpId.{OpId}
@@ -27,7 +27,7 @@ use Rattle.actors.specs.Turns.{turned_by}
 use Rattle.clients.specs.declared.turns.Turn.{Turn}
 use Rattle.clients.specs.Commits.{entry_at}
 use Rattle.clients.specs.Lives.{ClientLife, events_in, state_in, op_in}
-use Rattle.clients.specs.Steps.{Tried, Unasked, Did, Denied, Asks, state_after, EndsSo, entry_in, tried_life, ended_life, tried_events, end_events, is_later, OwnStep, WentAstray}
+use Rattle.clients.specs.Steps.{Tried, Unasked, Did, Denied, Asks, DidThere, state_after, EndsSo, entry_in, tried_life, ended_life, tried_events, end_events, is_later, OwnStep, WentAstray}
 use Rattle.clients.specs.Turns.{Finishes, Tries, act_count, after_try, TookTurn, LostTurn}
 use Rattle.clients.proofs.Stages.{own_events, Stage, pushed_events, runs_op, heard_some, acted_pushed, acted_stage, Because, ended_pushed, ended_stage}
 
@@ -137,7 +137,7 @@ number_stays counts a Unasked = refl
 number_stays counts a (Did q x) = refl
 number_stays counts a (Denied q e) = refl
 
-module _ {W : Type 0} (done : W → W → AnyReq → Result AnyReply Refused → Type 0) (counts : Counts) (w v : W) (a b : ActorState) (p r : Pass) (t : ℕ)
+module _ {W : Type 0} (done : W → W → ℕ → AnyReq → Result Entry Refused → Type 0) (counts : Counts) (w v : W) (a b : ActorState) (p r : Pass) (t : ℕ)
     (stage : Stage counts a p t) (runs : IsSome a.state.running) where
   module _ (turn : Turn) (took : TookTurn done counts w v a b p r turn) where
     middle_stage : Stage counts (after_try counts a took.tried) took.middle (t + act_count took.tried)
@@ -177,13 +177,19 @@ module _ {W : Type 0} (done : W → W → AnyReq → Result AnyReply Refused →
         ∙ ap (λ (o : OpId). own_events p ++ (tried_events o took.tried ++ end_events [] o turn.answer)) (sym (op_at counts a p t stage))
         ∙ ap (λ (es : List Event). es ++ (tried_events (op_in (life_at counts a p)) took.tried ++ end_events [] (op_in (life_at counts a p)) turn.answer)) (sym (append-nil (own_events p)))
 
+    there_at : (tried : Tried) → DidThere done w v p.clock (entry_at counts took.middle.clock p) tried
+        → DidThere done w v p.clock (entry_in (life_at counts a p) took.middle.clock) tried
+    there_at Unasked there = there
+    there_at (Did q x) there = subst (λ (e : Entry). done w v p.clock q (Ok e)) (entry_at_is counts a p t stage runs took.middle.clock q x) there
+    there_at (Denied q e) there = there
+
     pub turn_step : OwnStep done w v (life_at counts a p) (life_at counts b r) (turned_by turn.answer)
     turn_step = record {
       tried = took.tried;
       stamp = took.middle.clock;
       answer = turn.answer;
       asks = subst (λ (s : Actor). Asks s took.tried) (state_at counts a p t stage) took.asks;
-      there = took.there;
+      there = there_at took.tried took.there;
       later = later_of counts p took.middle took.tried took.tries;
       life = turn_life;
       events = turn_events;

@@ -1,10 +1,10 @@
 -- the step of an op that was refused: its end
-use Rattle.std.proofs.Common.{◌≡◌, ◌≢◌, inl, Option, Some, None, IsSome, List, [], ◌∷◌, ◌++◌, refl, sym, ap, ◌∙◌, append_assoc}
+use Rattle.std.proofs.Common.{ℕ, ◌≡◌, ◌≢◌, inl, Option, Some, None, IsSome, List, [], ◌∷◌, ◌++◌, refl, sym, ap, ◌∙◌, append_assoc}
 use Rattle.std.specs.Prelude.{Result}
 use Rattle.tect_ids.specs.declared.ids.OpId.{OpId}
 use Rattle.store_rules.specs.declared.any.AnyReq.{AnyReq}
-use Rattle.store_rules.specs.declared.any.AnyReply.{AnyReply}
 use Rattle.op_names.specs.declared.program.Program.{Program}
+use Rattle.place_kit.specs.declared.entry.Entry.{Entry}
 use Rattle.place_kit.specs.declared.entry.Refused.{Refused}
 use Rattle.place_kit.specs.Moments.{running_in}
 use Rattle.world_runs.specs.declared.event.Event.{Event}
@@ -37,7 +37,7 @@ module _ (old : ClientLife) (some : old.silent ≢ []) where
   stops_with [] other = absurd (other refl)
   stops_with (e ∷ es) other = refl
 
-  module _ {W : Type 0} (done : W → W → AnyReq → Result AnyReply Refused → Type 0) (w : W) (new : ClientLife) (is : IsLife old) (runs : IsSome (state_in old).running)
+  module _ {W : Type 0} (done : W → W → ℕ → AnyReq → Result Entry Refused → Type 0) (w : W) (new : ClientLife) (is : IsLife old) (runs : IsSome (state_in old).running)
       (after : new ≡ record old { silent = old.silent ++ Ended (op_in old) no_room ∷ [] }) where
     more_events : events_in new ≡ events_in old ++ ([] ++ end_events old.silent (op_in old) (Some no_room))
     more_events =

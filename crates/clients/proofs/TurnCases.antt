@@ -8,6 +8,7 @@ use Rattle.store_rules.specs.declared.any.AnyReq.{AnyReq}
 use Rattle.store_rules.specs.declared.any.AnyReply.{AnyReply}
 use Rattle.op_names.specs.declared.program.Program.{Program}
 use Rattle.op_names.specs.Programs.{object_number}
+use Rattle.place_kit.specs.declared.entry.Entry.{Entry}
 use Rattle.place_kit.specs.declared.entry.Note.TheVariants.{Ended}
 use Rattle.place_kit.specs.declared.entry.Refused.{Refused}
 use Rattle.place_kit.specs.declared.pass.Pass.{Pass}
@@ -15,7 +16,7 @@ use Rattle.place_kit.specs.Commits.{IsFull}
 use Rattle.world_runs.specs.Moments.{program_ask, program_answer, went_on}
 use Rattle.actors.specs.ActorState.{ActorState, op_of}
 use Rattle.clients.specs.declared.turns.Turn.{Turn}
-use Rattle.clients.specs.Commits.{Committed, NotedEnd}
+use Rattle.clients.specs.Commits.{entry_at, Committed, NotedEnd}
 use Rattle.clients.specs.Phases.{RunsSmoothly}
 use Rattle.clients.specs.Steps.{Unasked, Did, Denied, EndsSo}
 use Rattle.clients.specs.Turns.{ended, Settles, SettlesSo, Tries, TookTurn}
@@ -34,8 +35,8 @@ unasked_so : (a : ActorState) (answer : Option Answer) → RunsSmoothly a.state.
 unasked_so a None smooth runs asks so = goes_by a.state.serial a.state.running smooth runs asks so
 unasked_so a (Some x) smooth runs asks so = so
 
-module _ {W : Type 0} (done : W → W → AnyReq → Result AnyReply Refused → Type 0) (counts : Counts) (w v : W) (a b : ActorState) (p r : Pass) where
-  pub did_turn : (m : Pass) (q : AnyReq) (x : AnyReply) (answer : Option Answer) → program_ask a.state.serial a.state.running ≡ Some q → done w v q (Ok x) → ¬ IsFull p
+module _ {W : Type 0} (done : W → W → ℕ → AnyReq → Result Entry Refused → Type 0) (counts : Counts) (w v : W) (a b : ActorState) (p r : Pass) where
+  pub did_turn : (m : Pass) (q : AnyReq) (x : AnyReply) (answer : Option Answer) → program_ask a.state.serial a.state.running ≡ Some q → done w v p.clock q (Ok (entry_at counts m.clock p q x)) → ¬ IsFull p
       → Committed counts p m q x → Settles (record a { state = went_on counts a.state q x }) b m r answer → TookTurn done counts w v a b p r (record { transactions = 1; answer = answer })
   did_turn m q x answer asks did room committed settles = record {
     tried = Did q x;
@@ -48,7 +49,7 @@ module _ {W : Type 0} (done : W → W → AnyReq → Result AnyReply Refused →
     acted = refl;
   }
 
-  pub denied_turn : (m : Pass) (q : AnyReq) (e : Refused) (x : Answer) (turn : Turn) → program_ask a.state.serial a.state.running ≡ Some q → done w v q (Err e)
+  pub denied_turn : (m : Pass) (q : AnyReq) (e : Refused) (x : Answer) (turn : Turn) → program_ask a.state.serial a.state.running ≡ Some q → done w v p.clock q (Err e)
       → Tries counts p m (Denied q e) → EndsSo a.state (Denied q e) (Some x) → b ≡ ended a → NotedEnd m r (Ended (op_of a) x)
       → (let t : Turn = record { transactions = 0; answer = Some x } in turn ≡ t) → TookTurn done counts w v a b p r turn
   denied_turn m q e x turn asks did tries so after noted is = rw is (record {

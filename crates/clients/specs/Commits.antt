@@ -1,11 +1,12 @@
 -- What a commit and a note make of a pass.
-use Rattle.std.specs.Prelude.{◌≡◌, ℕ, ◌+◌, ◌<◌, [], ◌∷◌, ◌++◌, None}
+use Rattle.std.specs.Prelude.{Result, Ok, Err, ◌≡◌, ℕ, ◌+◌, ◌<◌, [], ◌∷◌, ◌++◌, None}
 use Rattle.tect_ids.specs.declared.ids.Counts.{Counts}
 use Rattle.store_rules.specs.declared.any.AnyReq.{AnyReq}
 use Rattle.store_rules.specs.declared.any.AnyReply.{AnyReply}
 use Rattle.store_rules.specs.Places.{request_place}
 use Rattle.place_kit.specs.declared.entry.Entry.{Entry}
 use Rattle.place_kit.specs.declared.entry.Note.{Note}
+use Rattle.place_kit.specs.declared.entry.Refused.{Refused}
 use Rattle.place_kit.specs.declared.entry.Moment.TheVariants.{Act}
 use Rattle.place_kit.specs.declared.pass.Pass.{Pass}
 use Rattle.place_kit.specs.Commits.{local_of, op_number}
@@ -14,6 +15,11 @@ use Rattle.place_kit.specs.Commits.{local_of, op_number}
 abbrev pub entry_at : Counts → ℕ → Pass → AnyReq → AnyReply → Entry
 entry_at counts stamp p q x =
     record { stamp = stamp; place = request_place counts q; actor = p.actor; number = op_number p.running; step = p.steps; req = q; reply = x }
+
+-- what came of the pass's request, with the entry that the pass then has
+abbrev pub entered : Counts → Pass → Pass → AnyReq → Result AnyReply Refused → Result Entry Refused
+entered counts old new q (Ok x) = Ok (entry_at counts new.clock old q x)
+entered counts old new q (Err e) = Err e
 
 -- The pass has one entry more, that of the request and its reply, stamped by its clock, which went on.
 pub record Committed (counts : Counts) (old new : Pass) (q : AnyReq) (x : AnyReply) : Type 0 where

@@ -33,11 +33,11 @@ Asks s Unasked = Unit {0}
 Asks s (Did q x) = program_ask s.serial s.running ≡ Some q
 Asks s (Denied q e) = program_ask s.serial s.running ≡ Some q
 
--- where requests are committed, it did this there
-abbrev pub DidThere : {W : Type 0} → (W → W → AnyReq → Result AnyReply Refused → Type 0) → W → W → Tried → Type 0
-DidThere done w v Unasked = v ≡ w
-DidThere done w v (Did q x) = done w v q (Ok x)
-DidThere done w v (Denied q e) = done w v q (Err e)
+-- Where requests are committed, it did this there: from that clock of the pass, with the entry that the pass has.
+abbrev pub DidThere : {W : Type 0} → (W → W → ℕ → AnyReq → Result Entry Refused → Type 0) → W → W → ℕ → (AnyReq → AnyReply → Entry) → Tried → Type 0
+DidThere done w v clock entry Unasked = v ≡ w
+DidThere done w v clock entry (Did q x) = done w v clock q (Ok (entry q x))
+DidThere done w v clock entry (Denied q e) = done w v clock q (Err e)
 
 -- the command's state after the reply
 abbrev pub state_after : Counts → Actor → Tried → Actor
@@ -99,12 +99,12 @@ is_later clock stamp (Did q x) = clock < stamp
 is_later clock stamp (Denied q e) = Unit {0}
 
 -- One step: at most one transaction, and at most one end. The stamp of the transaction alone is free.
-pub record OwnStep {W : Type 0} (done : W → W → AnyReq → Result AnyReply Refused → Type 0) (w v : W) (old new : ClientLife) (turned : Turned) : Type 0 where
+pub record OwnStep {W : Type 0} (done : W → W → ℕ → AnyReq → Result Entry Refused → Type 0) (w v : W) (old new : ClientLife) (turned : Turned) : Type 0 where
   pub tried : Tried
   pub stamp : ℕ
   pub answer : Option Answer
   pub asks : Asks (state_in old) tried
-  pub there : DidThere done w v tried
+  pub there : DidThere done w v old.clock (entry_in old stamp) tried
   pub later : is_later old.clock stamp tried
   pub life : new ≡ ended_life (tried_life old stamp tried) (op_in old) answer
   pub events : events_in new ≡ events_in old ++ (tried_events (op_in old) tried ++ end_events old.silent (op_in old) answer)
@@ -112,8 +112,8 @@ pub record OwnStep {W : Type 0} (done : W → W → AnyReq → Result AnyReply R
   pub told : turned ≡ turned_by answer
 
 -- No step, since the machine that the request found is not the one that was looked for.
-pub record WentAstray {W : Type 0} (done : W → W → AnyReq → Result AnyReply Refused → Type 0) (w v : W) (old new : ClientLife) (e : Refused) : Type 0 where
+pub record WentAstray {W : Type 0} (done : W → W → ℕ → AnyReq → Result Entry Refused → Type 0) (w v : W) (old new : ClientLife) (e : Refused) : Type 0 where
   pub req : AnyReq
   pub asks : program_ask (state_in old).serial (state_in old).running ≡ Some req
-  pub there : done w v req (Err e)
+  pub there : done w v old.clock req (Err e)
   pub life : new ≡ old

@@ -4,8 +4,8 @@ use Rattle.tect_ids.specs.declared.ids.Counts.{Counts}
 use Rattle.tect_ids.specs.declared.answer.Answer.{Answer}
 use Rattle.tect_ids.specs.declared.answer.Answer.TheVariants as answers
 use Rattle.store_rules.specs.declared.any.AnyReq.{AnyReq}
-use Rattle.store_rules.specs.declared.any.AnyReply.{AnyReply}
 use Rattle.store_rules.specs.Places.{request_place}
+use Rattle.place_kit.specs.declared.entry.Entry.{Entry}
 use Rattle.place_kit.specs.declared.entry.Note.TheVariants.{Ended}
 use Rattle.place_kit.specs.declared.entry.Refused.{Refused}
 use Rattle.place_kit.specs.declared.entry.Refused.TheVariants.{NoMemory, HistoryFull, Astray}
@@ -14,7 +14,7 @@ use Rattle.place_kit.specs.Commits.{IsFull}
 use Rattle.world_runs.specs.Moments.{program_ask, program_answer}
 use Rattle.actors.specs.ActorState.{ActorState, op_of}
 use Rattle.clients.specs.declared.turns.Turn.{Turn}
-use Rattle.clients.specs.Commits.{Committed, NotedEnd}
+use Rattle.clients.specs.Commits.{entry_at, Committed, NotedEnd}
 use Rattle.clients.specs.Steps.{Tried, Unasked, Did, Denied, Asks, DidThere, state_after, EndsSo}
 
 abbrev pub ended : ActorState → ActorState
@@ -50,19 +50,19 @@ act_count (Denied q e) = 0
 abbrev pub after_try : Counts → ActorState → Tried → ActorState
 after_try counts a tried = record a { state = state_after counts a.state tried }
 
-pub record TookTurn {W : Type 0} (done : W → W → AnyReq → Result AnyReply Refused → Type 0) (counts : Counts) (w v : W) (a b : ActorState) (p r : Pass) (turn : Turn) : Type 0 where
+pub record TookTurn {W : Type 0} (done : W → W → ℕ → AnyReq → Result Entry Refused → Type 0) (counts : Counts) (w v : W) (a b : ActorState) (p r : Pass) (turn : Turn) : Type 0 where
   pub tried : Tried
   pub middle : Pass
   pub asks : Asks a.state tried
-  pub there : DidThere done w v tried
+  pub there : DidThere done w v p.clock (entry_at counts middle.clock p) tried
   pub tries : Tries counts p middle tried
   pub ends : EndsSo (state_after counts a.state tried) tried turn.answer
   pub finishes : Finishes (after_try counts a tried) b middle r turn.answer
   pub acted : turn.transactions ≡ act_count tried
 
-pub record LostTurn {W : Type 0} (done : W → W → AnyReq → Result AnyReply Refused → Type 0) (w v : W) (a b : ActorState) (p r : Pass) (e : Refused) : Type 0 where
+pub record LostTurn {W : Type 0} (done : W → W → ℕ → AnyReq → Result Entry Refused → Type 0) (w v : W) (a b : ActorState) (p r : Pass) (e : Refused) : Type 0 where
   pub req : AnyReq
   pub asks : program_ask a.state.serial a.state.running ≡ Some req
-  pub there : done w v req (Err e)
+  pub there : done w v p.clock req (Err e)
   pub actor : b ≡ a
   pub pass : r ≡ p

@@ -42,7 +42,7 @@ impl Commits for Shards {
 
     ghost counts = { λ s. COUNTS };
 
-    ghost done = { λ s t q r. Unit {0} };
+    ghost done = { λ s t clock q r. Unit {0} };
 
     fn commit(&mut self, pass: &mut Pass, asked: Asked) -> Result<AnyReply, Refused> {
         match asked.into_request() {

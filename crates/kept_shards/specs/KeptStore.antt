@@ -1,5 +1,5 @@
 -- What contracts see of kept machines: the whole store that they are together, and the entries that each place keeps.
-use Rattle.std.specs.Prelude.{◌≡◌, ℕ, ◌+◌, max, List, [], ◌∷◌, ◌++◌, slice_index_or, slice_set, refl}
+use Rattle.std.specs.Prelude.{Result, Ok, Err, ◌≡◌, ℕ, ◌+◌, max, List, [], ◌∷◌, ◌++◌, slice_index_or, slice_set, refl}
 use Rattle.std.specs.Coded.{Coded, code_by, coded×, coded_list}
 use Rattle.tect_ids.specs.declared.ids.Counts.{Counts}
 use Rattle.store_rules.specs.declared.any.AnyReq.{AnyReq}
@@ -13,6 +13,8 @@ use Rattle.file_shard.specs.Codes.{files_code}
 use Rattle.place_kit.specs.declared.entry.Entry.{Entry}
 use Rattle.place_kit.specs.contracts.entry.Entry as entry
 use Rattle.place_kit.specs.declared.entry.Moment.TheVariants.{Act}
+use Rattle.place_kit.specs.declared.entry.Refused.{Refused}
+use Rattle.place_kit.specs.declared.entry.Refused.TheVariants.{NoMemory, HistoryFull, Astray}
 use Rattle.place_kit.specs.declared.pass.Pass.{Pass}
 use Rattle.place_kit.specs.Commits.{entry_of}
 use Rattle.place_kit.specs.Started.{started_label}
@@ -61,3 +63,16 @@ pub record IsDone (old new : KeptStore) (before after : Pass) (q : AnyReq) (x : 
   pub steps : after.steps ≡ before.steps + 1
   pub actor : after.actor ≡ before.actor
   pub running : after.running ≡ before.running
+
+-- the entry is the one that its place keeps: it replies as the whole store, and is stamped above that clock and its place's
+pub record DidHere (w v : KeptStore) (clock : ℕ) (q : AnyReq) (e : Entry) : Type 0 where
+  pub reply : e.reply ≡ store_reply w.store q
+  pub stamp : e.stamp ≡ max (clock_at w (request_place w.counts q).0) clock + 1
+  pub state : v ≡ committed w e
+
+-- What came of a commit that began at that clock. No other machine is found than the one that is looked for.
+abbrev pub Did : KeptStore → KeptStore → ℕ → AnyReq → Result Entry Refused → Type 0
+Did w v clock q (Ok e) = DidHere w v clock q e
+Did w v clock q (Err NoMemory) = v ≡ w
+Did w v clock q (Err (HistoryFull place)) = v ≡ w
+Did w v clock q (Err (Astray want found)) = ⊥

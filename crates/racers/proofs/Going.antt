@@ -4,7 +4,7 @@ use Rattle.std.specs.Prelude.{Result}
 use Rattle.tect_ids.specs.declared.ids.OpId.{OpId}
 use Rattle.tect_ids.specs.declared.answer.Answer.{Answer}
 use Rattle.store_rules.specs.declared.any.AnyReq.{AnyReq}
-use Rattle.store_rules.specs.declared.any.AnyReply.{AnyReply}
+use Rattle.place_kit.specs.declared.entry.Entry.{Entry}
 use Rattle.place_kit.specs.declared.entry.Refused.{Refused}
 use Rattle.world_runs.specs.declared.event.Event.{Event}
 use Rattle.world_runs.specs.Follows.{Acts}
@@ -73,7 +73,7 @@ pub record HasStepped (n : ℕ) (w v : ClientLife) : Type 0 where
 pub stepped_none : (w : ClientLife) → IsLife w → IsSome (state_in w).running → HasStepped 0 w w
 stepped_none w life running = record { goes = goes_none w; life = life; running = running }
 
-module _ {W : Type 0} (done : W → W → AnyReq → Result AnyReply Refused → Type 0) (x y : W) (n : ℕ) (w v u : ClientLife) (stepped : HasStepped n w v) where
+module _ {W : Type 0} (done : W → W → ℕ → AnyReq → Result Entry Refused → Type 0) (x y : W) (n : ℕ) (w v u : ClientLife) (stepped : HasStepped n w v) where
   pub stepped_more : OwnStep done x y v u Going → IsLife u → HasStepped (n + 1) w u
   stepped_more step life =
       let one = step_goes_on done x y v u stepped.life step in

@@ -13,6 +13,7 @@ use Rattle.op_names.specs.declared.program.Phase.{Phase}
 use Rattle.op_names.specs.declared.program.Phase.TheVariants.{End}
 use Rattle.op_names.specs.declared.program.Program.{Program}
 use Rattle.op_names.specs.Programs.{object_number, phase_ask, phase_hear}
+use Rattle.place_kit.specs.declared.entry.Entry.{Entry}
 use Rattle.place_kit.specs.declared.entry.Moment.{Moment}
 use Rattle.place_kit.specs.declared.entry.Moment.TheVariants.{Act, Local}
 use Rattle.place_kit.specs.declared.entry.Note.TheVariants as notes
@@ -194,7 +195,7 @@ is_done : (o : Option Answer) (a : Answer) → Done a ≡ turned_by o → o ≡ 
 is_done None a is = absurd cc
 is_done (Some b) a is = (let same : a ≡ b = cc in ap Some (sym same))
 
-module _ {W : Type 0} (done : W → W → AnyReq → Result AnyReply Refused → Type 0) (w v : W) (old new : ClientLife) (is : IsLife old) where
+module _ {W : Type 0} (done : W → W → ℕ → AnyReq → Result Entry Refused → Type 0) (w v : W) (old new : ClientLife) (is : IsLife old) where
   module _ (step : OwnStep done w v old new Going) where
     none : step.answer ≡ None
     none = not_done step.answer step.told

@@ -1,8 +1,9 @@
 -- What a racer does in a line of the script.
 use Rattle.std.specs.Prelude.{◌≡◌, ℕ, ◌+◌, ◌≤◌, ◌⊎◌, true, List, [], ◌++◌, Result}
+use Rattle.tect_ids.specs.declared.ids.Counts.{Counts}
 use Rattle.tect_ids.specs.declared.script.Act.{Act}
 use Rattle.store_rules.specs.declared.any.AnyReq.{AnyReq}
-use Rattle.store_rules.specs.declared.any.AnyReply.{AnyReply}
+use Rattle.place_kit.specs.declared.entry.Entry.{Entry}
 use Rattle.place_kit.specs.declared.entry.Moment.{Moment}
 use Rattle.place_kit.specs.declared.entry.Refused.{Refused}
 use Rattle.place_kit.specs.Moments.{rises}
@@ -35,7 +36,7 @@ pub record Plays (names : List (List ℕ)) (act : Act) (old new : Racer) : Type 
   pub turn : AtTurn (turn_after act) (state_in new.client)
   pub few : (state_in new.client).number ≤ (state_in old.client).number + 1
 
--- why it did not: for want of memory, or since a commit found another machine
-abbrev pub IsFaultOf : {W : Type 0} (done : W → W → AnyReq → Result AnyReply Refused → Type 0) → RacerFault → Type 0
-IsFaultOf done faults.NoMemory = Unit {0}
-IsFaultOf done (faults.Astray want found) = FoundAstray done want found
+-- why it did not, where each layer has that many shards: for want of memory, or since a commit found another machine
+abbrev pub IsFaultOf : {W : Type 0} (counts_of : W → Counts) (done : W → W → ℕ → AnyReq → Result Entry Refused → Type 0) → Counts → RacerFault → Type 0
+IsFaultOf counts_of done c faults.NoMemory = Unit {0}
+IsFaultOf counts_of done c (faults.Astray want found) = FoundAstray counts_of done c want found

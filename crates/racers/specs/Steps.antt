@@ -1,9 +1,10 @@
 -- What a client's events become by transactions of its running command, and by its end.
 use Rattle.std.specs.Prelude.{◌≡◌, ℕ, ◌≤◌, ◌⊎◌, true, List, [], ◌∷◌, ◌++◌, Option, Some, None, Result, Err}
+use Rattle.tect_ids.specs.declared.ids.Counts.{Counts}
 use Rattle.tect_ids.specs.declared.ids.OpId.{OpId}
 use Rattle.tect_ids.specs.declared.answer.Answer.{Answer}
 use Rattle.store_rules.specs.declared.any.AnyReq.{AnyReq}
-use Rattle.store_rules.specs.declared.any.AnyReply.{AnyReply}
+use Rattle.place_kit.specs.declared.entry.Entry.{Entry}
 use Rattle.place_kit.specs.declared.entry.Label.{Label}
 use Rattle.place_kit.specs.declared.entry.Moment.{Moment}
 use Rattle.place_kit.specs.declared.entry.Refused.{Refused}
@@ -56,6 +57,7 @@ abbrev pub StepsUpTo : ℕ → ClientLife → ClientLife → Option Answer → T
 StepsUpTo n old new None = GoesOn n old new
 StepsUpTo n old new (Some a) = (end : ComesToEnd old new a) × (end.count ≤ n)
 
--- a commit found another machine than the one that was looked for
-abbrev pub FoundAstray : {W : Type 0} (done : W → W → AnyReq → Result AnyReply Refused → Type 0) → Label → Label → Type 0
-FoundAstray {W = W} done want found = (w : W) × (v : W) × (req : AnyReq) × done w v req (Err (Astray want found))
+-- where each layer has that many shards, a commit found another machine than the one that was looked for
+abbrev pub FoundAstray : {W : Type 0} (counts_of : W → Counts) (done : W → W → ℕ → AnyReq → Result Entry Refused → Type 0) → Counts → Label → Label → Type 0
+FoundAstray {W = W} counts_of done c want found =
+    (w : W) × (v : W) × (clock : ℕ) × (req : AnyReq) × (counts_of w ≡ c) × done w v clock req (Err (Astray want found))

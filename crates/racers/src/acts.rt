@@ -77,7 +77,7 @@ fn do_command<C: Commits>(
     requires few { (state_in racer.old.client).number + 1 < 2 ^ 31 }
     requires served { IsServed command.now }
     ensures plays { OnOk result (Plays names.now (Act.Do command.now) racer.old racer.new) }
-    ensures fault { IfErr result (IsFaultOf C.done) }
+    ensures fault { IfErr result (IsFaultOf C.counts C.done (C.counts at.old)) }
     ensures counts { C.counts at.new ≡ C.counts at.old }
 {
     begin_command(alloc, &mut racer.client, command)?;
@@ -107,7 +107,7 @@ fn step_on<C: Commits>(
     requires client { (1 ≤ racer.old.client.actor) × (racer.old.client.actor ≤ length names.now) }
     requires goes_on { (state_in racer.old.client).stopped ≡ false }
     ensures plays { OnOk result (Plays names.now (Act.Step count) racer.old racer.new) }
-    ensures fault { IfErr result (IsFaultOf C.done) }
+    ensures fault { IfErr result (IsFaultOf C.counts C.done (C.counts at.old)) }
     ensures counts { C.counts at.new ≡ C.counts at.old }
 {
     if !racer.client.is_running() {
@@ -129,7 +129,7 @@ fn run_on<C: Commits>(
     requires client { (1 ≤ racer.old.client.actor) × (racer.old.client.actor ≤ length names.now) }
     requires goes_on { (state_in racer.old.client).stopped ≡ false }
     ensures plays { OnOk result (Plays names.now Act.Run racer.old racer.new) }
-    ensures fault { IfErr result (IsFaultOf C.done) }
+    ensures fault { IfErr result (IsFaultOf C.counts C.done (C.counts at.old)) }
     ensures counts { C.counts at.new ≡ C.counts at.old }
 {
     if !racer.client.is_running() {
@@ -168,7 +168,7 @@ pub fn play_act<C: Commits>(
     requires few { (state_in racer.old.client).number + 1 < 2 ^ 31 }
     requires takes { (turn : ClientTurn) × AtTurn turn (state_in racer.old.client) × TakesAct turn act.now }
     ensures plays { OnOk result (Plays names.now act.now racer.old racer.new) }
-    ensures fault { IfErr result (IsFaultOf C.done) }
+    ensures fault { IfErr result (IsFaultOf C.counts C.done (C.counts at.old)) }
     ensures counts { C.counts at.new ≡ C.counts at.old }
 {
     match act {

@@ -17,7 +17,7 @@ pub fn step_up_to<C: Commits>(
     ensures steps { IfOk result (StepsUpTo count client.old client.new) }
     ensures life { IsLife client.new }
     ensures counts { C.counts at.new ≡ C.counts at.old }
-    ensures astray { IfErr result (λ e. FoundAstray C.done e.want e.found) }
+    ensures astray { IfErr result (λ e. FoundAstray C.counts C.done (C.counts at.old) e.want e.found) }
 {
     'steps: for _step in 0..count {
         match client.step(at)? {
@@ -36,7 +36,7 @@ pub fn run_to_end<C: Commits>(at: &mut C, client: &mut Client) -> Result<Answer,
     ensures end { IfOk result (ComesToEnd client.old client.new) }
     ensures life { IsLife client.new }
     ensures counts { C.counts at.new ≡ C.counts at.old }
-    ensures astray { IfErr result (λ e. FoundAstray C.done e.want e.found) }
+    ensures astray { IfErr result (λ e. FoundAstray C.counts C.done (C.counts at.old) e.want e.found) }
 {
     'steps: loop {
         match client.step(at)? {

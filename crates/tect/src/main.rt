@@ -1,4 +1,5 @@
-//! `tect replay`: reads a script from the standard input, plays its lines over a new store, and writes the answers and dumps.
+//! `tect replay` and `tect race --workers N`: reads a script from the standard input, plays it over a new store, and writes the
+//! answers and dumps.
 #![tactic(auto)]
 
 ghost use Rattle.std.specs.Prelude.{◌≡◌, ◌⊎◌, IfErr};
@@ -6,7 +7,7 @@ ghost use Rattle.std.specs.Prelude.{◌≡◌, ◌⊎◌, IfErr};
 use std::process::ExitCode;
 use std::{env, io};
 use tect_app::{Status, run};
-use tect_edge::{StdSink, StdSource};
+use tect_edge::{OpenGate, StdSink, StdSource};
 
 /// The words behind the program's own name. They fail as a whole: for want of memory, or as words that are no text.
 fn words(rt: &HostRuntime) -> Result<Vec<String>, Status>
@@ -31,8 +32,8 @@ fn main(rt: HostRuntime) -> ExitCode {
     let mut source = StdSource::new(rt.reader());
     let mut sink = StdSink::new(io::writer(&rt));
     let status = match words(&rt) {
-        Ok(words) => run(rt.alloc(), &words, &mut source, &mut sink),
-        Err(Status::Usage) => run(rt.alloc(), &[], &mut source, &mut sink),
+        Ok(words) => run(&rt, rt.alloc(), &words, &mut source, &mut sink, &OpenGate),
+        Err(Status::Usage) => run(&rt, rt.alloc(), &[], &mut source, &mut sink, &OpenGate),
         Err(status) => status,
     };
     ExitCode::from(status.number())

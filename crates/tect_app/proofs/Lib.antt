@@ -1,3 +1,4 @@
 pub mod Words
 pub mod Plans
 pub mod Inputs
+pub mod Races

@@ -1,4 +1,4 @@
--- A plan that is read can be replayed.
+-- A plan that is read can be played, and has few clients.
 use Rattle.std.proofs.Common.{◌≡◌, ◌≢◌, ℕ, ◌+◌, ◌<◌, ◌≤◌, Bool, true, false, not, if◌then◌else◌, List, [], ◌∷◌, length, refl, sym, ap, subst, ◌∙◌, arith}
 use Rattle.std.specs.Prelude.{filter, nat_le, nat_lt, is_none, unwrap_or}
 use Rattle.std.specs.List.{AllByRecursion, position_or_len}
@@ -303,3 +303,19 @@ spelled_playable bytes plan s =
       few = omega (arith, told, filter_le is_told s.texts, s.few);
       within = within_from plan.counts [] (length plan.clients) plan.lines is.lines (omega (arith, ap length is.clients, length-keys_of (seen_of [] plan.lines)));
     }
+
+-- ---- clients
+
+few_seen : (counts : Counts) (seen : Seen) (ls : List Line) → length seen ≤ 64 → AreLines counts seen ls → length (seen_of seen ls) ≤ 64
+few_seen counts seen [] few are = few
+few_seen counts seen (lines.Client client actor act ∷ ls) few are =
+    few_seen counts (insert_entry same_name seen client (state_after act)) ls (few_more seen client (state_after act) few ((are.0).in_order).1).1 are.1
+few_seen counts seen (lines.Dump ∷ ls) few are = few_seen counts seen ls few are.1
+few_seen counts seen (lines.Store other ∷ ls) few are = few_seen counts seen ls few are.1
+few_seen counts seen (lines.Sweep ∷ ls) few are = few_seen counts seen ls few are.1
+few_seen counts seen (lines.Lose disk ∷ ls) few are = few_seen counts seen ls few are.1
+
+pub few_clients : (bytes : List ℕ) (plan : Plan) → Spells bytes plan → length plan.clients ≤ 64
+few_clients bytes plan s =
+    let is = s.plan_is in
+    omega (arith, ap length is.clients, length-keys_of (seen_of [] plan.lines), few_seen plan.counts [] plan.lines (omega arith) is.lines)

@@ -1,4 +1,4 @@
-ghost use Rattle.std.specs.Prelude.{◌≡◌, IfOk, IfErr, IfSome, IsErrOf};
+ghost use Rattle.std.specs.Prelude.{◌≡◌, ◌≤◌, length, IfOk, IfErr, IfSome, IsErrOf};
 ghost use Rattle.std.specs.Io.KnownBytes.{IsAtEnd};
 ghost use Rattle.script_forms.specs.Spelling.{Spells};
 ghost use Rattle.tect_edge.specs.Counts.{Rose};
@@ -27,6 +27,7 @@ pub enum InputFault {
 pub fn read_plan<S: Source>(alloc: Global, source: &mut S) -> Result<Plan, InputFault>
     ensures spelled { IfOk result (λ plan. IfSome (S.left source.old) (λ input. Spells input plan)) }
     ensures playable { IfOk result IsPlayable }
+    ensures clients { IfOk result (λ plan. length plan.clients ≤ 64) }
     ensures whole { IfOk result (λ _. IsAtEnd (S.left source.new)) }
     ensures first { IfErr result (IsInputFault (S.left source.old)) }
     ensures failed { IsErrOf result InputFault.Failed → Rose (S.faults source.old) (S.faults source.new) }

@@ -16,6 +16,8 @@ pub enum Status {
     WriteFault,
     /// There was no memory.
     NoMemory,
+    /// What workers kept of a race is not what its places kept of it.
+    Split,
     /// The input passes a limit.
     TooLarge,
 }
@@ -32,6 +34,7 @@ impl Status {
             Status::ReadFault => 4,
             Status::WriteFault => 5,
             Status::NoMemory => 6,
+            Status::Split => 7,
             Status::TooLarge => 8,
         }
     }

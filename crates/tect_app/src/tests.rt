@@ -1,27 +1,35 @@
-use crate::{Status, run};
+use crate::{Status, run, run_race};
 use std::alloc::{AllocError, Global};
+use std::process::Abort;
+use std::sync::Wait;
 use std::test::Fail;
-use tect_edge::{BytesSink, BytesSource, SureSink, SureSource};
+use std::thread::Threads;
+use tect_edge::{BytesSink, BytesSource, Gate, MeetGate, OpenGate, SureSink, SureSource};
 
-fn words(alloc: Global, word: &str) -> Result<Vec<String>, AllocError> {
-    Ok(vec![in alloc; String::from_str(alloc, word)?]?)
+fn strings(alloc: Global, words: &[&str]) -> Result<Vec<String>, AllocError> {
+    let mut strings = Vec::new(alloc);
+    for word in words {
+        strings.push(String::from_str(alloc, word)?)?;
+    }
+    Ok(strings)
 }
 
 /// The status and the output of a run, where these calls of the source and of the sink fail.
-fn outcome(
+fn outcome<R: Threads + Wait + Sync>(
+    rt: &R,
     alloc: Global,
-    word: &str,
+    words: &[&str],
     input: &[u8],
     failing_takes: &[u64],
     failing_puts: &[u64],
 ) -> Result<(u8, Vec<u8>), AllocError> {
-    let words = words(alloc, word)?;
+    let words = strings(alloc, words)?;
     let mut source = BytesSource::new(
         Vec::from_slice(alloc, input)?,
         Vec::from_slice(alloc, failing_takes)?,
     );
     let mut sink = BytesSink::new(alloc, Vec::from_slice(alloc, failing_puts)?);
-    let status = run(alloc, &words, &mut source, &mut sink);
+    let status = run(rt, alloc, &words, &mut source, &mut sink, &OpenGate);
     Ok((status.number(), Vec::from_slice(alloc, sink.bytes())?))
 }
 
@@ -30,20 +38,20 @@ const ROW: &[u8] = b"store 1 1 1 3 3\nc1 create /a\nc1 look /a\n";
 #[test]
 fn statuses_and_texts(rt: HostRuntime) -> Result<(), Fail> {
     let row: &[u8] = b"c1 1 2 ok file 4294967297\nc1 2 1 ok file 4294967297\nend\n";
-    let cases: [(&str, &[u8], &[u64], &[u64], u8, &[u8]); 12] = [
-        ("replay", ROW, &[], &[], 0, row),
+    let cases: [(&[&str], &[u8], &[u64], &[u64], u8, &[u8]); 12] = [
+        (&["replay"], ROW, &[], &[], 0, row),
         (
-            "replay",
+            &["replay"],
             b"store 1 1 1 3 3\nc1 create /a\nc1 create /a\nc1 look /b\n",
             &[],
             &[],
             0,
             b"c1 1 2 ok file 4294967297\nc1 2 3 ok file 4294967298\nc1 3 1 no-name\nend\n",
         ),
-        ("replay", b"store 1 1 1 3 3\n", &[], &[], 0, b"end\n"),
-        ("replay", b"", &[], &[], 3, b"bad line 1 column 1\n"),
+        (&["replay"], b"store 1 1 1 3 3\n", &[], &[], 0, b"end\n"),
+        (&["replay"], b"", &[], &[], 3, b"bad line 1 column 1\n"),
         (
-            "replay",
+            &["replay"],
             b"store 1 1 1 3 3\nc1 create /a",
             &[],
             &[],
@@ -51,7 +59,7 @@ fn statuses_and_texts(rt: HostRuntime) -> Result<(), Fail> {
             b"bad line 2 column 13\n",
         ),
         (
-            "replay",
+            &["replay"],
             b"store 1 1 1 3 3\nc1 run\n",
             &[],
             &[],
@@ -59,7 +67,7 @@ fn statuses_and_texts(rt: HostRuntime) -> Result<(), Fail> {
             b"bad line 2 column 1\n",
         ),
         (
-            "replay",
+            &["replay"],
             b"store 1 1 1 3 3\nc1 look /\x80\n",
             &[],
             &[],
@@ -67,27 +75,34 @@ fn statuses_and_texts(rt: HostRuntime) -> Result<(), Fail> {
             b"bad line 2 column 9\n",
         ),
         (
-            "replay",
+            &["replay"],
             b"store 65 1 1 3 3\n",
             &[],
             &[],
             8,
             b"too large shards 64\n",
         ),
-        ("replay", ROW, &[1], &[], 4, b"read fault\n"),
-        ("replay", ROW, &[], &[2], 5, b"c1 1 2 ok file 4294967297\n"),
+        (&["replay"], ROW, &[1], &[], 4, b"read fault\n"),
         (
-            "race",
+            &["replay"],
+            ROW,
+            &[],
+            &[2],
+            5,
+            b"c1 1 2 ok file 4294967297\n",
+        ),
+        (
+            &["race"],
             ROW,
             &[],
             &[],
             2,
             b"usage: tect replay, race, make or judge\n",
         ),
-        ("race", ROW, &[], &[1], 5, b""),
+        (&["race"], ROW, &[], &[1], 5, b""),
     ];
-    for (word, input, takes, puts, status, output) in cases {
-        let (found, text) = outcome(rt.alloc(), word, input, takes, puts)?;
+    for (words, input, takes, puts, status, output) in cases {
+        let (found, text) = outcome(&rt, rt.alloc(), words, input, takes, puts)?;
         assert_eq!(rt; found, status);
         assert_eq!(rt; text.as_slice(), output);
     }
@@ -113,7 +128,7 @@ fn two_clients_in_turn(rt: HostRuntime) -> Result<(), Fail> {
           file 4294967297 open token none blocks 0 holds 1\n\
           file 8589934593 open token none blocks 0 holds 0\n\
           end\n";
-    let (status, text) = outcome(rt.alloc(), "replay", input, &[], &[])?;
+    let (status, text) = outcome(&rt, rt.alloc(), &["replay"], input, &[], &[])?;
     assert_eq!(rt; status, 0);
     assert_eq!(rt; text.as_slice(), output);
     Ok(())
@@ -121,11 +136,95 @@ fn two_clients_in_turn(rt: HostRuntime) -> Result<(), Fail> {
 
 #[test]
 fn nothing_fails_over_sure_ends(rt: HostRuntime) -> Result<(), Fail> {
-    let words = words(rt.alloc(), "replay")?;
+    let words = strings(rt.alloc(), &["replay"])?;
     let mut source = SureSource::new(Vec::from_slice(rt.alloc(), ROW)?);
     let mut sink = SureSink::new(rt.alloc(), 26)?;
-    let status = run(rt.alloc(), &words, &mut source, &mut sink);
+    let status = run(&rt, rt.alloc(), &words, &mut source, &mut sink, &OpenGate);
     assert_eq!(rt; status, Status::Ok);
     assert_eq!(rt; sink.bytes(), b"c1 1 2 ok file 4294967297\n".as_slice());
+    Ok(())
+}
+
+#[test]
+fn words_of_no_mode(rt: HostRuntime) -> Result<(), Fail> {
+    let cases: [&[&str]; 11] = [
+        &[],
+        &["race"],
+        &["race", "--workers"],
+        &["race", "--workers", "0"],
+        &["race", "--workers", "65"],
+        &["race", "--workers", "08"],
+        &["race", "--workers", "4294967298"],
+        &["race", "--workers=8"],
+        &["race", "--workers", "8", "--workers", "8"],
+        &["--workers", "8", "race"],
+        &["replay", "--workers", "8"],
+    ];
+    for words in cases {
+        let (status, text) = outcome(&rt, rt.alloc(), words, ROW, &[], &[])?;
+        assert_eq!(rt; status, 2);
+        assert_eq!(rt;
+            text.as_slice(),
+            b"usage: tect replay, race, make or judge\n".as_slice()
+        );
+    }
+    Ok(())
+}
+
+#[test]
+fn a_race_by_two_workers(rt: HostRuntime) -> Result<(), Fail> {
+    // The answers stand client by client, each client's in its own order, whatever the order in which they came.
+    let input: &[u8] = b"store 2 2 1 3 3\n\
+          c2 mkdir /d\n\
+          c1 create /a\n\
+          c2 create /d/b\n\
+          c1 begin create /c\n\
+          dump\n\
+          c1 stop\n\
+          c3 list /d\n";
+    let output: &[u8] = b"c2 1 2 ok dir 4294967297\n\
+          c2 2 3 ok file 4294967298\n\
+          c1 1 2 ok file 8589934593\n\
+          dir 1 parent 0 open entries 2 holds 0\n\
+          entry 1 a file 8589934593\n\
+          entry 1 d dir 4294967297\n\
+          dir 4294967297 parent 1 open entries 1 holds 1\n\
+          entry 4294967297 b file 4294967298\n\
+          file 4294967298 open token none blocks 0 holds 1\n\
+          file 8589934593 open token none blocks 0 holds 1\n\
+          c1 2 0 stopped\n\
+          c3 1 2 ok 1 b file 4294967298\n\
+          end\n";
+    let (status, text) = outcome(
+        &rt,
+        rt.alloc(),
+        &["race", "--workers", "2"],
+        input,
+        &[],
+        &[],
+    )?;
+    assert_eq!(rt; status, 0);
+    assert_eq!(rt; text.as_slice(), output);
+    Ok(())
+}
+
+#[test]
+fn two_workers_meet(rt: HostRuntime) -> Result<(), Fail> {
+    let input: &[u8] = b"store 1 2 1 1 1\nc1 create /a\nc2 create /b\ndump\n";
+    let output: &[u8] = b"c1 1 2 ok file 4294967297\n\
+          c2 1 2 ok file 8589934593\n\
+          dir 1 parent 0 open entries 2 holds 0\n\
+          entry 1 a file 4294967297\n\
+          entry 1 b file 8589934593\n\
+          file 4294967297 open token none blocks 0 holds 1\n\
+          file 8589934593 open token none blocks 0 holds 1\n\
+          end\n";
+    let gate = MeetGate::start(200_000_000);
+    let mut source = SureSource::new(Vec::from_slice(rt.alloc(), input)?);
+    let mut sink = SureSink::new(rt.alloc(), 1000)?;
+    let status = run_race(&rt, rt.alloc(), 2, &mut source, &mut sink, &gate);
+    assert_eq!(rt; status, Status::Ok);
+    assert_eq!(rt; sink.bytes(), output);
+    assert!(rt; gate.met());
     Ok(())
 }

@@ -1,30 +1,27 @@
-ghost use Rattle.std.specs.Prelude.{◌≡◌, ◌≢◌, ◌⊎◌, ◌↔◌, IsTrue, map, string_bytes};
+ghost use Rattle.std.specs.Prelude.{◌≡◌, ◌≢◌, ◌≤◌, ◌⊎◌, ℕ, map, string_bytes};
 ghost use Rattle.tect_edge.specs.Counts.{Rose};
-ghost use Rattle.tect_app.specs.Headline.{AreReplay, IsReadWithin, IsReported, IsUsage, IsRefused, IsReadFault, IsCut, IsCutOff, IsStarved, IsReplayStatus};
+ghost use Rattle.tect_app.specs.Modes.{SpellsNone, SpellsRace};
+ghost use Rattle.tect_app.specs.Headline.{InMode, IsReadWithin, IsReported, IsUsage, IsRefused, IsReadFault, IsCut, IsCutOff, IsStarved, IsSplitEnd};
+ghost use Rattle.tect_app.specs.Statuses.{IsReportStatus};
 ghost use Rattle.script_runs.specs.Playable.{IsPlayable};
 ghost use Rattle.tect_replay.specs.Replays.{IsReplayed, IsCutReplay};
 
 use crate::input::{InputFault, read_plan};
+use crate::mode::{Mode, read_mode};
+use crate::racing::race_plan;
 use crate::refusal::{close, refuse};
 use crate::status::Status;
 use std::alloc::Global;
-use tect_edge::{Sink, Source};
+use std::sync::Wait;
+use std::thread::Threads;
+use tect_edge::{Gate, Sink, Source};
 use tect_ids::Plan;
 use tect_replay::{ReplayFault, replay};
-
-fn are_replay(words: &[String]) -> bool
-    ensures { IsTrue result ↔ AreReplay (map string_bytes words.now) }
-{
-    match words {
-        [word] => word.as_str() == "replay",
-        _ => false,
-    }
-}
 
 /// Plays a plan, and answers with which status that ended.
 fn play<K: Sink>(alloc: Global, plan: &Plan, sink: &mut K) -> Status
     requires { IsPlayable plan.now }
-    ensures only { IsReplayStatus result }
+    ensures only { IsReportStatus result }
     ensures whole { result ≡ Status.Ok → IsReplayed plan.now (K.written sink.old) (K.written sink.new) }
     ensures cut { result ≢ Status.Ok → IsCutReplay plan.now (K.written sink.old) (K.written sink.new) }
     ensures kept { result ≢ Status.WriteFault → K.faults sink.new ≡ K.faults sink.old }
@@ -44,14 +41,14 @@ fn play<K: Sink>(alloc: Global, plan: &Plan, sink: &mut K) -> Status
 /// where it passes a limit first; `ReadFault` and `WriteFault` where the source and the sink failed, and `NoMemory` for want
 /// of memory.
 pub fn run_replay<S: Source, K: Sink>(alloc: Global, source: &mut S, sink: &mut K) -> Status
-    ensures reported { result ≡ Status.Ok → IsReported (S.left source.old) (S.left source.new) (K.written sink.old) (K.written sink.new) }
-    ensures no_usage { result ≢ Status.Usage }
+    ensures no_others { (result ≢ Status.Usage) × (result ≢ Status.Split) }
+    ensures reported { result ≡ Status.Ok → IsReported Mode.Replay (S.left source.old) (S.left source.new) (K.written sink.old) (K.written sink.new) }
     ensures refused { result ≡ Status.BadScript → IsRefused (S.left source.old) (K.written sink.old) (K.written sink.new) Status.BadScript }
     ensures too_large { result ≡ Status.TooLarge → IsRefused (S.left source.old) (K.written sink.old) (K.written sink.new) Status.TooLarge }
     ensures read_fault { result ≡ Status.ReadFault → IsReadFault (Rose (S.faults source.old) (S.faults source.new)) (K.written sink.old) (K.written sink.new) }
     ensures write_fault { result ≡ Status.WriteFault → Rose (K.faults sink.old) (K.faults sink.new)
-        × IsCut (Rose (S.faults source.old) (S.faults source.new)) (S.left source.old) (K.written sink.old) (K.written sink.new) }
-    ensures no_memory { result ≡ Status.NoMemory → IsStarved (S.left source.old) (K.written sink.old) (K.written sink.new) }
+        × IsCut Mode.Replay (Rose (S.faults source.old) (S.faults source.new)) (S.left source.old) (K.written sink.old) (K.written sink.new) }
+    ensures no_memory { result ≡ Status.NoMemory → IsStarved Mode.Replay (S.left source.old) (K.written sink.old) (K.written sink.new) }
     ensures taken { IsReadWithin 67108864 (S.left source.old) (S.left source.new) (S.calls source.old) (S.calls source.new) }
     ensures source_kept { result ≢ Status.ReadFault → result ≢ Status.WriteFault → S.faults source.new ≡ S.faults source.old }
     ensures sink_kept { result ≢ Status.WriteFault → K.faults sink.new ≡ K.faults sink.old }
@@ -63,50 +60,95 @@ pub fn run_replay<S: Source, K: Sink>(alloc: Global, source: &mut S, sink: &mut 
     }
 }
 
-/// The program: the words of the command line, the input and the output. The words `replay` alone ask for
-/// [`run_replay`]. At any others nothing is read, and the answer is `Usage` with a line that names the modes.
-pub fn run<S: Source, K: Sink>(
+/// Reads the input, a script, plays each client's lines one after another over a new store, the clients side by side on so
+/// many threads and the lines of the whole store when all lines before them are done, and writes the report: between two such
+/// lines the answers of each client in order, client by client; each dump; and `end`.
+///
+/// The statuses are those of [`run_replay`], and `Split` where what the workers kept of the race is not what its places kept:
+/// then no report is written, but a line that names the actor and the step, or the place, where they differ.
+pub fn run_race<R: Threads + Wait + Sync, S: Source, K: Sink, G: Gate + Sync>(
+    rt: &R,
+    alloc: Global,
+    workers: u32,
+    source: &mut S,
+    sink: &mut K,
+    gate: &G,
+) -> Status
+    requires { (1 ≤ workers) × (workers ≤ 64) }
+    ensures no_others { result ≢ Status.Usage }
+    ensures reported { result ≡ Status.Ok → IsReported (Mode.Race workers) (S.left source.old) (S.left source.new) (K.written sink.old) (K.written sink.new) }
+    ensures split { result ≡ Status.Split → IsSplitEnd (S.left source.old) (S.left source.new) (K.written sink.old) (K.written sink.new) }
+    ensures refused { result ≡ Status.BadScript → IsRefused (S.left source.old) (K.written sink.old) (K.written sink.new) Status.BadScript }
+    ensures too_large { result ≡ Status.TooLarge → IsRefused (S.left source.old) (K.written sink.old) (K.written sink.new) Status.TooLarge }
+    ensures read_fault { result ≡ Status.ReadFault → IsReadFault (Rose (S.faults source.old) (S.faults source.new)) (K.written sink.old) (K.written sink.new) }
+    ensures write_fault { result ≡ Status.WriteFault → Rose (K.faults sink.old) (K.faults sink.new)
+        × IsCut (Mode.Race workers) (Rose (S.faults source.old) (S.faults source.new)) (S.left source.old) (K.written sink.old) (K.written sink.new) }
+    ensures no_memory { result ≡ Status.NoMemory → IsStarved (Mode.Race workers) (S.left source.old) (K.written sink.old) (K.written sink.new) }
+    ensures taken { IsReadWithin 67108864 (S.left source.old) (S.left source.new) (S.calls source.old) (S.calls source.new) }
+    ensures source_kept { result ≢ Status.ReadFault → result ≢ Status.WriteFault → S.faults source.new ≡ S.faults source.old }
+    ensures sink_kept { result ≢ Status.WriteFault → K.faults sink.new ≡ K.faults sink.old }
+{
+    match read_plan(alloc, source) {
+        Ok(plan) => race_plan(rt, alloc, &plan, workers, sink, gate),
+        Err(InputFault::Failed) => close(sink, b"read fault\n", Status::ReadFault),
+        Err(InputFault::Script(fault)) => refuse(alloc, fault, sink),
+    }
+}
+
+/// The program: the words of the command line, the input and the output. The words `replay` alone ask for [`run_replay`], and
+/// `race --workers N`, N from 1 to 64 in decimal digits without a leading zero, for [`run_race`]. At any others nothing is
+/// read, and the answer is `Usage` with a line that names the modes.
+pub fn run<R: Threads + Wait + Sync, S: Source, K: Sink, G: Gate + Sync>(
+    rt: &R,
     alloc: Global,
     words: &[String],
     source: &mut S,
     sink: &mut K,
+    gate: &G,
 ) -> Status
-    // 0: the whole input was read. It spells a plan, and what was written is the output of a history of that plan: a run of the
-    // world that follows the script, sound at each moment, each of whose answers is the tree's at the command's point.
-    ensures reported { result ≡ Status.Ok → AreReplay (map string_bytes words.now)
-        × IsReported (S.left source.old) (S.left source.new) (K.written sink.old) (K.written sink.new) }
+    // 0: the whole input was read. It spells a plan, and what was written is the output of a history of that plan. In a replay
+    // that is a run of the world that follows the script line by line, in a race one that follows it client by client; it is
+    // sound at each moment, and each of its answers is the tree's at the command's point.
+    ensures reported { result ≡ Status.Ok → InMode (map string_bytes words.now)
+        (λ mode. IsReported mode (S.left source.old) (S.left source.new) (K.written sink.old) (K.written sink.new)) }
 
-    // 2 comes exactly by the words.
+    // 2 comes exactly by the words, and then nothing is read.
     ensures usage { result ≡ Status.Usage → IsUsage (map string_bytes words.now) (K.written sink.old) (K.written sink.new) }
-    ensures no_other { (AreReplay (map string_bytes words.now) → ⊥) → (result ≡ Status.Usage) ⊎ (result ≡ Status.WriteFault) }
+    ensures no_other { SpellsNone (map string_bytes words.now) → (result ≡ Status.Usage) ⊎ (result ≡ Status.WriteFault) }
+    ensures unread { SpellsNone (map string_bytes words.now) → source.new ≡ source.old }
 
     // 3 and 8 come only for an input that spells no plan, with its first fault.
-    ensures refused { result ≡ Status.BadScript → AreReplay (map string_bytes words.now)
-        × IsRefused (S.left source.old) (K.written sink.old) (K.written sink.new) Status.BadScript }
-    ensures too_large { result ≡ Status.TooLarge → AreReplay (map string_bytes words.now)
-        × IsRefused (S.left source.old) (K.written sink.old) (K.written sink.new) Status.TooLarge }
+    ensures refused { result ≡ Status.BadScript → InMode (map string_bytes words.now)
+        (λ _. IsRefused (S.left source.old) (K.written sink.old) (K.written sink.new) Status.BadScript) }
+    ensures too_large { result ≡ Status.TooLarge → InMode (map string_bytes words.now)
+        (λ _. IsRefused (S.left source.old) (K.written sink.old) (K.written sink.new) Status.TooLarge) }
 
     // 4 and 5 come only where a fault came, and then a line or a front of one, or of a report, was written.
-    ensures read_fault { result ≡ Status.ReadFault → AreReplay (map string_bytes words.now)
-        × IsReadFault (Rose (S.faults source.old) (S.faults source.new)) (K.written sink.old) (K.written sink.new) }
+    ensures read_fault { result ≡ Status.ReadFault → InMode (map string_bytes words.now)
+        (λ _. IsReadFault (Rose (S.faults source.old) (S.faults source.new)) (K.written sink.old) (K.written sink.new)) }
     ensures write_fault { result ≡ Status.WriteFault → Rose (K.faults sink.old) (K.faults sink.new)
         × IsCutOff (map string_bytes words.now) (Rose (S.faults source.old) (S.faults source.new)) (S.left source.old) (K.written sink.old) (K.written sink.new) }
 
     // 6 leaves nothing, or a front of a report.
-    ensures no_memory { result ≡ Status.NoMemory → AreReplay (map string_bytes words.now)
-        × IsStarved (S.left source.old) (K.written sink.old) (K.written sink.new) }
+    ensures no_memory { result ≡ Status.NoMemory → InMode (map string_bytes words.now)
+        (λ mode. IsStarved mode (S.left source.old) (K.written sink.old) (K.written sink.new)) }
+
+    // 7 comes in a race alone, where two kept entries differ or two labels do, with the line that names them.
+    ensures split { result ≡ Status.Split → (workers : ℕ) × SpellsRace (map string_bytes words.now) workers
+        × IsSplitEnd (S.left source.old) (S.left source.new) (K.written sink.old) (K.written sink.new) }
 
     // No more than the limit and one byte is read, at least one byte a turn; other faults than these were not met.
     ensures taken { IsReadWithin 67108864 (S.left source.old) (S.left source.new) (S.calls source.old) (S.calls source.new) }
     ensures source_kept { result ≢ Status.ReadFault → result ≢ Status.WriteFault → S.faults source.new ≡ S.faults source.old }
     ensures sink_kept { result ≢ Status.WriteFault → K.faults sink.new ≡ K.faults sink.old }
 {
-    if !are_replay(words) {
-        return close(
+    match read_mode(words) {
+        Some(Mode::Replay) => run_replay(alloc, source, sink),
+        Some(Mode::Race { workers }) => run_race(rt, alloc, workers, source, sink, gate),
+        None => close(
             sink,
             b"usage: tect replay, race, make or judge\n",
             Status::Usage,
-        );
+        ),
     }
-    run_replay(alloc, source, sink)
 }

@@ -5,4 +5,5 @@ pub mod Played
 pub mod Going
 pub mod Stepping
 pub mod Texts
+pub mod ReportTexts
 pub mod Reached

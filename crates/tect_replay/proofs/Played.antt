@@ -2,6 +2,7 @@
 use Rattle.std.proofs.Common.{◌≡◌, ℕ, Bool, true, eqb, if◌then◌else◌, Option, Some, None, List, [], ◌∷◌, ◌++◌, map, refl, sym, ap, subst, ◌∙◌, inl, inr, arith}
 use Rattle.std.proofs.lemmas.List.{append-nil}
 use Rattle.std.specs.Prelude.{IsSome}
+use Rattle.tect_ids.specs.declared.ids.Counts.{Counts}
 use Rattle.tect_ids.specs.declared.ids.OpId.{OpId}
 use Rattle.tect_ids.specs.declared.answer.Answer.{Answer}
 use Rattle.tect_ids.specs.declared.answer.Answer.TheVariants as answers
@@ -17,7 +18,8 @@ use Rattle.tect_ids.proofs.KeyTests.{num_eq_cases}
 use Rattle.world_runs.specs.declared.event.Event.{Event}
 use Rattle.world_runs.specs.declared.event.Event.TheVariants.{Began, Refused, Acted, Ended, Stopped, Failed, Dumped}
 use Rattle.world_runs.specs.Moments.{Actor, IsWorldRun, RunFrom, Moment, opening, after, asked, answered}
-use Rattle.world_runs.specs.Follows.{Acts, IsEndOf, RunsToEnd}
+use Rattle.noted_runs.specs.Limits.{KeepsLimits}
+use Rattle.world_runs.specs.Follows.{Acts, IsBeginOf, IsEndOf, RunsToEnd}
 use Rattle.world_runs.specs.Report.{answer_line, report_after}
 use Rattle.sound_runs.proofs.RunsKeep.{running_is_last_begun}
 use Rattle.tree_runs.proofs.Histories.{run-rest}
@@ -25,9 +27,9 @@ use Rattle.script_runs.specs.Standing.{busy_at, op_of}
 use Rattle.script_runs.specs.Smooth.{EndIsNext, EndsAtOnce}
 use Rattle.script_runs.proofs.AtOnce.{not_both}
 use Rattle.tect_world.specs.Life.{Life, present, grown, last_op, next_op}
-use Rattle.tect_world.specs.Steps.{EndsWith, RanToEnd}
+use Rattle.tect_world.specs.Steps.{EndsWith, HasBegun, RanToEnd}
 use Rattle.script_runs.specs.Playable.{IsShallow}
-use Rattle.tect_replay.specs.Plays.{AllShallow, StepsUpTo, PlaysAct, PlaysLine}
+use Rattle.tect_replay.specs.Plays.{AllShallow, IsKeptRun, StepsUpTo, PlaysAct, PlaysLine}
 use Rattle.tect_replay.proofs.Results.{some_of}
 use Rattle.tect_replay.proofs.Shallow.{shallow-append}
 use Rattle.tect_replay.proofs.Reports.{present-grown, grown-grown, grown-nil, acts_show_nothing, ended_shows, stopped_shows}
@@ -77,9 +79,13 @@ busy_some w actor run some =
     let same : (p.0).op ≡ last_op (present w) actor = λ i. record { actor = k.own i; number = k.last i } in
     ap op_of p.1 ∙ ap Some same
 
+-- what a call says of the world
+pub kept : (w : Life) → IsWorldRun w.counts w.history → KeepsLimits w.counts w.history → IsKeptRun w
+kept w run limits = record { run = run; limits = limits }
+
 -- ---- nothing is done
 
-pub plays_nothing : (clients : List (List ℕ)) (actor n : ℕ) (old new : Life) → new ≡ old → IsWorldRun new.counts new.history → ((present old).actors actor).running ≡ None → PlaysAct clients actor (acts.Step n) old new []
+pub plays_nothing : (clients : List (List ℕ)) (actor n : ℕ) (old new : Life) → new ≡ old → IsKeptRun new → ((present old).actors actor).running ≡ None → PlaysAct clients actor (acts.Step n) old new []
 plays_nothing clients actor n old new same now none = record {
   part = [];
   next = None;
@@ -91,7 +97,7 @@ plays_nothing clients actor n old new same now none = record {
   shows = refl;
 }
 
-pub runs_nothing : (clients : List (List ℕ)) (actor : ℕ) (old new : Life) → new ≡ old → IsWorldRun new.counts new.history → ((present old).actors actor).running ≡ None → PlaysAct clients actor acts.Run old new []
+pub runs_nothing : (clients : List (List ℕ)) (actor : ℕ) (old new : Life) → new ≡ old → IsKeptRun new → ((present old).actors actor).running ≡ None → PlaysAct clients actor acts.Run old new []
 runs_nothing clients actor old new same now none = record {
   part = [];
   next = None;
@@ -103,7 +109,7 @@ runs_nothing clients actor old new same now none = record {
   shows = refl;
 }
 
-pub stops_nothing : (clients : List (List ℕ)) (actor : ℕ) (old new : Life) → new ≡ old → IsWorldRun new.counts new.history → ((present old).actors actor).running ≡ None → PlaysAct clients actor acts.Stop old new []
+pub stops_nothing : (clients : List (List ℕ)) (actor : ℕ) (old new : Life) → new ≡ old → IsKeptRun new → ((present old).actors actor).running ≡ None → PlaysAct clients actor acts.Stop old new []
 stops_nothing clients actor old new same now none = record {
   part = [];
   next = None;
@@ -173,7 +179,7 @@ pub steps_shallow_on : (n : ℕ) (old new : Life) (op : OpId) (o : Option Answer
 steps_shallow_on n old new op None (es, done, grew, at_once) before = rw grew (shallow-append old.history es before (acts_shallow op n es done))
 steps_shallow_on n old new op (Some a) (ran, few) before = ran_shallow_on old new op a ran before
 
-pub runs_on : (clients : List (List ℕ)) (actor : ℕ) (old new : Life) (a : Answer) (ls : List ReportLine) → IsWorldRun old.counts old.history → IsWorldRun new.counts new.history → IsSome ((present old).actors actor).running
+pub runs_on : (clients : List (List ℕ)) (actor : ℕ) (old new : Life) (a : Answer) (ls : List ReportLine) → IsWorldRun old.counts old.history → IsKeptRun new → IsSome ((present old).actors actor).running
     → RanToEnd old new (last_op (present old) actor) a → ls ≡ answer_line clients new.history (last_op (present new) actor) a ∷ [] → PlaysAct clients actor acts.Run old new ls
 runs_on clients actor old new a ls run now some ran shown = record {
   part = ran.acts ++ ran.end ∷ [];
@@ -181,12 +187,12 @@ runs_on clients actor old new a ls run now some ran shown = record {
   grew = ran.history;
   run = now;
   does = rw (busy_some old actor run some) ((ran.count, (ran.acts, ran.end, refl, ran.are_acts, is_end _ ran.end a ran.ends)), refl);
-  at_once = ran_at_once old new _ a ran now;
+  at_once = ran_at_once old new _ a ran now.run;
   shallow = ran_shallow old new _ a ran;
   shows = ended_line clients actor old new a ran ∙ sym shown;
 }
 
-pub steps_to_end : (clients : List (List ℕ)) (actor n : ℕ) (old new : Life) (a : Answer) (ls : List ReportLine) → IsWorldRun old.counts old.history → IsWorldRun new.counts new.history → IsSome ((present old).actors actor).running
+pub steps_to_end : (clients : List (List ℕ)) (actor n : ℕ) (old new : Life) (a : Answer) (ls : List ReportLine) → IsWorldRun old.counts old.history → IsKeptRun new → IsSome ((present old).actors actor).running
     → StepsUpTo n old new (last_op (present old) actor) (Some a) → ls ≡ answer_line clients new.history (last_op (present new) actor) a ∷ [] → PlaysAct clients actor (acts.Step n) old new ls
 steps_to_end clients actor n old new a ls run now some (ran, few) shown = record {
   part = ran.acts ++ ran.end ∷ [];
@@ -194,12 +200,12 @@ steps_to_end clients actor n old new a ls run now some (ran, few) shown = record
   grew = ran.history;
   run = now;
   does = rw (busy_some old actor run some) (inr (ran.count, few, (ran.acts, ran.end, refl, ran.are_acts, is_end _ ran.end a ran.ends), refl));
-  at_once = ran_at_once old new _ a ran now;
+  at_once = ran_at_once old new _ a ran now.run;
   shallow = ran_shallow old new _ a ran;
   shows = ended_line clients actor old new a ran ∙ sym shown;
 }
 
-pub steps_on : (clients : List (List ℕ)) (actor n : ℕ) (old new : Life) → IsWorldRun old.counts old.history → IsWorldRun new.counts new.history → IsSome ((present old).actors actor).running
+pub steps_on : (clients : List (List ℕ)) (actor n : ℕ) (old new : Life) → IsWorldRun old.counts old.history → IsKeptRun new → IsSome ((present old).actors actor).running
     → StepsUpTo n old new (last_op (present old) actor) None → PlaysAct clients actor (acts.Step n) old new []
 steps_on clients actor n old new run now some (es, done, grew, at_once) = record {
   part = es;
@@ -212,7 +218,7 @@ steps_on clients actor n old new run now some (es, done, grew, at_once) = record
   shows = acts_show_nothing old.counts clients old.history _ n es done;
 }
 
-pub stops : (clients : List (List ℕ)) (actor : ℕ) (old new : Life) (ls : List ReportLine) → IsWorldRun old.counts old.history → IsWorldRun new.counts new.history → IsSome ((present old).actors actor).running
+pub stops : (clients : List (List ℕ)) (actor : ℕ) (old new : Life) (ls : List ReportLine) → IsWorldRun old.counts old.history → IsKeptRun new → IsSome ((present old).actors actor).running
     → new ≡ grown old (Stopped (last_op (present old) actor) ∷ []) → ls ≡ answer_line clients new.history (last_op (present new) actor) answers.Stopped ∷ []
     → PlaysAct clients actor acts.Stop old new ls
 stops clients actor old new ls run now some grew shown = record {
@@ -234,49 +240,83 @@ set_number actors a state = grind (arith, num_eq_cases a a)
 begun_some : (actors : ℕ → Actor) (a : ℕ) (state : Actor) → IsSome state.running → IsSome (if eqb a a then state else actors a).running
 begun_some actors a state some = subst (λ (t : Bool). IsSome (if t then state else actors a).running) (sym (same a)) some
 
-module _ (clients : List (List ℕ)) (actor : ℕ) (c : Command) (old : Life) (none : ((present old).actors actor).running ≡ None) (shallow : IsShallow c) where
+-- what a begin and a refusal make alike
+pub record IsBegin (m : Moment) (op : OpId) (b : Event) : Type 0 where
+  pub number : ((after m b).actors op.actor).number ≡ op.number
+  pub runs : IsSome ((after m b).actors op.actor).running
+  pub shallow : AllShallow (b ∷ [])
+  pub at_once : (es : List Event) → EndsAtOnce (after m b) es → EndsAtOnce m (b ∷ es)
+  pub shows : (counts : Counts) (clients : List (List ℕ)) (before rest : List Event)
+      → report_after counts clients before (b ∷ rest) ≡ report_after counts clients (before ++ b ∷ []) rest
+
+is_begin : (m : Moment) (op : OpId) (c : Command) (b : Event) → IsShallow c → IsBeginOf op c b → IsBegin m op b
+is_begin m op c (Began o d) shallow is = subst (λ (p : OpId). IsBegin m p (Began o d)) is.0 (record {
+  number = set_number m.actors o.actor _;
+  runs = begun_some m.actors o.actor _ refl;
+  shallow = (subst IsShallow (sym is.1) shallow, tt);
+  at_once = λ es rest. (tt, rest);
+  shows = λ counts clients before rest. refl;
+})
+is_begin m op c (Refused o d) shallow is = subst (λ (p : OpId). IsBegin m p (Refused o d)) is.0 (record {
+  number = set_number m.actors o.actor _;
+  runs = begun_some m.actors o.actor _ refl;
+  shallow = (subst IsShallow (sym is.1) shallow, tt);
+  at_once = λ es rest. (tt, rest);
+  shows = λ counts clients before rest. refl;
+})
+is_begin m op c (Acted o q x) shallow is = absurd is
+is_begin m op c (Ended o a) shallow is = absurd is
+is_begin m op c (Stopped o) shallow is = absurd is
+is_begin m op c (Failed o a) shallow is = absurd is
+is_begin m op c Dumped shallow is = absurd is
+
+module _ (clients : List (List ℕ)) (actor : ℕ) (c : Command) (old mid : Life) (none : ((present old).actors actor).running ≡ None) (shallow : IsShallow c)
+    (h : HasBegun old mid (next_op (present old) actor) c) where
   abbrev op : OpId
   op = next_op (present old) actor
 
   abbrev begun : Life
-  begun = grown old (Began op c ∷ [])
+  begun = grown old (h.begin ∷ [])
+
+  begin : IsBegin (present old) op h.begin
+  begin = is_begin (present old) op c h.begin shallow h.begins
 
   begun_last : last_op (present begun) actor ≡ op
-  begun_last = λ i. record { actor = actor; number = (ap (λ (m : Moment). (m.actors actor).number) (present-grown old (Began op c ∷ [])) ∙ set_number ((present old).actors) actor _) i }
+  begun_last = λ i. record { actor = actor; number = (ap (λ (m : Moment). (m.actors actor).number) (present-grown old (h.begin ∷ [])) ∙ begin.number) i }
 
-  pub begins : (new : Life) → new ≡ begun → IsWorldRun new.counts new.history → PlaysAct clients actor (acts.Begin c) old new []
-  begins new grew now = record {
-    part = Began op c ∷ [];
+  pub begins : IsKeptRun mid → PlaysAct clients actor (acts.Begin c) old mid []
+  begins now = record {
+    part = h.begin ∷ [];
     next = Some op;
-    grew = grew;
+    grew = h.history;
     run = now;
-    does = rw (busy_none old actor none) (op, Began op c, refl, refl, (refl, refl), refl);
-    at_once = (tt, tt);
-    shallow = (shallow, tt);
-    shows = refl;
+    does = rw (busy_none old actor none) (op, h.begin, refl, refl, h.begins, refl);
+    at_once = begin.at_once [] tt;
+    shallow = begin.shallow;
+    shows = begin.shows old.counts clients old.history [];
   }
 
-  pub begun_runs : (mid : Life) → mid ≡ begun → IsSome ((present mid).actors actor).running
-  begun_runs mid grew = rw (grew, present-grown old (Began op c ∷ [])) (begun_some (present old).actors actor _ refl)
+  pub begun_runs : IsSome ((present mid).actors actor).running
+  begun_runs = rw (h.history, present-grown old (h.begin ∷ [])) begin.runs
 
-  pub begun_shallow : (mid : Life) → mid ≡ begun → AllShallow old.history → AllShallow mid.history
-  begun_shallow mid grew before = rw grew (shallow-append old.history (Began op c ∷ []) before (shallow, tt))
+  pub begun_shallow : AllShallow old.history → AllShallow mid.history
+  begun_shallow before = rw h.history (shallow-append old.history (h.begin ∷ []) before begin.shallow)
 
-  pub does_all : (mid new : Life) (a : Answer) (ls : List ReportLine) → mid ≡ begun → IsWorldRun new.counts new.history → RanToEnd mid new (last_op (present mid) actor) a
+  pub does_all : (new : Life) (a : Answer) (ls : List ReportLine) → IsKeptRun new → RanToEnd mid new (last_op (present mid) actor) a
       → ls ≡ answer_line clients new.history (last_op (present new) actor) a ∷ [] → PlaysAct clients actor (acts.Do c) old new ls
-  does_all mid new a ls grew now ran shown =
-      let goes : RanToEnd begun new (last_op (present begun) actor) a = subst (λ (w : Life). RanToEnd w new (last_op (present w) actor) a) grew ran in
+  does_all new a ls now ran shown =
+      let goes : RanToEnd begun new (last_op (present begun) actor) a = subst (λ (w : Life). RanToEnd w new (last_op (present w) actor) a) h.history ran in
       let rest : List Event = goes.acts ++ goes.end ∷ [] in
       let ends : RunsToEnd op rest = subst (λ (o : OpId). RunsToEnd o rest) begun_last (goes.count, (goes.acts, goes.end, refl, goes.are_acts, is_end _ goes.end a goes.ends)) in
       record {
-        part = Began op c ∷ rest;
+        part = h.begin ∷ rest;
         next = None;
-        grew = goes.history ∙ grown-grown old (Began op c ∷ []) rest;
+        grew = goes.history ∙ grown-grown old (h.begin ∷ []) rest;
         run = now;
-        does = rw (busy_none old actor none) ((op, Began op c, rest, refl, refl, (refl, refl), ends), refl);
-        at_once = (tt, subst (λ (m : Moment). EndsAtOnce m rest) (present-grown old (Began op c ∷ [])) (ran_at_once begun new _ a goes now));
-        shallow = (shallow, ran_shallow begun new _ a goes);
-        shows = ended_line clients actor begun new a goes ∙ sym shown;
+        does = rw (busy_none old actor none) ((op, h.begin, rest, refl, refl, h.begins, ends), refl);
+        at_once = begin.at_once rest (subst (λ (m : Moment). EndsAtOnce m rest) (present-grown old (h.begin ∷ [])) (ran_at_once begun new _ a goes now.run));
+        shallow = shallow-append (h.begin ∷ []) rest begin.shallow (ran_shallow begun new _ a goes);
+        shows = begin.shows old.counts clients old.history rest ∙ ended_line clients actor begun new a goes ∙ sym shown;
       }
 
 -- ---- a line
@@ -292,7 +332,7 @@ plays_line clients name actor act old new ls p = record {
   shows = p.shows;
 }
 
-pub dumps : (clients : List (List ℕ)) (old new : Life) (ds : List DumpLine) → new ≡ grown old (Dumped ∷ []) → IsWorldRun new.counts new.history → ds ≡ store_dump (present old).store
+pub dumps : (clients : List (List ℕ)) (old new : Life) (ds : List DumpLine) → new ≡ grown old (Dumped ∷ []) → IsKeptRun new → ds ≡ store_dump (present old).store
     → PlaysLine clients lines.Dump old new (map report_lines.Dump ds)
 dumps clients old new ds grew now is = record {
   part = Dumped ∷ [];

@@ -1,7 +1,7 @@
 -- How far a replay has come.
-use Rattle.std.proofs.Common.{◌≡◌, ℕ, zero, suc, ◌+◌, ◌<◌, ◌≤◌, Option, Some, List, [], ◌∷◌, ◌++◌, length, get_or, take, drop, map, length-take, refl, sym, ap, subst, ◌∙◌, append_assoc, arith}
+use Rattle.std.proofs.Common.{◌≡◌, Bool, true, false, ℕ, zero, suc, ◌+◌, ◌<◌, ◌≤◌, Option, Some, List, [], ◌∷◌, ◌++◌, length, get_or, take, drop, map, length-take, refl, sym, ap, subst, ◌∙◌, append_assoc, arith}
 use Rattle.std.specs.List.{AllByRecursion}
-use Rattle.std.proofs.lemmas.List.{take_all, take_more, take-append-drop}
+use Rattle.std.proofs.lemmas.List.{take_all, take_more, take-append-drop, append-nil}
 use Rattle.tect_ids.specs.declared.ids.Counts.{Counts}
 use Rattle.tect_ids.specs.declared.answer.Answer.TheVariants as answers
 use Rattle.tect_ids.specs.declared.command.Command.{Command}
@@ -21,16 +21,19 @@ use Rattle.world_runs.specs.Moments.{Moment, after, opening, moment, RunFrom, Is
 use Rattle.world_runs.specs.Follows.{Follows, FollowsFrom}
 use Rattle.world_runs.specs.Turns.{Turns, ClientTurn, Idle, Busy as IsBusy, Gone, TakesAct, turn_after, with_turn, all_idle, turns_after, InTurn, InTurnFrom}
 use Rattle.world_runs.specs.Report.{lines_at, report_after}
-use Rattle.sound_runs.proofs.RunsKeep.{sound_at_each_moment, no_run_answers_odd}
-use Rattle.tree_runs.proofs.Headlines.{run_headline}
+use Rattle.sound_runs.proofs.RunsKeep.{no_run_answers_odd}
 use Rattle.tree_runs.proofs.Scripts.{session_reported}
 use Rattle.tree_runs.proofs.Histories.{after_all-append, run-append, report-append}
-use Rattle.run_bounds.proofs.RunsShort.{each_is_short}
+use Rattle.run_claims.proofs.Claims.{every_run_is_claimed}
 use Rattle.script_runs.specs.Standing.{busy_at, AtTurn}
 use Rattle.script_runs.specs.Smooth.{EndsAtOnce, StepsOn, AllStepOn}
 use Rattle.script_runs.proofs.AtOnce.{at_once-append}
 use Rattle.script_runs.proofs.FollowOn.{run_follows_on, stands_by_turn}
-use Rattle.script_runs.proofs.RunOn.{each_script_can_be_run_on}
+use Rattle.script_runs.specs.RunningOut.{RefusesAsFull}
+use Rattle.script_runs.proofs.RunOut.{each_script_can_be_run_out}
+use Rattle.noted_runs.specs.Limits.{KeepsLimits, KeepsLimitsAfter, EndsFull, used}
+use Rattle.std.specs.Prelude.{nat_le}
+use Rattle.std.proofs.lemmas.Bool.Decides.{nat_tests}
 use Rattle.script_runs.proofs.Fixed.{script_fixes_run}
 use Rattle.tect_world.specs.Life.{Life, present}
 use Rattle.tect_replay.specs.Output.{lines_text, end_text, plan_report, AppendsPrefix}
@@ -89,15 +92,12 @@ all_step_on : (clients : ℕ) (ls : List Line) → AllByRecursion (IsWithin clie
 all_step_on clients [] all = tt
 all_step_on clients (l ∷ ls) all = (step_on clients l all.0, all_step_on clients ls all.1)
 
-pub history_of : (plan : Plan) (history : List Event) → IsPlayable plan → IsWorldRun plan.counts history → Follows plan.lines history → EndsAtOnce (opening plan.counts) history → IsHistoryOf plan history
-history_of plan history is run follows at_once = record {
-  run = run;
+pub history_of : (plan : Plan) (history : List Event) → IsPlayable plan → IsWorldRun plan.counts history → KeepsLimits plan.counts history → Follows plan.lines history → EndsAtOnce (opening plan.counts) history → IsHistoryOf plan history
+history_of plan history is run limits follows at_once = record {
+  claim = every_run_is_claimed plan.counts history run limits;
   follows = follows;
   at_once = at_once;
-  sound = sound_at_each_moment plan.counts history run;
-  answers = run_headline plan.counts history run;
   none_odd = none_odd_after plan.counts plan.clients [] history tt run;
-  short = each_is_short plan.counts history run;
   alone = λ client cs same played none. session_reported plan.counts plan.clients client cs history played run none (subst (λ ls. Follows ls history) same follows);
   fixed = λ none other smooth follows'.
       script_fixes_run plan.counts plan.lines other history (all_step_on (length plan.clients) plan.lines is.within) smooth (record { run = run; none_fails = none; at_once = at_once }) follows' follows;
@@ -137,12 +137,13 @@ takes_begin Gone c takes = absurd takes
 pub record HasPlayed (plan : Plan) (front : List Line) (world : Life) : Type 0 where
   pub counts : world.counts ≡ plan.counts
   pub run : IsWorldRun plan.counts world.history
+  pub limits : KeepsLimits plan.counts world.history
   pub follows : Follows front world.history
   pub at_once : EndsAtOnce (opening plan.counts) world.history
   pub shallow : AllShallow world.history
 
 pub played_none : (plan : Plan) (world : Life) → world ≡ record { counts = plan.counts; history = [] } → HasPlayed plan [] world
-played_none plan world is = subst (λ (w : Life). HasPlayed plan [] w) (sym is) (record { counts = refl; run = tt; follows = refl; at_once = tt; shallow = tt })
+played_none plan world is = subst (λ (w : Life). HasPlayed plan [] w) (sym is) (record { counts = refl; run = tt; limits = tt; follows = refl; at_once = tt; shallow = tt })
 
 all_at : {X : Type 0} (P : X → Type 0) (xs : List X) (i : ℕ) (x : X) → i < length xs → AllByRecursion P xs → P (get_or xs i x)
 all_at P [] i x lt all = absurd (omega (arith, lt))
@@ -202,7 +203,7 @@ module _ (plan : Plan) (i : ℕ) (world : Life) (line : Line) (is : IsPlayable p
     new_history = ap (λ (w : Life). w.history) plays.grew
 
     new_run : IsWorldRun plan.counts new.history
-    new_run = subst (λ (k : Counts). IsWorldRun k new.history) new_counts plays.run
+    new_run = subst (λ (k : Counts). IsWorldRun k new.history) new_counts plays.run.run
 
     follows_now : Follows (take i plan.lines ++ line ∷ []) (world.history ++ plays.part)
     follows_now = run_follows_on plan.counts (take i plan.lines) (line ∷ []) world.history plays.part (subst (IsWorldRun plan.counts) new_history new_run) r.follows
@@ -212,6 +213,7 @@ module _ (plan : Plan) (i : ℕ) (world : Life) (line : Line) (is : IsPlayable p
     played_next = record {
       counts = new_counts;
       run = new_run;
+      limits = subst (λ (k : Counts). KeepsLimits k new.history) new_counts plays.run.limits;
       follows = rw (more, new_history) follows_now;
       at_once = rw new_history (at_once-append (opening plan.counts) world.history plays.part r.at_once (subst (λ (k : Counts). EndsAtOnce (moment k world.history) plays.part) r.counts plays.at_once));
       shallow = rw new_history (shallow-append world.history plays.part r.shallow plays.shallow);
@@ -227,20 +229,47 @@ module _ (plan : Plan) (i : ℕ) (world : Life) (line : Line) (is : IsPlayable p
 
 -- ---- a report that was cut off, and a whole one
 
+not_full : (n : ℕ) → nat_le 65536 n ≡ false → ¬ (65536 ≤ n)
+not_full n is = λ le. grind (arith, nat_tests, is, le)
+
+now_full : (n : ℕ) → nat_le 65536 n ≡ true → 65536 ≤ n
+now_full n is = grind (arith, nat_tests, is)
+
+-- the actor's own history has not room for an op
+abbrev is_full : List Event → ℕ → Bool
+is_full es actor = nat_le 65536 (used es actor + 1)
+
+limits-append : (counts : Counts) (before es fs : List Event) → KeepsLimitsAfter counts before es → KeepsLimitsAfter counts (before ++ es) fs → KeepsLimitsAfter counts before (es ++ fs)
+limits-append counts before [] fs first rest = rw append-nil at rest
+limits-append counts before (e ∷ es) fs first rest =
+    (first.0, limits-append counts (before ++ e ∷ []) es fs first.1 (rw append_assoc rest))
+
+-- what is refused just as this test says keeps the limits
+refuses_so : (counts : Counts) (before es : List Event) → RefusesAsFull is_full before es → KeepsLimitsAfter counts before es
+refuses_so counts before [] is = tt
+refuses_so counts before (Began op c ∷ es) is = (not_full (used before op.actor + 1) is.0, refuses_so counts (before ++ Began op c ∷ []) es is.1)
+refuses_so counts before (Refused op c ∷ es) is = (now_full (used before op.actor + 1) is.0, refuses_so counts (before ++ Refused op c ∷ []) es is.1)
+refuses_so counts before (Acted op q x ∷ es) is = absurd is
+refuses_so counts before (Ended op a ∷ es) is = (tt, refuses_so counts (before ++ Ended op a ∷ []) es is)
+refuses_so counts before (Stopped op ∷ es) is = (tt, refuses_so counts (before ++ Stopped op ∷ []) es is)
+refuses_so counts before (Failed op a ∷ es) is =
+    (subst (EndsFull counts before ((moment counts before).actors op.actor) op) (sym is.0) tt, refuses_so counts (before ++ Failed op a ∷ []) es is.1)
+refuses_so counts before (Dumped ∷ es) is = (tt, refuses_so counts (before ++ Dumped ∷ []) es is)
+
 pub cut_by : (plan : Plan) (n : ℕ) (world : Life) (old new : Option (List ℕ)) → IsPlayable plan → HasPlayed plan (take n plan.lines) world
     → AppendsPrefix old new (lines_text (plan_report plan world.history)) → IsCutReplay plan old new
 cut_by plan n world old new is r part =
     let all : take n plan.lines ++ drop n plan.lines ≡ plan.lines = take-append-drop n plan.lines in
-    let on = each_script_can_be_run_on plan.counts (take n plan.lines) (drop n plan.lines) world.history (rw all is.in_turn) (rw all is.few) r.run r.follows in
+    let on = each_script_can_be_run_out is_full plan.counts (take n plan.lines) (drop n plan.lines) world.history (rw all is.in_turn) (rw all is.few) r.run r.follows in
     let whole : List Event = world.history ++ on.0 in
     let shown : plan_report plan whole ≡ plan_report plan world.history ++ report_after plan.counts plan.clients world.history on.0 = report-append plan.counts plan.clients [] world.history on.0 in
     let text : lines_text (plan_report plan whole) ≡ lines_text (plan_report plan world.history) ++ lines_text (report_after plan.counts plan.clients world.history on.0) =
     ap lines_text shown ∙ lines-append (plan_report plan world.history) (report_after plan.counts plan.clients world.history on.0) in
     record {
       history = whole;
-      of_plan = history_of plan whole is on.1 (subst (λ ls. Follows ls whole) all on.2) (at_once-append (opening plan.counts) world.history on.0 r.at_once on.4);
+      of_plan = history_of plan whole is on.1 (limits-append plan.counts [] world.history on.0 r.limits (refuses_so plan.counts world.history on.0 on.4)) (subst (λ ls. Follows ls whole) all on.2) (at_once-append (opening plan.counts) world.history on.0 r.at_once on.3);
       written = prefix_less old new (lines_text (plan_report plan whole)) end_text (rw text (prefix_longer old new _ _ part)) (omega arith);
     }
 
 pub history_all : (plan : Plan) (n : ℕ) (world : Life) → IsPlayable plan → length plan.lines ≤ n → HasPlayed plan (take n plan.lines) world → IsHistoryOf plan world.history
-history_all plan n world is le r = history_of plan world.history is r.run (subst (λ ls. Follows ls world.history) (take_all n plan.lines le) r.follows) r.at_once
+history_all plan n world is le r = history_of plan world.history is r.run r.limits (subst (λ ls. Follows ls world.history) (take_all n plan.lines le) r.follows) r.at_once

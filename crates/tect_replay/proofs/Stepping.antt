@@ -3,7 +3,6 @@ use Rattle.std.proofs.Common.{◌≡◌, ℕ, ◌+◌, ◌≤◌, Option, Some, 
 use Rattle.std.specs.Prelude.{IsSome}
 use Rattle.tect_ids.specs.declared.ids.OpId.{OpId}
 use Rattle.tect_ids.specs.declared.answer.Answer.{Answer}
-use Rattle.tect_ids.specs.declared.answer.Answer.TheVariants as answers
 use Rattle.store_rules.specs.declared.any.AnyReq.{AnyReq}
 use Rattle.store_rules.specs.declared.any.AnyReply.{AnyReply}
 use Rattle.store_rules.specs.Store.{store_reply}
@@ -15,7 +14,8 @@ use Rattle.script_runs.specs.Smooth.{EndsAtOnce}
 use Rattle.tect_world.specs.Life.{Life, present, grown, last_op, actor_asks, transaction, ending, step_answer}
 use Rattle.actors.specs.declared.turned.Turned.TheVariants.{Going, Done}
 use Rattle.actors.specs.Turns.{turned_by}
-use Rattle.tect_world.specs.Steps.{Stepped}
+use Rattle.tect_world.specs.Steps.{EndsWith, FailsWith, Stepped}
+use Rattle.noted_runs.specs.Limits.{KeepsLimits}
 use Rattle.tect_replay.specs.Plays.{StepsUpTo}
 use Rattle.script_runs.proofs.AtOnce.{at_once-append}
 use Rattle.tect_replay.proofs.Going.{going_on}
@@ -52,17 +52,18 @@ pub record HasStepped (w v : Life) (actor n : ℕ) : Type 0 where
   pub running : IsSome ((present v).actors actor).running
   pub last : last_op (present v) actor ≡ last_op (present w) actor
   pub run : IsWorldRun v.counts v.history
+  pub limits : KeepsLimits v.counts v.history
 
-pub stepped_first : (w : Life) (actor : ℕ) → IsWorldRun w.counts w.history → IsSome ((present w).actors actor).running → HasStepped w w actor 0
-stepped_first w actor run running = record { events = []; acts = refl; grew = grown-nil w; at_once = tt; running = running; last = refl; run = run }
+pub stepped_first : (w : Life) (actor : ℕ) → IsWorldRun w.counts w.history → KeepsLimits w.counts w.history → IsSome ((present w).actors actor).running → HasStepped w w actor 0
+stepped_first w actor run limits running = record { events = []; acts = refl; grew = grown-nil w; at_once = tt; running = running; last = refl; run = run; limits = limits }
 
 module _ (w v u : Life) (actor n : ℕ) (s : HasStepped w v actor n) where
   abbrev op : OpId
   op = last_op (present w) actor
 
-  pub stepped_more : Stepped v u (last_op (present v) actor) Going → IsWorldRun u.counts u.history → HasStepped w u actor (n + 1)
-  stepped_more (inr (grew, turned)) run = absurd (let is : Going ≡ Done answers.NoMemory = turned in cc)
-  stepped_more (inl (grew, turned)) run =
+  pub stepped_more : Stepped v u (last_op (present v) actor) Going → IsWorldRun u.counts u.history → KeepsLimits u.counts u.history → HasStepped w u actor (n + 1)
+  stepped_more (inr (x, lack, fails, turned)) run limits = absurd cc
+  stepped_more (inl (grew, turned)) run limits =
       let g = going_on v u actor s.run s.running grew (not_done _ turned) in
       let grew' : u ≡ grown v (Acted op g.request g.reply ∷ []) = g.grew ∙ ap (λ (o : OpId). grown v (Acted o g.request g.reply ∷ [])) s.last in
       let here : present u ≡ after_all (after_all (present w) s.events) (Acted op g.request g.reply ∷ []) =
@@ -78,53 +79,51 @@ module _ (w v u : Life) (actor n : ℕ) (s : HasStepped w v actor n) where
         running = g.running;
         last = g.last ∙ s.last;
         run = run;
+        limits = limits;
       }
 
   -- the end behind them, with one more transaction or none
-  ends_by : (o : Option AnyReq) (a : Answer) → u ≡ grown v (transaction (present v).store op o ++ ending op (Some a)) → StepsUpTo (n + 1) w u op (Some a)
-  ends_by None a grew = (
+  closes_by : (o : Option AnyReq) (end : Event) (a : Answer) → EndsWith op end a → u ≡ grown v (transaction (present v).store op o ++ end ∷ []) → StepsUpTo (n + 1) w u op (Some a)
+  closes_by None end a ends grew = (
     record {
       acts = s.events;
       count = n;
-      end = Ended op a;
+      end = end;
       are_acts = s.acts;
-      ends = (refl, refl);
-      history = grew ∙ ap (λ (x : Life). grown x (Ended op a ∷ [])) s.grew ∙ grown-grown w s.events (Ended op a ∷ []);
+      ends = ends;
+      history = grew ∙ ap (λ (x : Life). grown x (end ∷ [])) s.grew ∙ grown-grown w s.events (end ∷ []);
     },
     omega arith,
   )
-  ends_by (Some q) a grew =
+  closes_by (Some q) end a ends grew =
       let act : Event = Acted op q (store_reply (present v).store q) in (
         record {
           acts = s.events ++ act ∷ [];
           count = n + 1;
-          end = Ended op a;
+          end = end;
           are_acts = acts_push op q (store_reply (present v).store q) n s.events s.acts;
-          ends = (refl, refl);
-          history = grew ∙ ap (λ (x : Life). grown x (act ∷ Ended op a ∷ [])) s.grew ∙ grown-grown w s.events (act ∷ Ended op a ∷ []) ∙ ap (grown w) (sym (append_assoc s.events (act ∷ []) (Ended op a ∷ [])));
+          ends = ends;
+          history = grew ∙ ap (λ (x : Life). grown x (act ∷ end ∷ [])) s.grew ∙ grown-grown w s.events (act ∷ end ∷ []) ∙ ap (grown w) (sym (append_assoc s.events (act ∷ []) (end ∷ [])));
         },
         omega arith,
       )
+
+  fails_by : (a : Answer) → FailsWith v u (last_op (present v) actor) a → StepsUpTo (n + 1) w u op (Some a)
+  fails_by a (inl grew) = closes_by None (Failed op a) a (refl, refl) (grew ∙ ap (λ (o : OpId). grown v (Failed o a ∷ [])) s.last)
+  fails_by a (inr grew) =
+      let asks : Option AnyReq = actor_asks ((present v).actors actor) (last_op (present v) actor) in
+      closes_by asks (Failed op a) a (refl, refl) (grew ∙ ap (λ (o : OpId). grown v (transaction (present v).store o asks ++ Failed o a ∷ [])) s.last)
 
   pub stepped_end : (a : Answer) → Stepped v u (last_op (present v) actor) (Done a) → StepsUpTo (n + 1) w u op (Some a)
   stepped_end a (inl (grew, turned)) =
       let m : Moment = present v in
       let says : step_answer m (last_op m actor) ≡ Some a = is_done _ a turned in
       let asks : Option AnyReq = actor_asks (m.actors actor) (last_op m actor) in
-      ends_by asks a (grew ∙ ap (λ (o : Option Answer). grown v (transaction m.store (last_op m actor) asks ++ ending (last_op m actor) o)) says
+      closes_by asks (Ended op a) a (refl, refl) (grew ∙ ap (λ (o : Option Answer). grown v (transaction m.store (last_op m actor) asks ++ ending (last_op m actor) o)) says
       ∙ ap (λ (o : OpId). grown v (transaction m.store o asks ++ ending o (Some a))) s.last)
-  stepped_end a (inr (grew, turned)) =
-      let same : a ≡ answers.NoMemory = (let is : Done a ≡ Done answers.NoMemory = turned in cc) in (
-        record {
-          acts = s.events;
-          count = n;
-          end = Failed op answers.NoMemory;
-          are_acts = s.acts;
-          ends = (refl, sym same);
-          history = grew ∙ ap (λ (o : OpId). grown v (Failed o answers.NoMemory ∷ [])) s.last ∙ ap (λ (x : Life). grown x (Failed op answers.NoMemory ∷ [])) s.grew ∙ grown-grown w s.events (Failed op answers.NoMemory ∷ []);
-        },
-        omega arith,
-      )
+  stepped_end a (inr (x, lack, fails, turned)) =
+      let same : x ≡ a = cc in
+      fails_by a (subst (FailsWith v u (last_op (present v) actor)) same fails)
 
 -- fewer steps are as many at most
 pub steps_within : (k n : ℕ) (w u : Life) (op : OpId) (a : Answer) → k ≤ n → StepsUpTo k w u op (Some a) → StepsUpTo n w u op (Some a)

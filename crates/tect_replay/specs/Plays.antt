@@ -12,6 +12,7 @@ use Rattle.world_runs.specs.declared.event.Event.{Event}
 use Rattle.world_runs.specs.declared.event.Event.TheVariants.{Began, Refused, Acted, Ended, Stopped, Failed, Dumped}
 use Rattle.world_runs.specs.Served.{IsServed}
 use Rattle.world_runs.specs.Moments.{Actor, IsWorldRun}
+use Rattle.noted_runs.specs.Limits.{KeepsLimits}
 use Rattle.world_runs.specs.Follows.{Acts, DoesLine, FollowsFrom}
 use Rattle.world_runs.specs.Report.{report_after}
 use Rattle.script_runs.specs.Standing.{busy_at}
@@ -62,12 +63,17 @@ shown_lines shown.Nothing = []
 shown_lines (shown.Answer line) = line ∷ []
 shown_lines (shown.Dump ls) = map report_lines.Dump ls.items
 
+-- the world's history is a run of it, within the limits of its actors' own histories
+pub record IsKeptRun (w : Life) : Type 0 where
+  pub run : IsWorldRun w.counts w.history
+  pub limits : KeepsLimits w.counts w.history
+
 -- The act was done: the events that came are those that the line asks for, and the report of them is what is shown.
 pub record PlaysAct (clients : List (List ℕ)) (actor : ℕ) (act : Act) (old new : Life) (ls : List ReportLine) : Type 0 where
   pub part : List Event
   pub next : Option OpId
   pub grew : new ≡ grown old part
-  pub run : IsWorldRun new.counts new.history
+  pub run : IsKeptRun new
   pub does : DoesLine actor (busy_at (present old) actor) act part next
   pub at_once : EndsAtOnce (present old) part
   pub shallow : AllShallow part
@@ -77,7 +83,7 @@ pub record PlaysAct (clients : List (List ℕ)) (actor : ℕ) (act : Act) (old n
 pub record PlaysLine (clients : List (List ℕ)) (line : Line) (old new : Life) (ls : List ReportLine) : Type 0 where
   pub part : List Event
   pub grew : new ≡ grown old part
-  pub run : IsWorldRun new.counts new.history
+  pub run : IsKeptRun new
   pub follows : FollowsFrom (busy_at (present old)) (line ∷ []) part
   pub at_once : EndsAtOnce (present old) part
   pub shallow : AllShallow part

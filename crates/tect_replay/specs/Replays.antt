@@ -1,8 +1,7 @@
 -- What is claimed of a replay.
-use Rattle.std.specs.Prelude.{◌≡◌, ◌≢◌, ℕ, Option, Some, List}
+use Rattle.std.specs.Prelude.{◌≡◌, ◌≢◌, ℕ, Option, List}
 use Rattle.std.specs.Io.KnownBytes.{Appends}
 use Rattle.std.specs.List.{AllByRecursion}
-use Rattle.tect_ids.specs.declared.ids.OpId.{OpId}
 use Rattle.tect_ids.specs.declared.ids.Place.{Place}
 use Rattle.tect_ids.specs.declared.answer.Answer.TheVariants as answers
 use Rattle.tect_ids.specs.declared.command.Command.{Command}
@@ -12,12 +11,10 @@ use Rattle.tect_ids.specs.declared.script.ReportLine.TheVariants as report_lines
 use Rattle.tect_edge.specs.Prefixes.{AppendsProperPrefix}
 use Rattle.tree_model.specs.Tree.{opening_tree}
 use Rattle.world_runs.specs.declared.event.Event.{Event}
-use Rattle.world_runs.specs.Moments.{opening, IsWorldRun, AtEachMoment}
-use Rattle.world_runs.specs.Sound.{IsSound}
-use Rattle.world_runs.specs.Headline.{Headline, command_of}
+use Rattle.world_runs.specs.Moments.{opening}
 use Rattle.world_runs.specs.Follows.{Follows, NoneFails}
 use Rattle.tree_runs.specs.Session.{IsPlayed, session_lines, session_script}
-use Rattle.run_bounds.specs.Bounds.{IsShort}
+use Rattle.run_claims.specs.Claims.{IsHistory}
 use Rattle.script_runs.specs.Smooth.{EndsAtOnce, IsSmoothRun}
 use Rattle.tect_replay.specs.Output.{plan_report, output_text}
 
@@ -37,17 +34,14 @@ IsToldByTree plan history =
 abbrev pub IsOnlyRun : Plan → List Event → Type 0
 IsOnlyRun plan history = NoneFails history → (other : List Event) → IsSmoothRun plan.counts other → Follows plan.lines other → other ≡ history
 
--- The history is one that the world has under the script: a run of the world that follows the script's lines, in which
--- each command ends as soon as it has its answer; sound at each moment; and each answer is the one that the tree gives at the
--- command's point, or says that there was no room to begin. Each command takes few transactions.
+-- The history is one that the world has under the script: a run of the world within the limits of its actors' histories, of which
+-- all is so that is claimed of such a run. It follows the script's lines, each command ends as soon as it has its answer, and no
+-- line of its report says that a reply was odd.
 pub record IsHistoryOf (plan : Plan) (history : List Event) : Type 0 where
-  pub run : IsWorldRun plan.counts history
+  pub claim : IsHistory plan.counts history
   pub follows : Follows plan.lines history
   pub at_once : EndsAtOnce (opening plan.counts) history
-  pub sound : AtEachMoment IsSound plan.counts history
-  pub answers : Headline history
   pub none_odd : AllByRecursion IsNotOdd (plan_report plan history)
-  pub short : (op : OpId) (c : Command) → command_of history op ≡ Some c → IsShort history op c
   pub alone : IsToldByTree plan history
   pub fixed : IsOnlyRun plan history
 

@@ -1,5 +1,6 @@
 ghost use Rattle.std.specs.Prelude.{◌≡◌, ℕ, ◌≤◌, List, [], ◌∷◌, length, IfOk, OnOk, IsSome};
 ghost use Rattle.world_runs.specs.Moments.{IsWorldRun};
+ghost use Rattle.noted_runs.specs.Limits.{KeepsLimits};
 ghost use Rattle.world_runs.specs.Report.{answer_line as line_of};
 ghost use Rattle.tect_world.specs.Life.{present, last_op};
 ghost use Rattle.tect_replay.specs.Plays.{AllShallow, CanDo, StepsUpTo, PlaysAct, shown_lines};
@@ -79,9 +80,11 @@ fn begin_command(
 fn steps(world: &mut World, actor: u32, count: u32) -> Result<Option<Answer>, NoMemory>
     requires actor { (1 ≤ actor) × (actor ≤ 64) }
     requires run { IsWorldRun world.old.counts world.old.history }
+    requires limits { KeepsLimits world.old.counts world.old.history }
     requires running { IsSome ((present world.old).actors actor).running }
     ensures steps { IfOk result (StepsUpTo count world.old world.new (last_op (present world.old) actor)) }
     ensures run { IsWorldRun world.new.counts world.new.history }
+    ensures limits { KeepsLimits world.new.counts world.new.history }
 {
     'steps: for _step in 0..count {
         match world.step(actor)? {

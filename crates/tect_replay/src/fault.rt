@@ -1,6 +1,6 @@
 use tect_ids::NoMemory;
 
-/// Why a script was not replayed to its end.
+/// Why a script was not replayed, or a report not written, to its end.
 #[derive(Clone, Copy, Debug, PartialEq, Eq)]
 pub enum ReplayFault {
     NoMemory,

@@ -1,17 +1,13 @@
 -- what the events of a step make of a moment
-use Rattle.std.proofs.Common.{◌≡◌, ◌≢◌, ℕ, Bool, true, false, eqb, if◌then◌else◌, Option, Some, None, List, [], ◌∷◌, ◌++◌, refl, ap, ◌∙◌, arith}
+use Rattle.std.proofs.Common.{◌≡◌, ℕ, Bool, true, false, eqb, if◌then◌else◌, Option, Some, None, List, [], ◌∷◌, ◌++◌, refl, ap, ◌∙◌, arith}
 use Rattle.tect_ids.specs.declared.ids.OpId.{OpId}
 use Rattle.tect_ids.specs.declared.answer.Answer.{Answer}
-use Rattle.tect_ids.specs.Keys.{op_eq}
-use Rattle.tect_ids.proofs.KeyTests.{num_eq_cases, op_eq_cases}
+use Rattle.tect_ids.proofs.KeyTests.{num_eq_cases}
 use Rattle.store_rules.specs.declared.any.AnyReq.{AnyReq}
-use Rattle.store_rules.specs.Store.{store_reply}
 use Rattle.world_runs.specs.declared.event.Event.{Event}
 use Rattle.world_runs.specs.declared.event.Event.TheVariants.{Began, Refused, Acted, Ended, Stopped, Failed, Dumped}
-use Rattle.world_runs.specs.Moments.{Actor, Moment, after, after_all, RunFrom, answered, program_of, program_answer}
-use Rattle.world_runs.specs.Report.{transactions}
+use Rattle.world_runs.specs.Moments.{Actor, Moment, after, after_all}
 use Rattle.tect_world.specs.Life.{transaction, acted_actor, acted_store, ending, ended_actor, actor_asks, actor_answer, step_events, stepped_actor, stepped_store}
-use Rattle.tect_world.specs.Steps.{act_count}
 
 same : (a : ℕ) → eqb a a ≡ true
 same a = grind (arith, num_eq_cases a a)
@@ -35,47 +31,6 @@ step_store m op = store_of m op (actor_asks (m.actors op.actor) op) (actor_answe
 
 pub step_actors : (m : Moment) (op : OpId) (b : ℕ) → (after_all m (step_events m op)).actors b ≡ (if eqb b op.actor then stepped_actor m.counts m.store (m.actors op.actor) op else m.actors b)
 step_actors m op b = actors_of m op (actor_asks (m.actors op.actor) op) (actor_answer m.counts m.store (m.actors op.actor) op) b
-
-ends_then : (m : Moment) (op : OpId) (q : AnyReq) (a : Answer) → program_answer (program_of (acted_actor m.counts m.store (m.actors op.actor) (Some q)).running op) ≡ Some a
-    → answered (after m (Acted op q (store_reply m.store q))) op ≡ Some a
-ends_then m op q a is =
-    ap (λ (b : Bool). program_answer (program_of (if b then acted_actor m.counts m.store (m.actors op.actor) (Some q) else m.actors op.actor).running op)) (same op.actor) ∙ is
-
-runs_by : (m : Moment) (op : OpId) (o : Option AnyReq) (x : Option Answer) → actor_asks (m.actors op.actor) op ≡ o
-    → program_answer (program_of (acted_actor m.counts m.store (m.actors op.actor) o).running op) ≡ x → RunFrom m (transaction m.store op o ++ ending op x)
-runs_by m op None None asks is = tt
-runs_by m op None (Some a) asks is = (is, tt)
-runs_by m op (Some q) None asks is = ((asks, refl), tt)
-runs_by m op (Some q) (Some a) asks is = ((asks, refl), (ends_then m op q a is, tt))
-
--- a step is a run
-pub step_runs : (m : Moment) (op : OpId) → RunFrom m (step_events m op)
-step_runs m op = runs_by m op (actor_asks (m.actors op.actor) op) (actor_answer m.counts m.store (m.actors op.actor) op) refl refl
-
-same_op : (op : OpId) → op_eq op op ≡ true
-same_op op = grind (arith, op_eq_cases op op)
-
-other_op : (op other : OpId) → other.actor ≢ op.actor → op_eq op other ≡ false
-other_op op other differs = grind (arith, op_eq_cases op other)
-
--- how many transactions of an op a step has
-own_count : (m : Moment) (op : OpId) (o : Option AnyReq) (x : Option Answer) → transactions (transaction m.store op o ++ ending op x) op ≡ act_count o
-own_count m op None None = refl
-own_count m op None (Some a) = refl
-own_count m op (Some q) None = grind (arith, same_op op)
-own_count m op (Some q) (Some a) = grind (arith, same_op op)
-
-other_count : (m : Moment) (op other : OpId) (o : Option AnyReq) (x : Option Answer) → other.actor ≢ op.actor → transactions (transaction m.store op o ++ ending op x) other ≡ 0
-other_count m op other None None differs = refl
-other_count m op other None (Some a) differs = refl
-other_count m op other (Some q) None differs = grind (arith, other_op op other differs)
-other_count m op other (Some q) (Some a) differs = grind (arith, other_op op other differs)
-
-pub step_count : (m : Moment) (op : OpId) → transactions (step_events m op) op ≡ act_count (actor_asks (m.actors op.actor) op)
-step_count m op = own_count m op (actor_asks (m.actors op.actor) op) (actor_answer m.counts m.store (m.actors op.actor) op)
-
-pub step_count_other : (m : Moment) (op other : OpId) → other.actor ≢ op.actor → transactions (step_events m op) other ≡ 0
-step_count_other m op other differs = other_count m op other (actor_asks (m.actors op.actor) op) (actor_answer m.counts m.store (m.actors op.actor) op) differs
 
 -- a step begins no command
 number_kept : (m : Moment) (st : Actor) (o : Option AnyReq) (x : Option Answer) → (ended_actor (acted_actor m.counts m.store st o) x).number ≡ st.number

@@ -1,6 +1,11 @@
+pub mod Orders
+pub mod Owning
 pub mod Events
 pub mod Lives
 pub mod Ranks
 pub mod Running
-pub mod Stepping
-pub mod Stepped
+pub mod Idle
+pub mod Marking
+pub mod OneStep
+pub mod Outcomes
+pub mod Worlds

@@ -1,19 +1,31 @@
--- the fields of the world stay the moment after its history
-use Rattle.std.proofs.Common.{◌≡◌, ◌≢◌, ℕ, ◌+◌, ◌-◌, ◌≤◌, List, [], ◌∷◌, ◌++◌, length, set, sym, ap, ◌∙◌, subst, inl, inr, ◌⊎◌, arith}
-use Rattle.std.proofs.lemmas.List.{get_or-set_same, get_or-set_other, length-set}
-use Rattle.tect_ids.specs.declared.ids.OpId.{OpId}
+-- the fields of the world tell a run of it, and stay so with more events of one actor
+use Rattle.std.proofs.Common.{zero, suc, ◌≡◌, ◌≢◌, ℕ, ◌+◌, ◌-◌, ◌<◌, ◌≤◌, ◌^◌, Bool, true, false, eqb, if◌then◌else◌, List, [], ◌∷◌, ◌++◌, length, get_or, set, replicate, refl, sym, ap, subst, ◌∙◌, inl, inr, ◌⊎◌, arith, length-append}
+use Rattle.std.proofs.lemmas.List.{get_or-set_same, get_or-set_other, get_or-replicate, length-replicate, get_or_past, length-set, append-nil}
+use Rattle.std.proofs.lemmas.Bool.{cases_lt}
+use Rattle.tect_ids.specs.declared.ids.Counts.{Counts}
 use Rattle.tect_ids.proofs.KeyTests.{num_eq_cases}
+use Rattle.store_rules.specs.Store.{Store, opening_store}
 use Rattle.world_runs.specs.declared.event.Event.{Event}
 use Rattle.world_runs.specs.declared.event.Event.TheVariants.{Dumped}
-use Rattle.world_runs.specs.Moments.{Actor, Moment, moment, opening, after, after_all, RunFrom, May, with_actor}
-use Rattle.world_runs.specs.Report.{transactions}
-use Rattle.tree_runs.proofs.Histories.{after_all-append, run-append, transactions-append}
-use Rattle.all_shards.specs.Whole.{WholeStore}
-use Rattle.tect_world.specs.declared.counted.Client.{Client}
+use Rattle.world_runs.specs.Moments.{Actor, Moment, idle_actor, opening, after_all, moment, IsWorldRun}
+use Rattle.place_kit.specs.declared.entry.Entry.{Entry}
+use Rattle.noted_runs.specs.Events.{own}
+use Rattle.noted_runs.specs.OwnRuns.{OwnRun, own_state, RepliesAre, stored_after}
+use Rattle.noted_runs.specs.Limits.{KeepsLimits, OwnLimits}
+use Rattle.noted_runs.proofs.Actors.{own-append, replies-append, stored_after-append, after_all-append}
+use Rattle.noted_runs.proofs.Owns.{own_runs_make_run, states_are_their_own}
+use Rattle.noted_runs.proofs.Limits.{own_limits_make_limits}
+use Rattle.clients.specs.Lives.{ClientLife, IsLife, events_in, state_in, idle_life}
+use Rattle.kept_shards.specs.KeptStore.{KeptStore, clock_at, clock_after}
+use Rattle.tect_world.specs.declared.marks.Mark.{Mark}
+use Rattle.tect_world.specs.declared.marks.Mark.TheVariants as marks
 use Rattle.tect_world.specs.declared.world.World.TheInside.{Inside}
-use Rattle.tect_world.specs.Clients.{idle_client, client_at, AreIdle}
-use Rattle.tect_world.specs.Life.{Life, present, grown, last_op}
+use Rattle.tect_world.specs.Clients.{client_at, events_by, IsClientOf, AreIdle}
+use Rattle.tect_world.specs.Life.{Life, present, grown}
+use Rattle.tect_world.specs.Order.{in_order, marks_of}
 use Rattle.tect_world.specs.Inside.{life_of, IsWorld}
+use Rattle.tect_world.proofs.Orders.{AreMarked, marks-append, in_order-grow}
+use Rattle.tect_world.proofs.Owning.{own_behind, own_none}
 
 pub same_or_not : (a b : ℕ) → (b ≡ a) ⊎ (b ≢ a)
 same_or_not a b = grind (arith, num_eq_cases b a)
@@ -22,155 +34,282 @@ same_or_not a b = grind (arith, num_eq_cases b a)
 pub present-grown : (w : Life) (es : List Event) → present (grown w es) ≡ after_all (present w) es
 present-grown w es = after_all-append (opening w.counts) w.history es
 
+up_to : (a : ℕ) → (a ≤ 65) ⊎ (65 < a)
+up_to a = elim (cases_lt 65 a) [ inl h ↦ inr h | inr h ↦ inl h ]
+
+-- ---- what the world tells
+
+module _ (w : Inside) (is : IsWorld w) where
+  abbrev history : List Event
+  history = (life_of w).history
+
+  -- what is so of no event, and of each client's, is so of each actor's own
+  own_all : (P : List Event → Type 0) → P [] → ((a : ℕ) → 1 ≤ a → a ≤ 65 → P (events_in (client_at w.shards.counts w.clients.items a))) → (a : ℕ) → P (own a history)
+  own_all P none each a = subst P (sym (is.owns a)) (by_number a)
+    where
+      beyond : (a : ℕ) → 65 < a → P (events_in (client_at w.shards.counts w.clients.items a))
+      beyond a far =
+          let past : client_at w.shards.counts w.clients.items a ≡ idle_life 0 w.shards.counts = get_or_past w.clients.items (a - 1) (idle_life 0 w.shards.counts) (omega (arith, far, is.number)) in
+          subst (λ (l : ClientLife). P (events_in l)) (sym past) none
+
+      in_range : (a : ℕ) → (a ≤ 65) ⊎ (65 < a) → 1 ≤ a → P (events_in (client_at w.shards.counts w.clients.items a))
+      in_range a (inl le) low = each a low le
+      in_range a (inr lt) low = beyond a lt
+
+      by_number : (a : ℕ) → P (events_by w.shards.counts w.clients.items a)
+      by_number a = elim (eqb a 0) as (λ t. eqb a 0 ≡ t → P (if t then [] else events_in (client_at w.shards.counts w.clients.items a))) [
+        | true ↦ λ e. none
+        | false ↦ λ e. in_range a (up_to a) (let some : a ≢ 0 = λ z. grind (arith, num_eq_cases a 0, z, e) in omega (arith, some))
+      ] refl
+
+  pub world_run : IsWorldRun w.shards.counts history
+  world_run = own_runs_make_run w.shards.counts history
+      (own_all (OwnRun w.shards.counts idle_actor) tt (λ a low high.
+      let own = is.each a low high in
+      subst (λ (c : Counts). OwnRun c idle_actor (events_in (client_at w.shards.counts w.clients.items a))) own.counts own.life.run))
+      is.replies
+
+  pub world_limits : KeepsLimits w.shards.counts history
+  world_limits = own_limits_make_limits w.shards.counts history
+      (own_all (OwnLimits w.shards.counts [] idle_actor) tt (λ a low high.
+      let own = is.each a low high in
+      subst (λ (c : Counts). OwnLimits c [] idle_actor (events_in (client_at w.shards.counts w.clients.items a))) own.counts
+      (own.life.limits (omega (arith, own.early, is.early, is.few)))))
+
+  pub world_store : w.shards.store ≡ (present (life_of w)).store
+  world_store = is.store ∙ sym ((states_are_their_own w.shards.counts history).1)
+
+  module _ (a : ℕ) (low : 1 ≤ a) (high : a ≤ 65) where
+    abbrev client : ClientLife
+    client = client_at w.shards.counts w.clients.items a
+
+    own_events : events_by w.shards.counts w.clients.items a ≡ events_in client
+    own_events =
+        let some : eqb a 0 ≡ false = grind (arith, num_eq_cases a 0, low) in
+        ap (λ (t : Bool). if t then [] else events_in client) some
+
+    pub world_owns : own a history ≡ events_in client
+    world_owns = is.owns a ∙ own_events
+
+    pub world_state : (present (life_of w)).actors a ≡ state_in client
+    world_state =
+        (states_are_their_own w.shards.counts history).0 a ∙ ap (own_state w.shards.counts idle_actor) world_owns
+        ∙ ap (λ (c : Counts). own_state c idle_actor (events_in client)) (sym (is.each a low high).counts)
+
 -- ---- events of one actor
 
-module _ (old new : Inside) (a : ℕ) (s : Client) (es : List Event) (is : IsWorld old) (low : 1 ≤ a) (high : a ≤ 65) where
-  abbrev m : Moment
-  m = present (life_of old)
+-- these events of one actor, and none of the others
+abbrev pub of_one : ℕ → List Event → ℕ → List Event
+of_one a es b = if eqb b a then es else []
 
-  abbrev later : Moment
-  later = after_all m es
+pub record Grows (old new : Inside) (a : ℕ) (s : ClientLife) (es : List Event) (ms : List Mark) : Type 0 where
+  pub items : new.clients.items ≡ set old.clients.items (a - 1) s
+  pub counts : new.shards.counts ≡ old.shards.counts
+  pub events : events_in s ≡ events_in (client_at old.shards.counts old.clients.items a) ++ es
+  pub order : new.order.items ≡ old.order.items ++ ms
+  pub told : in_order ms (of_one a es) ≡ es
+  pub marked : AreMarked ms (of_one a es)
+  pub mine : IsClientOf old.shards.counts new.clock a s
+  pub later : old.clock ≤ new.clock
+  pub places : (p : ℕ) → clock_at new.shards p ≤ new.clock
+  pub early : new.clock ≤ length new.order.items
+  pub few : length new.order.items < 2 ^ 62
+  pub replies : RepliesAre old.shards.store es
+  pub store : new.shards.store ≡ stored_after old.shards.store es
 
-  module _ (counts : new.shards.counts ≡ old.shards.counts) (store : new.shards.store ≡ later.store) (items : new.clients.items ≡ set old.clients.items (a - 1) s)
-      (told : new.history.items ≡ old.history.items ++ es) (runs : RunFrom m es) (own : s.actor.actor ≡ a) (state : s.actor.state ≡ later.actors a)
-      (others : (b : ℕ) → b ≢ a → later.actors b ≡ m.actors b) (counted : s.transactions ≡ transactions (old.history.items ++ es) (last_op later a))
-      (quiet : (b : ℕ) → b ≢ a → transactions es (last_op m b) ≡ 0) where
-    pub grows : life_of new ≡ grown (life_of old) es
-    grows i = record { counts = counts i; history = told i }
+module _ (old new : Inside) (a : ℕ) (s : ClientLife) (es : List Event) (ms : List Mark) (is : IsWorld old) (low : 1 ≤ a) (high : a ≤ 65) (g : Grows old new a s es ms) where
+  abbrev c : Counts
+  c = old.shards.counts
 
-    now_is : present (life_of new) ≡ later
-    now_is = ap present grows ∙ present-grown (life_of old) es
+  at_own : client_at c new.clients.items a ≡ s
+  at_own = ap (λ (cs : List ClientLife). client_at c cs a) g.items ∙ get_or-set_same old.clients.items (a - 1) s (idle_life 0 c) (omega (arith, low, high, is.number))
 
-    at_own : client_at new.clients.items a ≡ s
-    at_own = ap (λ (cs : List Client). client_at cs a) items ∙ get_or-set_same old.clients.items (a - 1) s (idle_client 0) (omega (arith, low, high, is.actors.number))
+  at_other : (b : ℕ) → 1 ≤ b → b ≢ a → client_at c new.clients.items b ≡ client_at c old.clients.items b
+  at_other b low' differs =
+      ap (λ (cs : List ClientLife). client_at c cs b) g.items
+      ∙ get_or-set_other old.clients.items (a - 1) (b - 1) s (idle_life 0 c) (λ e. differs (omega (arith, low, low', e)))
 
-    at_other : (b : ℕ) → 1 ≤ b → b ≢ a → client_at new.clients.items b ≡ client_at old.clients.items b
-    at_other b low' differs =
-        ap (λ (cs : List Client). client_at cs b) items
-        ∙ get_or-set_other old.clients.items (a - 1) (b - 1) s (idle_client 0) (λ e. differs (omega (arith, low, low', e)))
+  -- by whether it is the actor, and whether there is one with that number
+  events_more : (b : ℕ) → events_by c new.clients.items b ≡ events_by c old.clients.items b ++ of_one a es b
+  events_more b = elim (same_or_not a b) [
+    | inl e ↦
+        let some : eqb b 0 ≡ false = grind (arith, num_eq_cases b 0, low, e) in
+        let here : eqb b a ≡ true = grind (arith, num_eq_cases b a, e) in
+        ap (λ (t : Bool). if t then [] else events_in (client_at c new.clients.items b)) some
+        ∙ ap (λ (x : ℕ). events_in (client_at c new.clients.items x)) e ∙ ap events_in at_own ∙ g.events
+        ∙ ap (λ (x : ℕ). events_in (client_at c old.clients.items x) ++ es) (sym e)
+        ∙ ap (λ (t : Bool). (if t then [] else events_in (client_at c old.clients.items b)) ++ es) (sym some)
+        ∙ ap (λ (t : Bool). events_by c old.clients.items b ++ (if t then es else [])) (sym here)
+    | inr d ↦
+        let there : eqb b a ≡ false = grind (arith, num_eq_cases b a, d) in
+        by_zero b d ∙ sym (append-nil (events_by c old.clients.items b)) ∙ ap (λ (t : Bool). events_by c old.clients.items b ++ (if t then es else [])) (sym there)
+  ]
+    where
+      by_zero : (b : ℕ) → b ≢ a → events_by c new.clients.items b ≡ events_by c old.clients.items b
+      by_zero b d = elim (eqb b 0) as (λ t. eqb b 0 ≡ t → (if t then [] else events_in (client_at c new.clients.items b)) ≡ (if t then [] else events_in (client_at c old.clients.items b))) [
+        | true ↦ λ e. refl
+        | false ↦ λ e. ap events_in (at_other b (let some : b ≢ 0 = λ z. grind (arith, num_eq_cases b 0, z, e) in omega (arith, some)) d)
+      ] refl
 
-    each_own : (b : ℕ) → 1 ≤ b → b ≤ 65 → (client_at new.clients.items b).actor.actor ≡ b
-    each_own b low' high' = elim (same_or_not a b) [
-      | inl e ↦ subst (λ (x : ℕ). (client_at new.clients.items x).actor.actor ≡ x) (sym e) (ap (λ (x : Client). x.actor.actor) at_own ∙ own)
-      | inr d ↦ ap (λ (x : Client). x.actor.actor) (at_other b low' d) ∙ is.actors.own b low' high'
-    ]
+  history_more : (life_of new).history ≡ (life_of old).history ++ es
+  history_more =
+      ap (λ (k : Counts). in_order new.order.items (events_by k new.clients.items)) g.counts
+      ∙ ap (λ (o : List Mark). in_order o (events_by c new.clients.items)) g.order
+      ∙ ap (in_order (old.order.items ++ ms)) (λ i b. events_more b i)
+      ∙ in_order-grow old.order.items ms (events_by c old.clients.items) (of_one a es) is.marked
+      ∙ ap (λ (x : List Event). (life_of old).history ++ x) g.told
 
-    each_state : (b : ℕ) → 1 ≤ b → b ≤ 65 → (client_at new.clients.items b).actor.state ≡ (present (life_of new)).actors b
-    each_state b low' high' = elim (same_or_not a b) [
-      | inl e ↦ subst (λ (x : ℕ). (client_at new.clients.items x).actor.state ≡ (present (life_of new)).actors x) (sym e)
-          (ap (λ (x : Client). x.actor.state) at_own ∙ state ∙ ap (λ (x : Moment). x.actors a) (sym now_is))
-      | inr d ↦ ap (λ (x : Client). x.actor.state) (at_other b low' d) ∙ is.actors.each b low' high' ∙ sym (others b d) ∙ ap (λ (x : Moment). x.actors b) (sym now_is)
-    ]
+  pub grows : life_of new ≡ grown (life_of old) es
+  grows i = record { counts = g.counts i; history = history_more i }
 
-    no_more : (b : ℕ) → b ≢ a → transactions old.history.items (last_op m b) ≡ transactions (old.history.items ++ es) (last_op later b)
-    no_more b d =
-        let same : last_op later b ≡ last_op m b = λ i. record { actor = b; number = ap (λ (x : Actor). x.number) (others b d) i } in
-        let none : transactions es (last_op m b) ≡ 0 = quiet b d in
-        let both : transactions (old.history.items ++ es) (last_op m b) ≡ transactions old.history.items (last_op m b) + transactions es (last_op m b) = transactions-append old.history.items es (last_op m b) in
-        let alike : transactions old.history.items (last_op m b) ≡ transactions (old.history.items ++ es) (last_op m b) = omega (arith, none, both) in
-        alike ∙ ap (transactions (old.history.items ++ es)) (sym same)
+  mine_own : own a es ≡ es
+  mine_own =
+      let before : own a (events_in (client_at c old.clients.items a)) ≡ events_in (client_at c old.clients.items a) =
+      subst (λ (x : ℕ). own x (events_in (client_at c old.clients.items a)) ≡ events_in (client_at c old.clients.items a)) (is.each a low high).actor (is.each a low high).life.own in
+      let after : own a (events_in s) ≡ events_in s = subst (λ (x : ℕ). own x (events_in s) ≡ events_in s) g.mine.actor g.mine.life.own in
+      own_behind a (events_in (client_at c old.clients.items a)) es before (rw g.events at after)
 
-    each_count : (b : ℕ) → 1 ≤ b → b ≤ 65 → (client_at new.clients.items b).transactions ≡ transactions new.history.items (last_op (present (life_of new)) b)
-    each_count b low' high' = elim (same_or_not a b) [
-      | inl e ↦ subst (λ (x : ℕ). (client_at new.clients.items x).transactions ≡ transactions new.history.items (last_op (present (life_of new)) x)) (sym e)
-          (ap (λ (x : Client). x.transactions) at_own ∙ counted ∙ ap (λ (h : List Event). transactions h (last_op later a)) (sym told)
-          ∙ ap (λ (x : Moment). transactions new.history.items (last_op x a)) (sym now_is))
-      | inr d ↦ ap (λ (x : Client). x.transactions) (at_other b low' d) ∙ is.actors.counted b low' high' ∙ no_more b d ∙ ap (λ (h : List Event). transactions h (last_op later b)) (sym told)
-          ∙ ap (λ (x : Moment). transactions new.history.items (last_op x b)) (sym now_is)
-    ]
+  own_more : (b : ℕ) → own b es ≡ of_one a es b
+  own_more b = elim (same_or_not a b) [
+    | inl e ↦
+        let here : eqb b a ≡ true = grind (arith, num_eq_cases b a, e) in
+        ap (λ (x : ℕ). own x es) e ∙ mine_own ∙ ap (λ (t : Bool). if t then es else []) (sym here)
+    | inr d ↦
+        let there : eqb b a ≡ false = grind (arith, num_eq_cases b a, d) in
+        own_none a b es (λ e. d (sym e)) mine_own ∙ ap (λ (t : Bool). if t then es else []) (sym there)
+  ]
 
-    pub stays : IsWorld new
-    stays = record {
-      store = store ∙ ap (λ (x : Moment). x.store) (sym now_is);
-      actors = record { number = ap length items ∙ length-set old.clients.items (a - 1) s ∙ is.actors.number; own = each_own; each = each_state; counted = each_count };
-      run = rw (counts, told) (run-append (opening old.shards.counts) old.history.items es is.run runs);
-    }
+  each_client : (b : ℕ) → 1 ≤ b → b ≤ 65 → IsClientOf c new.clock b (client_at c new.clients.items b)
+  each_client b low' high' = elim (same_or_not a b) [
+    | inl e ↦ subst (λ (x : ℕ). IsClientOf c new.clock x (client_at c new.clients.items x)) (sym e) (subst (IsClientOf c new.clock a) (sym at_own) g.mine)
+    | inr d ↦
+        let own = is.each b low' high' in
+        subst (IsClientOf c new.clock b) (sym (at_other b low' d)) (record { actor = own.actor; counts = own.counts; life = own.life; early = omega (arith, own.early, g.later) })
+  ]
 
--- ---- one event that leaves the store and sets one actor
+  now_owns : (b : ℕ) → own b (life_of new).history ≡ events_by c new.clients.items b
+  now_owns b = ap (own b) history_more ∙ own-append b (life_of old).history es ∙ ap (λ (x : List Event). x ++ own b es) (is.owns b)
+      ∙ ap (λ (x : List Event). events_by c old.clients.items b ++ x) (own_more b) ∙ sym (events_more b)
 
-module _ (old new : Inside) (a : ℕ) (s : Client) (e : Event) (st : Actor) (is : IsWorld old) (low : 1 ≤ a) (high : a ≤ 65) where
-  abbrev now : Moment
-  now = present (life_of old)
+  now_marked : (b : ℕ) → marks_of b new.order.items ≡ length (events_by c new.clients.items b)
+  now_marked b =
+      let both = marks-append b old.order.items ms in
+      let sum : marks_of b (old.order.items ++ ms) ≡ length (events_by c old.clients.items b ++ of_one a es b) =
+      omega (arith, both, is.marked b, g.marked b, length-append (events_by c old.clients.items b) (of_one a es b)) in
+      ap (marks_of b) g.order ∙ sum ∙ ap length (sym (events_more b))
 
-  module _ (sets : after now e ≡ with_actor now a st) (no_act : (op : OpId) → transactions (e ∷ []) op ≡ 0)
-      (shards : new.shards ≡ old.shards) (items : new.clients.items ≡ set old.clients.items (a - 1) s)
-      (told : new.history.items ≡ old.history.items ++ e ∷ []) (may : May now e) (own : s.actor.actor ≡ a) (state : s.actor.state ≡ st)
-      (counted : s.transactions ≡ transactions old.history.items (record { actor = a; number = st.number })) where
-    counts_same : new.shards.counts ≡ old.shards.counts
-    counts_same = ap (λ (x : WholeStore). x.counts) shards
-
-    store_after : new.shards.store ≡ (after now e).store
-    store_after = ap (λ (x : WholeStore). x.store) shards ∙ is.store ∙ ap (λ (x : Moment). x.store) (sym sets)
-
-    set_own : (after now e).actors a ≡ st
-    set_own = ap (λ (x : Moment). x.actors a) sets ∙ grind (arith, num_eq_cases a a)
-
-    set_others : (b : ℕ) → b ≢ a → (after now e).actors b ≡ now.actors b
-    set_others b d = ap (λ (x : Moment). x.actors b) sets ∙ grind (arith, num_eq_cases b a, d)
-
-    set_count : s.transactions ≡ transactions (old.history.items ++ e ∷ []) (last_op (after now e) a)
-    set_count =
-        let last : last_op (after now e) a ≡ record { actor = a; number = st.number } = λ i. record { actor = a; number = ap (λ (x : Actor). x.number) set_own i } in
-        let none : transactions (e ∷ []) (record { actor = a; number = st.number }) ≡ 0 = no_act _ in
-        let both : transactions (old.history.items ++ e ∷ []) (record { actor = a; number = st.number }) ≡ transactions old.history.items (record { actor = a; number = st.number }) + transactions (e ∷ []) (record { actor = a; number = st.number }) =
-        transactions-append old.history.items (e ∷ []) (record { actor = a; number = st.number }) in
-        let alike : transactions old.history.items (record { actor = a; number = st.number }) ≡ transactions (old.history.items ++ e ∷ []) (record { actor = a; number = st.number }) = omega (arith, none, both) in
-        counted ∙ alike ∙ ap (transactions (old.history.items ++ e ∷ [])) (sym last)
-
-    pub one_grows : life_of new ≡ grown (life_of old) (e ∷ [])
-    one_grows = grows old new a s (e ∷ []) is low high counts_same store_after items told (may, tt) own (state ∙ sym set_own) set_others set_count (λ b d. no_act (last_op now b))
-
-    pub one_stays : IsWorld new
-    one_stays = stays old new a s (e ∷ []) is low high counts_same store_after items told (may, tt) own (state ∙ sym set_own) set_others set_count (λ b d. no_act (last_op now b))
+  pub stays : IsWorld new
+  stays = record {
+    number = ap length g.items ∙ length-set old.clients.items (a - 1) s ∙ is.number;
+    each = subst (λ (k : Counts). (b : ℕ) → 1 ≤ b → b ≤ 65 → IsClientOf k new.clock b (client_at k new.clients.items b)) (sym g.counts) each_client;
+    places = g.places;
+    early = g.early;
+    few = g.few;
+    marked = subst (λ (k : Counts). (b : ℕ) → marks_of b new.order.items ≡ length (events_by k new.clients.items b)) (sym g.counts) now_marked;
+    owns = subst (λ (k : Counts). (b : ℕ) → own b (life_of new).history ≡ events_by k new.clients.items b) (sym g.counts) now_owns;
+    replies = subst (RepliesAre opening_store) (sym history_more)
+        (replies-append opening_store (life_of old).history es is.replies (subst (λ (x : Store). RepliesAre x es) is.store g.replies));
+    store = g.store ∙ ap (λ (x : Store). stored_after x es) is.store ∙ sym (stored_after-append opening_store (life_of old).history es) ∙ ap (stored_after opening_store) (sym history_more);
+  }
 
 -- ---- a dump
 
-module _ (old new : Inside) (is : IsWorld old) (shards : new.shards ≡ old.shards) (clients : new.clients.items ≡ old.clients.items) (told : new.history.items ≡ old.history.items ++ Dumped ∷ []) where
-  pub dump_grows : life_of new ≡ grown (life_of old) (Dumped ∷ [])
-  dump_grows i = record { counts = ap (λ (x : WholeStore). x.counts) shards i; history = told i }
+pub few_more : (os ps ns : List Mark) (m : Mark) → length ps < 2 ^ 61 → ns ≡ ps ++ m ∷ [] → length ns < 2 ^ 62
+few_more os ps ns m few is = omega (arith, few, ap length is, length-append ps (m ∷ []))
 
-  same_moment : present (life_of new) ≡ present (life_of old)
-  same_moment = ap present dump_grows ∙ present-grown (life_of old) (Dumped ∷ [])
+module _ (old new : Inside) (is : IsWorld old) (order : new.order.items ≡ old.order.items ++ marks.Dump ∷ []) (few : length new.order.items < 2 ^ 62) where
+  abbrev dumped : Inside
+  dumped = record old { order = new.order }
 
-  same_count : (a : ℕ) → transactions old.history.items (last_op (present (life_of old)) a) ≡ transactions (old.history.items ++ Dumped ∷ []) (last_op (present (life_of old)) a)
-  same_count a =
-      let op : OpId = last_op (present (life_of old)) a in
-      let both : transactions (old.history.items ++ Dumped ∷ []) op ≡ transactions old.history.items op + 0 = transactions-append old.history.items (Dumped ∷ []) op in
-      omega (arith, both)
+  abbrev by_old : ℕ → List Event
+  by_old = events_by old.shards.counts old.clients.items
 
-  pub dump_stays : IsWorld new
+  dumped_history : (life_of dumped).history ≡ (life_of old).history ++ Dumped ∷ []
+  dumped_history =
+      ap (λ (o : List Mark). in_order o by_old) order ∙ ap (in_order (old.order.items ++ marks.Dump ∷ [])) (λ i b. sym (append-nil (by_old b)) i)
+      ∙ in_order-grow old.order.items (marks.Dump ∷ []) by_old (λ b. []) is.marked
+
+  pub dump_grows : life_of dumped ≡ grown (life_of old) (Dumped ∷ [])
+  dump_grows i = record { counts = old.shards.counts; history = dumped_history i }
+
+  still_marked : (b : ℕ) → marks_of b new.order.items ≡ length (by_old b)
+  still_marked b =
+      let both = marks-append b old.order.items (marks.Dump ∷ []) in
+      let same : marks_of b (old.order.items ++ marks.Dump ∷ []) ≡ length (by_old b) = omega (arith, both, is.marked b) in
+      ap (marks_of b) order ∙ same
+
+  pub dump_stays : IsWorld dumped
   dump_stays = record {
-    store = ap (λ (x : WholeStore). x.store) shards ∙ is.store ∙ ap (λ (x : Moment). x.store) (sym same_moment);
-    actors = record {
-      number = ap length clients ∙ is.actors.number;
-      own = λ a low high. ap (λ (cs : List Client). (client_at cs a).actor.actor) clients ∙ is.actors.own a low high;
-      each = λ a low high. ap (λ (cs : List Client). (client_at cs a).actor.state) clients ∙ is.actors.each a low high ∙ ap (λ (x : Moment). x.actors a) (sym same_moment);
-      counted = λ a low high.
-          ap (λ (cs : List Client). (client_at cs a).transactions) clients ∙ is.actors.counted a low high ∙ same_count a
-          ∙ ap (λ (h : List Event). transactions h (last_op (present (life_of old)) a)) (sym told) ∙ ap (λ (x : Moment). transactions new.history.items (last_op x a)) (sym same_moment);
-    };
-    run = rw (ap (λ (x : WholeStore). x.counts) shards, told) (run-append (opening old.shards.counts) old.history.items (Dumped ∷ []) is.run (tt, tt));
+    number = is.number;
+    each = is.each;
+    places = is.places;
+    early = omega (arith, is.early, ap length order, length-append old.order.items (marks.Dump ∷ []));
+    few = few;
+    marked = still_marked;
+    owns = λ b. ap (own b) dumped_history ∙ own-append b (life_of old).history (Dumped ∷ []) ∙ append-nil (own b (life_of old).history) ∙ is.owns b;
+    replies = subst (RepliesAre opening_store) (sym dumped_history) (replies-append opening_store (life_of old).history (Dumped ∷ []) is.replies tt);
+    store = is.store ∙ sym (stored_after-append opening_store (life_of old).history (Dumped ∷ [])) ∙ ap (stored_after opening_store) (sym dumped_history);
   }
 
 -- ---- the world before anything was done
 
-module _ (new : Inside) (store : new.shards.store ≡ (opening new.shards.counts).store) (idle : AreIdle new.clients.items 65) (told : new.history.items ≡ []) where
-  starts : present (life_of new) ≡ opening new.shards.counts
-  starts = ap (moment new.shards.counts) told
+abbrev opening_kept : Counts → KeptStore
+opening_kept c = record { counts = c; store = opening_store; entries = replicate (c.names + c.files) [] }
 
-  first_at : (a : ℕ) → 1 ≤ a → a ≤ 65 → client_at new.clients.items a ≡ idle_client a
+module _ (new : Inside) (c : Counts) (shards : new.shards ≡ opening_kept c) (idle : AreIdle c new.clients.items 65) (clock : new.clock ≡ 0) (order : new.order.items ≡ []) where
+  first_at : (a : ℕ) → 1 ≤ a → a ≤ 65 → client_at c new.clients.items a ≡ idle_life a c
   first_at a low high =
       let number : a - 1 + 1 ≡ a = omega (arith, low) in
-      idle.each (a - 1) (omega (arith, low, high)) ∙ ap idle_client number
+      idle.each (a - 1) (omega (arith, low, high)) ∙ ap (λ (n : ℕ). idle_life n c) number
+
+  counts_are : new.shards.counts ≡ c
+  counts_are = ap (λ (w : KeptStore). w.counts) shards
+
+  none_by : (a : ℕ) → events_by c new.clients.items a ≡ []
+  none_by a = elim (eqb a 0) as (λ t. eqb a 0 ≡ t → (if t then [] else events_in (client_at c new.clients.items a)) ≡ []) [
+    | true ↦ λ e. refl
+    | false ↦ λ e. none_in a (up_to a) (let some : a ≢ 0 = λ z. grind (arith, num_eq_cases a 0, z, e) in omega (arith, some))
+  ] refl
+    where
+      none_in : (a : ℕ) → (a ≤ 65) ⊎ (65 < a) → 1 ≤ a → events_in (client_at c new.clients.items a) ≡ []
+      none_in a (inl high) low = ap events_in (first_at a low high)
+      none_in a (inr far) low = ap events_in (let past : client_at c new.clients.items a ≡ idle_life 0 c = get_or_past new.clients.items (a - 1) (idle_life 0 c) (omega (arith, far, idle.number)) in past)
+
+  no_history : (life_of new).history ≡ []
+  no_history = ap (λ (o : List Mark). in_order o (events_by new.shards.counts new.clients.items)) order
+
+  no_clock : (n p : ℕ) → clock_after 0 (get_or (replicate n []) p []) ≡ 0
+  no_clock n p = by_place n p (cases_lt p n)
+    where
+      by_place : (n p : ℕ) → (p < n) ⊎ (n ≤ p) → clock_after 0 (get_or (replicate n []) p []) ≡ 0
+      by_place n p (inl lt) = ap (clock_after 0) (get_or-replicate n p [] [] lt)
+      by_place n p (inr le) =
+          let past : length (replicate n (let none : List Entry = [] in none)) ≤ p = rw length-replicate le in
+          ap (clock_after 0) (get_or_past (replicate n []) p [] past)
+
+  first_each : (a : ℕ) → 1 ≤ a → a ≤ 65 → IsClientOf c new.clock a (client_at c new.clients.items a)
+  first_each a low high =
+      let at = first_at a low high in
+      record {
+        actor = ap (λ (l : ClientLife). l.actor) at;
+        counts = ap (λ (l : ClientLife). l.counts) at;
+        life = idle.lives (a - 1) (omega (arith, low, high));
+        early = rw (at, clock) (omega arith);
+      }
+
+  pub start_is : life_of new ≡ record { counts = c; history = [] }
+  start_is i = record { counts = counts_are i; history = no_history i }
 
   pub start_world : IsWorld new
   start_world = record {
-    store = store ∙ ap (λ (x : Moment). x.store) (sym starts);
-    actors = record {
-      number = idle.number;
-      own = λ a low high. ap (λ (x : Client). x.actor.actor) (first_at a low high);
-      each = λ a low high. ap (λ (x : Client). x.actor.state) (first_at a low high) ∙ ap (λ (x : Moment). x.actors a) (sym starts);
-      counted = λ a low high. ap (λ (x : Client). x.transactions) (first_at a low high) ∙ ap (λ (h : List Event). transactions h (last_op (present (life_of new)) a)) (sym told);
-    };
-    run = subst (λ (es : List Event). RunFrom (opening new.shards.counts) es) (sym told) tt;
+    number = idle.number;
+    each = subst (λ (k : Counts). (a : ℕ) → 1 ≤ a → a ≤ 65 → IsClientOf k new.clock a (client_at k new.clients.items a)) (sym counts_are) first_each;
+    places = λ p. rw (shards, clock) (let zero : clock_after 0 (get_or (replicate (c.names + c.files) []) p []) ≡ 0 = no_clock (c.names + c.files) p in omega (arith, zero));
+    early = omega (arith, clock);
+    few = rw order (omega arith);
+    marked = subst (λ (k : Counts). (b : ℕ) → marks_of b new.order.items ≡ length (events_by k new.clients.items b)) (sym counts_are)
+        (λ b. ap (marks_of b) order ∙ ap length (sym (none_by b)));
+    owns = subst (λ (k : Counts). (b : ℕ) → own b (life_of new).history ≡ events_by k new.clients.items b) (sym counts_are) (λ b. ap (own b) no_history ∙ sym (none_by b));
+    replies = subst (RepliesAre opening_store) (sym no_history) tt;
+    store = ap (λ (w : KeptStore). w.store) shards ∙ ap (stored_after opening_store) (sym no_history);
   }

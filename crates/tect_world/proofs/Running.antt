@@ -5,7 +5,6 @@ use Rattle.std.proofs.lemmas.List.{append-nil}
 use Rattle.tect_ids.specs.declared.ids.Counts.{Counts}
 use Rattle.tect_ids.specs.declared.ids.OpId.{OpId}
 use Rattle.tect_ids.specs.declared.answer.Answer.{Answer}
-use Rattle.tect_ids.specs.declared.answer.Answer.TheVariants as answers
 use Rattle.tect_ids.proofs.KeyTests.{num_eq_cases, op_eq_cases}
 use Rattle.store_rules.specs.declared.any.AnyReq.{AnyReq}
 use Rattle.store_rules.specs.declared.any.AnyReply.{AnyReply}
@@ -21,7 +20,7 @@ use Rattle.sound_runs.proofs.RunsKeep.{running_goes_on, running_is_last_begun}
 use Rattle.tect_world.specs.Life.{Life, present, grown, last_op, actor_asks, acted_actor, ended_actor, stepped_actor, transaction, ending, step_answer, step_events}
 use Rattle.actors.specs.declared.turned.Turned.TheVariants.{Going, Done}
 use Rattle.actors.specs.Turns.{turned_by}
-use Rattle.tect_world.specs.Steps.{Stepped, RanToEnd, GoesOn}
+use Rattle.tect_world.specs.Steps.{FailsWith, Stepped, RanToEnd, GoesOn}
 use Rattle.tect_world.proofs.Events.{step_actors, step_number}
 use Rattle.tect_world.proofs.Lives.{present-grown}
 use Rattle.tect_world.proofs.Ranks.{rank, rank_falls}
@@ -49,7 +48,7 @@ goes_none w op = record { acts = []; count = 0; are_acts = refl; history = λ i.
 abbrev pub run_is : Life → Type 0
 run_is w = IsWorldRun w.counts w.history
 
-own_program : (w : Life) (a : ℕ) (p : Program) → run_is w → ((present w).actors a).running ≡ Some p → running (present w) (last_op (present w) a) ≡ Some p
+pub own_program : (w : Life) (a : ℕ) (p : Program) → run_is w → ((present w).actors a).running ≡ Some p → running (present w) (last_op (present w) a) ≡ Some p
 own_program w a p run is =
     let k = running_is_last_begun w.counts w.history run a p is in
     let same : p.op ≡ last_op (present w) a = λ i. record { actor = k.own i; number = k.last i } in
@@ -111,6 +110,23 @@ fails_by w v u op x goes is = record {
   ends = (refl, refl);
   history = is ∙ ap (λ (y : Life). grown y (Failed op x ∷ [])) goes.history ∙ grown-grown w goes.acts (Failed op x ∷ []);
 }
+
+act_fails : (w v : Life) (op : OpId) (o : Option AnyReq) (a : Answer) (u : Life) → GoesOn w v op → u ≡ grown v (transaction (present v).store op o ++ Failed op a ∷ []) → RanToEnd w u op a
+act_fails w v op None a u goes is = fails_by w v u op a goes is
+act_fails w v op (Some q) a u goes is = record {
+  acts = goes.acts ++ Acted op q (store_reply (present v).store q) ∷ [];
+  count = goes.count + 1;
+  end = Failed op a;
+  are_acts = acts_push op q (store_reply (present v).store q) goes.count goes.acts goes.are_acts;
+  ends = (refl, refl);
+  history = is ∙ ap (λ (x : Life). grown x (Acted op q (store_reply (present v).store q) ∷ Failed op a ∷ [])) goes.history
+      ∙ grown-grown w goes.acts (Acted op q (store_reply (present v).store q) ∷ Failed op a ∷ [])
+      ∙ ap (grown w) (sym (append_assoc goes.acts (Acted op q (store_reply (present v).store q) ∷ []) (Failed op a ∷ [])));
+}
+
+fails_with : (w v u : Life) (op : OpId) (a : Answer) → GoesOn w v op → FailsWith v u op a → RanToEnd w u op a
+fails_with w v u op a goes (inl is) = fails_by w v u op a goes is
+fails_with w v u op a goes (inr is) = act_fails w v op (actor_asks ((present v).actors op.actor) op) a u goes is
 
 -- with no answer after the step, it asked something
 asks_some : (counts : Counts) (s : Store) (st : Actor) (op : OpId) (o : Option AnyReq) → actor_asks st op ≡ o → program_answer (program_of (acted_actor counts s st o).running op) ≡ None
@@ -193,7 +209,7 @@ goes_first w a run running = record { going = goes_none w (last_op (present w) a
 -- a step that goes on, and one that ends the command
 going_step : (v u : Life) (op : OpId) → Stepped v u op Going → (u ≡ grown v (step_events (present v) op)) × (step_answer (present v) op ≡ None)
 going_step v u op (inl (grows, turned)) = (grows, not_done _ (sym turned))
-going_step v u op (inr (fails, turned)) = absurd (grind (arith, turned))
+going_step v u op (inr (a, lack, fails, turned)) = absurd cc
 
 module _ (w v u : Life) (a : ℕ) (goes : Goes w v a) where
   own : (p : Program) × (((present v).actors a).running ≡ Some p)
@@ -225,13 +241,9 @@ module _ (w v u : Life) (a : ℕ) (goes : Goes w v a) where
 
   done_by : (x : Answer) → Stepped v u (last_op (present v) a) (Done x) → RanToEnd w u (last_op (present v) a) x
   done_by x (inl (grows, turned)) = ran_to_end w v u (last_op (present v) a) x to_here grows (is_done _ x (sym turned))
-  done_by x (inr (fails, turned)) = lack x (λ i. same_done i) fails
-    where
-      lack : (y : Answer) → y ≡ answers.NoMemory → u ≡ grown v (Failed (last_op (present v) a) answers.NoMemory ∷ []) → RanToEnd w u (last_op (present v) a) y
-      lack y e f = subst (RanToEnd w u (last_op (present v) a)) (sym e) (fails_by w v u (last_op (present v) a) answers.NoMemory to_here f)
-
-      same_done : x ≡ answers.NoMemory
-      same_done = grind (arith, turned)
+  done_by x (inr (y, lack, fails, turned)) =
+      let same : x ≡ y = cc in
+      subst (RanToEnd w u (last_op (present v) a)) (sym same) (fails_with w v u (last_op (present v) a) y to_here fails)
 
   pub goes_to_end : (x : Answer) → Stepped v u (last_op (present v) a) (Done x) → RanToEnd w u (last_op (present w) a) x
   goes_to_end x stepped = subst (λ (op : OpId). RanToEnd w u op x) goes.last (done_by x stepped)

@@ -1,26 +1,54 @@
--- A step of a client at the shards: its next transaction and its end, or its end for want of memory.
-use Rattle.std.specs.Prelude.{◌≡◌, ◌+◌, List, [], ◌∷◌, ◌++◌, Option, Some, None, ◌⊎◌}
+-- What the calls on one client do to it, to the clock of the run and to the order.
+use Rattle.std.specs.Prelude.{◌≡◌, ℕ, Bool, if◌then◌else◌, List, [], ◌∷◌, ◌++◌, Option}
 use Rattle.tect_ids.specs.declared.answer.Answer.{Answer}
-use Rattle.tect_ids.specs.declared.answer.Answer.TheVariants as answers
+use Rattle.tect_ids.specs.declared.command.Command.{Command}
+use Rattle.clients.specs.Lives.{ClientLife, Begins, stopped_life, op_in}
+use Rattle.clients.specs.Steps.{Tried, OwnStep, tried_events, end_events}
+use Rattle.actors.specs.declared.turned.Turned.{Turned}
+use Rattle.actors.specs.declared.turned.Turned.TheVariants as turns
 use Rattle.world_runs.specs.declared.event.Event.{Event}
-use Rattle.world_runs.specs.declared.event.Event.TheVariants.{Failed}
-use Rattle.all_shards.specs.Whole.{WholeStore}
-use Rattle.actors.specs.ActorState.{op_of}
-use Rattle.tect_world.specs.declared.counted.Client.{Client}
-use Rattle.tect_world.specs.Life.{actor_asks}
-use Rattle.tect_world.specs.Steps.{Steps, act_count}
+use Rattle.kept_shards.specs.KeptStore.{KeptStore}
+use Rattle.kept_shards.specs.KeptStore as kept
+use Rattle.tect_world.specs.declared.marks.Mark.{Mark}
+use Rattle.tect_world.specs.declared.marks.Mark.TheVariants.{Actor}
+use Rattle.tect_world.specs.Clients.{raised}
 
-pub record WentOn (s t : WholeStore) (a b : Client) (before later : List Event) (answer : Option Answer) : Type 0 where
-  pub steps : Steps s.counts s.store t.store a.actor.state b.actor.state (op_of a.actor) before later answer
-  pub counts : t.counts ≡ s.counts
-  pub own : b.actor.actor ≡ a.actor.actor
-  pub counted : b.transactions ≡ a.transactions + act_count (actor_asks a.actor.state (op_of a.actor))
+-- a mark for each event
+abbrev pub marks_for : ℕ → List Event → List Mark
+marks_for a [] = []
+marks_for a (e ∷ es) = Actor a ∷ marks_for a es
 
-pub record FoundNoMemory (s t : WholeStore) (a b : Client) (before later : List Event) (answer : Option Answer) : Type 0 where
-  pub shards : t ≡ s
-  pub client : b ≡ record a { actor = record a.actor { state = record a.actor.state { running = None } } }
-  pub events : later ≡ before ++ Failed (op_of a.actor) answers.NoMemory ∷ []
-  pub answers : answer ≡ Some answers.NoMemory
+-- the same for a transaction, if one was done, and for the end, if it came
+abbrev pub act_marks : ℕ → Bool → List Mark
+act_marks a acted = if acted then Actor a ∷ [] else []
 
-abbrev pub ClientSteps : WholeStore → WholeStore → Client → Client → List Event → List Event → Option Answer → Type 0
-ClientSteps s t a b before later answer = WentOn s t a b before later answer ⊎ FoundNoMemory s t a b before later answer
+abbrev pub end_marks : ℕ → Turned → List Mark
+end_marks a turns.Going = []
+end_marks a (turns.Done x) = Actor a ∷ []
+
+-- the events of a step
+abbrev pub stepped_events : ClientLife → Tried → Option Answer → List Event
+stepped_events l tried answer = tried_events (op_in l) tried ++ end_events l.silent (op_in l) answer
+
+-- one step of the client, at the clock of the run
+pub record StepsOnce (w v : KeptStore) (old new : ClientLife) (from to : ℕ) (before after : List Mark) (turned : Turned) : Type 0 where
+  pub step : OwnStep kept.Did w v (raised old from) new turned
+  pub clock : to ≡ new.clock
+  pub order : after ≡ before ++ marks_for old.actor (stepped_events (raised old from) step.tried step.answer)
+
+-- the client began a command, or stopped
+pub record BeginsOnce (old new : ClientLife) (command : Command) (from to : ℕ) (before after : List Mark) : Type 0 where
+  pub begins : Begins (raised old from) new command
+  pub clock : to ≡ new.clock
+  pub order : after ≡ before ++ Actor old.actor ∷ []
+
+pub record StopsOnce (old new : ClientLife) (from to : ℕ) (before after : List Mark) : Type 0 where
+  pub stops : new ≡ stopped_life (raised old from)
+  pub clock : to ≡ new.clock
+  pub order : after ≡ before ++ Actor old.actor ∷ []
+
+-- it could not begin for want of memory: its clock alone may be later
+pub record StaysSo (old new : ClientLife) (from to : ℕ) (before after : List Mark) : Type 0 where
+  pub stays : new ≡ raised old from
+  pub clock : to ≡ from
+  pub order : after ≡ before

@@ -1,17 +1,30 @@
--- The actors as the world keeps them.
-use Rattle.std.specs.Prelude.{◌≡◌, ℕ, ◌+◌, ◌-◌, ◌<◌, List, length, slice_index_or}
-use Rattle.world_runs.specs.Moments.{idle_actor}
-use Rattle.tect_world.specs.declared.counted.Client.{Client}
+-- The actors as the world keeps them, numbered from 1.
+use Rattle.std.specs.Prelude.{◌≡◌, ℕ, ◌+◌, ◌-◌, ◌<◌, ◌≤◌, eqb, if◌then◌else◌, max, List, [], length, slice_index_or}
+use Rattle.tect_ids.specs.declared.ids.Counts.{Counts}
+use Rattle.world_runs.specs.declared.event.Event.{Event}
+use Rattle.clients.specs.Lives.{ClientLife, IsLife, events_in, idle_life}
 
--- an actor that did nothing
-abbrev pub idle_client : ℕ → Client
-idle_client a = record { actor = record { actor = a; state = idle_actor }; transactions = 0 }
+-- that many actors that did nothing
+pub record AreIdle (c : Counts) (ls : List ClientLife) (count : ℕ) : Type 0 where
+  pub number : length ls ≡ count
+  pub each : (i : ℕ) → i < count → slice_index_or ls i (idle_life 0 c) ≡ idle_life (i + 1) c
+  pub lives : (i : ℕ) → i < count → IsLife (slice_index_or ls i (idle_life 0 c))
 
--- that many actors, numbered from 1, that did nothing
-pub record AreIdle (clients : List Client) (count : ℕ) : Type 0 where
-  pub number : length clients ≡ count
-  pub each : (i : ℕ) → i < count → slice_index_or clients i (idle_client 0) ≡ idle_client (i + 1)
+-- the actor with that number
+abbrev pub client_at : Counts → List ClientLife → ℕ → ClientLife
+client_at counts lives a = slice_index_or lives (a - 1) (idle_life 0 counts)
 
--- the actor with that number, from 1
-abbrev pub client_at : List Client → ℕ → Client
-client_at clients a = slice_index_or clients (a - 1) (idle_client 0)
+-- its own events
+abbrev pub events_by : Counts → List ClientLife → ℕ → List Event
+events_by counts lives a = if eqb a 0 then [] else events_in (client_at counts lives a)
+
+-- the client with its clock at least at that number
+abbrev pub raised : ClientLife → ℕ → ClientLife
+raised life clock = record life { clock = max life.clock clock }
+
+-- what is so of the client with that number, where no stamp is above that clock
+pub record IsClientOf (c : Counts) (clock a : ℕ) (l : ClientLife) : Type 0 where
+  pub actor : l.actor ≡ a
+  pub counts : l.counts ≡ c
+  pub life : IsLife l
+  pub early : l.clock ≤ clock

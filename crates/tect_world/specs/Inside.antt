@@ -1,24 +1,25 @@
--- The fields of the world are the moment after its history, which is a run of the world.
-use Rattle.std.specs.Prelude.{◌≡◌, ℕ, ◌≤◌, List, length}
-use Rattle.world_runs.specs.declared.event.Event.{Event}
-use Rattle.world_runs.specs.Moments.{Moment, IsWorldRun}
-use Rattle.world_runs.specs.Report.{transactions}
-use Rattle.tect_world.specs.declared.counted.Client.{Client}
+-- The fields of the world tell its history, which is a run of the world.
+use Rattle.std.specs.Prelude.{◌≡◌, ℕ, ◌<◌, ◌≤◌, ◌^◌, List, length}
+use Rattle.tect_ids.specs.Places.{HasPlaces}
+use Rattle.store_rules.specs.Store.{opening_store}
+use Rattle.noted_runs.specs.Events.{own}
+use Rattle.noted_runs.specs.OwnRuns.{RepliesAre, stored_after}
+use Rattle.kept_shards.specs.KeptStore.{clock_at}
 use Rattle.tect_world.specs.declared.world.World.TheInside.{Inside}
-use Rattle.tect_world.specs.Clients.{client_at}
-use Rattle.tect_world.specs.Life.{Life, present, last_op}
+use Rattle.tect_world.specs.Clients.{client_at, events_by, IsClientOf}
+use Rattle.tect_world.specs.Life.{Life}
+use Rattle.tect_world.specs.Order.{in_order, marks_of}
 
 abbrev pub life_of : Inside → Life
-life_of w = record { counts = w.shards.counts; history = w.history.items }
-
--- these are the actors of the moment after the history
-pub record HasActors (clients : List Client) (m : Moment) (history : List Event) : Type 0 where
-  pub number : length clients ≡ 65
-  pub own : (a : ℕ) → 1 ≤ a → a ≤ 65 → (client_at clients a).actor.actor ≡ a
-  pub each : (a : ℕ) → 1 ≤ a → a ≤ 65 → (client_at clients a).actor.state ≡ m.actors a
-  pub counted : (a : ℕ) → 1 ≤ a → a ≤ 65 → (client_at clients a).transactions ≡ transactions history (last_op m a)
+life_of w = record { counts = w.shards.counts; history = in_order w.order.items (events_by w.shards.counts w.clients.items) }
 
 pub record IsWorld (w : Inside) : Type 0 where
-  pub store : w.shards.store ≡ (present (life_of w)).store
-  pub actors : HasActors w.clients.items (present (life_of w)) w.history.items
-  pub run : IsWorldRun w.shards.counts w.history.items
+  pub number : length w.clients.items ≡ 65
+  pub each : (a : ℕ) → 1 ≤ a → a ≤ 65 → IsClientOf w.shards.counts w.clock a (client_at w.shards.counts w.clients.items a)
+  pub places : (p : ℕ) → clock_at w.shards p ≤ w.clock
+  pub early : w.clock ≤ length w.order.items
+  pub few : length w.order.items < 2 ^ 62
+  pub marked : (a : ℕ) → marks_of a w.order.items ≡ length (events_by w.shards.counts w.clients.items a)
+  pub owns : (a : ℕ) → own a (life_of w).history ≡ events_by w.shards.counts w.clients.items a
+  pub replies : RepliesAre opening_store (life_of w).history
+  pub store : w.shards.store ≡ stored_after opening_store (life_of w).history

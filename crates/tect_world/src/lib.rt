@@ -1,9 +1,9 @@
-//! The world on one thread: all shards and all actors, and the history of what was done.
+//! The whole world on one thread: all shards with their histories and all actors with their passes, and the order in which
+//! all was done.
 #![tactic(auto)]
 
-mod counted;
-mod steps;
-mod turns;
+mod acting;
+mod marks;
 mod world;
 
 pub use actors::Turned;

@@ -1,30 +1,34 @@
 ghost use Rattle.std.specs.Prelude.{◌≡◌, ℕ, ◌+◌, ◌^◌, ◌<◌, ◌≤◌, [], ◌∷◌, ◌++◌, List, OnOk, OnErr, IfOk, IsSome, IsNone, IsTrue, is_some, false};
 ghost use Rattle.tect_ids.specs.Places.{HasPlaces};
 ghost use Rattle.store_rules.specs.Dumps.{store_dump};
+ghost use Rattle.noted_runs.specs.Limits.{KeepsLimits};
 ghost use Rattle.world_runs.specs.declared.event.Event.TheVariants as events;
 ghost use Rattle.world_runs.specs.Moments.{IsWorldRun};
 ghost use Rattle.world_runs.specs.Report.{transactions};
 ghost use Rattle.world_runs.specs.Served.{IsServed};
-ghost use Rattle.actors.specs.Turns.{turned_by};
 ghost use Rattle.tect_world.specs.Life.{Life, present, grown, last_op, next_op};
-ghost use Rattle.tect_world.specs.Steps.{Stepped, RanToEnd, GoesOn};
+ghost use Rattle.tect_world.specs.Steps.{HasBegun, Stepped, RanToEnd, GoesOn};
 
-use crate::counted::{Client, begin_client, idle_clients, push_event, stop_client};
-use crate::steps::step_client;
+use crate::acting::{begin_client, idle_clients, step_client, stop_client};
+use crate::marks::{Mark, is_short, push_mark};
 use actors::Turned;
-use all_shards::Shards;
+use clients::Client;
+use kept_shards::KeptShards;
 use std::alloc::Global;
 use std::marker::Model;
 use tect_ids::{Answer, Command, Counts, DumpLine, NoMemory, OpId};
-use world_runs::Event;
 
-/// All shards and actors on one thread. Contracts see its counts and its history.
+/// All shards with their histories, and all actors with their passes, on one thread. Contracts see its counts and its
+/// history: the events of all actors and the dumps, in the order in which they were done.
+///
+/// Before each transaction and each note the clock of the acting pass is raised to the last stamp of the run, so that the
+/// stamps rise in that order too.
 #[derive(Drop)]
 pub struct World {
-    alloc: Global,
-    shards: Shards,
+    shards: KeptShards,
     clients: Vec<Client>,
-    history: Vec<Event>,
+    clock: u64,
+    order: Vec<Mark>,
 }
 
 impl Model for World {
@@ -45,14 +49,22 @@ impl World {
         requires places { HasPlaces counts }
         ensures { IfOk result (λ world. world ≡ record { counts = counts; history = [] }) }
     {
-        let shards = Shards::start(alloc, counts)?;
+        let shards = KeptShards::start(alloc, counts)?;
         let clients = idle_clients(alloc, counts)?;
         Ok(World {
-            alloc,
             shards,
             clients,
-            history: Vec::new(alloc),
+            clock: 0,
+            order: Vec::new(alloc),
         })
+    }
+
+    // What is so of each world.
+    fn known(&self)
+        ensures run { IsWorldRun self.now.counts self.now.history }
+        ensures limits { KeepsLimits self.now.counts self.now.history }
+    {
+        let _shards = &self.shards;
     }
 
     /// Whether the actor may begin a command: its last one has ended, it has not stopped for good, and it began few enough.
@@ -65,43 +77,53 @@ impl World {
         ensures may { IsNone ((present self.now).actors actor).running → ((present self.now).actors actor).stopped ≡ false
             → ((present self.now).actors actor).number + 1 < 2 ^ 31 → IsTrue result }
         ensures run { IsWorldRun self.now.counts self.now.history }
+        ensures limits { KeepsLimits self.now.counts self.now.history }
     {
-        let actor = &self.clients[actor as usize - 1].actor;
-        !actor.is_running() && !actor.has_stopped() && actor.op().number < (1 << 31) - 1
+        self.known();
+        self.clients[actor as usize - 1].can_begin()
     }
 
-    /// The actor begins its next op with that command, and does no transaction. For want of memory nothing is changed.
+    /// The actor begins its next op with that command, and does no transaction. Where its own history has not room for the op,
+    /// the op is refused: it has its answer, `HistoryFull`, which the next step gives. For want of memory nothing is changed.
     pub fn begin(&mut self, actor: u32, command: Command) -> Result<(), NoMemory>
         requires actor { (1 ≤ actor) × (actor ≤ 65) }
         requires idle { IsNone ((present self.old).actors actor).running }
         requires goes_on { ((present self.old).actors actor).stopped ≡ false }
         requires few { ((present self.old).actors actor).number + 1 < 2 ^ 31 }
         requires served { IsServed command }
-        ensures ok { OnOk result (self.new ≡ grown self.old (events.Began (next_op (present self.old) actor) command ∷ [])) }
+        ensures ok { OnOk result (HasBegun self.old self.new (next_op (present self.old) actor) command) }
         ensures err { OnErr result (self.new ≡ self.old) }
         ensures run { IsWorldRun self.new.counts self.new.history }
+        ensures limits { KeepsLimits self.new.counts self.new.history }
     {
-        self.history.reserve(1)?;
-        let kept = command.copy(self.alloc)?;
+        self.known();
+        self.order.reserve(1)?;
+        is_short(self.order.as_slice());
         let client = &mut self.clients[actor as usize - 1];
-        begin_client(client, &mut self.history, command, kept)?;
-        Ok(())
+        let begun = begin_client(client, &mut self.clock, &mut self.order, command);
+        self.known();
+        begun
     }
 
     /// One step of the actor's command: its next transaction, if it asks one, and its end, if it then has its answer. For
-    /// want of memory its command ends with the answer that says so, and no transaction is done. Where memory is wanting
-    /// even to note that, nothing is changed.
+    /// want of memory, or of room in its own history, its command ends with the answer that says so; behind a transaction
+    /// that was done only where memory is wanting to go on. Where memory is wanting even to note that, nothing is changed.
     pub fn step(&mut self, actor: u32) -> Result<Turned, NoMemory>
         requires actor { (1 ≤ actor) × (actor ≤ 65) }
         requires running { IsSome ((present self.old).actors actor).running }
         ensures ok { IfOk result (Stepped self.old self.new (last_op (present self.old) actor)) }
         ensures err { OnErr result (self.new ≡ self.old) }
         ensures run { IsWorldRun self.new.counts self.new.history }
+        ensures limits { KeepsLimits self.new.counts self.new.history }
     {
-        self.history.reserve(2)?;
+        self.known();
+        self.order.reserve(2)?;
+        is_short(self.order.as_slice());
         let client = &mut self.clients[actor as usize - 1];
-        let answer = step_client(&mut self.shards, client, &mut self.history);
-        Ok(turned_of(answer))
+        let (shards, clock) = (&mut self.shards, &mut self.clock);
+        let turned = step_client(shards, client, clock, &mut self.order);
+        self.known();
+        Ok(turned)
     }
 
     /// Steps until the command ends, also for want of memory. Where memory is wanting even to note that, it stands where it
@@ -112,8 +134,9 @@ impl World {
         ensures ok { IfOk result (RanToEnd self.old self.new (last_op (present self.old) actor)) }
         ensures err { OnErr result (GoesOn self.old self.new (last_op (present self.old) actor)) }
         ensures run { IsWorldRun self.new.counts self.new.history }
+        ensures limits { KeepsLimits self.new.counts self.new.history }
     {
-        let _shards = &self.shards;
+        self.known();
         'steps: loop {
             match self.step(actor)? {
                 Turned::Going => {}
@@ -129,10 +152,14 @@ impl World {
         ensures ok { OnOk result (self.new ≡ grown self.old (events.Stopped (last_op (present self.old) actor) ∷ [])) }
         ensures err { OnErr result (self.new ≡ self.old) }
         ensures run { IsWorldRun self.new.counts self.new.history }
+        ensures limits { KeepsLimits self.new.counts self.new.history }
     {
-        self.history.reserve(1)?;
+        self.known();
+        self.order.reserve(1)?;
+        is_short(self.order.as_slice());
         let client = &mut self.clients[actor as usize - 1];
-        stop_client(client, &mut self.history);
+        stop_client(client, &mut self.clock, &mut self.order);
+        self.known();
         Ok(())
     }
 
@@ -143,10 +170,14 @@ impl World {
         ensures lines { IfOk result (λ lines. lines.items ≡ store_dump (present self.old).store) }
         ensures err { OnErr result (self.new ≡ self.old) }
         ensures run { IsWorldRun self.new.counts self.new.history }
+        ensures limits { KeepsLimits self.new.counts self.new.history }
     {
-        self.history.reserve(1)?;
+        self.known();
+        self.order.reserve(1)?;
+        is_short(self.order.as_slice());
         let lines = self.shards.dump()?;
-        push_event(&mut self.history, Event::Dumped);
+        push_mark(&mut self.order, Mark::Dump);
+        self.known();
         Ok(lines)
     }
 
@@ -155,8 +186,10 @@ impl World {
         requires { (1 ≤ actor) × (actor ≤ 65) }
         ensures running { result ≡ is_some ((present self.now).actors actor).running }
         ensures run { IsWorldRun self.now.counts self.now.history }
+        ensures limits { KeepsLimits self.now.counts self.now.history }
     {
-        self.clients[actor as usize - 1].actor.is_running()
+        self.known();
+        self.clients[actor as usize - 1].is_running()
     }
 
     /// The op of the actor's last command.
@@ -164,8 +197,10 @@ impl World {
         requires { (1 ≤ actor) × (actor ≤ 65) }
         ensures op { result ≡ last_op (present self.now) actor }
         ensures run { IsWorldRun self.now.counts self.now.history }
+        ensures limits { KeepsLimits self.now.counts self.now.history }
     {
-        self.clients[actor as usize - 1].actor.op()
+        self.known();
+        self.clients[actor as usize - 1].op()
     }
 
     /// How many transactions the actor's last command took so far, also after its end.
@@ -173,16 +208,9 @@ impl World {
         requires { (1 ≤ actor) × (actor ≤ 65) }
         ensures count { result ≡ transactions self.now.history (last_op (present self.now) actor) }
         ensures run { IsWorldRun self.now.counts self.now.history }
+        ensures limits { KeepsLimits self.now.counts self.now.history }
     {
-        self.clients[actor as usize - 1].transactions
-    }
-}
-
-fn turned_of(answer: Option<Answer>) -> Turned
-    ensures { result ≡ turned_by answer }
-{
-    match answer {
-        None => Turned::Going,
-        Some(answer) => Turned::Done(answer),
+        self.known();
+        self.clients[actor as usize - 1].transactions()
     }
 }

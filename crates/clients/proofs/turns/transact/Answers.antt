@@ -1,16 +1,18 @@
-use Rattle.std.proofs.Common.{◌∙◌, ap, subst, refl, Err}
+use Rattle.std.proofs.Common.{◌∙◌, ap, subst, refl, Ok, Err}
 use Rattle.tect_ids.specs.declared.ids.Counts.{Counts}
 use Rattle.tect_ids.specs.declared.answer.Answer.TheVariants as answers
 use Rattle.store_rules.specs.Places.{request_place}
 use Rattle.place_kit.specs.declared.entry.Refused.TheVariants.{NoMemory, HistoryFull}
-use Rattle.clients.specs.Commits.{Committed}
+use Rattle.clients.specs.Commits.{Committed, entry_at}
 use Rattle.clients.proofs.TurnCases.{did_turn, denied_turn}
 use Rattle.clients.proofs.turns.transact.Goals as goal
 
 pub returns-in-Ok-clause-turn : goal.returns-in-Ok-clause-turn
 returns-in-Ok-clause-turn g c =
     did_turn g.C.Commits.done c.args.counts.now c.args.at.now c.commit.new.self c.args.actor.now c.hear.new.actor c.args.pass.now c.hear.new.pass c.commit.new.pass
-    c.args.asked c.in-Ok.reply c.hear.result c.requires.asked c.in-Ok.ensures.done (λ full. let bad = c.in-Ok.ensures.full full in cc)
+    c.args.asked c.in-Ok.reply c.hear.result c.requires.asked
+    (subst (λ (n : Counts). g.C.Commits.done c.args.at.now c.commit.new.self c.args.pass.now.clock c.args.asked (Ok (entry_at n c.commit.new.pass.clock c.args.pass.now c.args.asked c.in-Ok.reply)))
+    c.requires.same c.in-Ok.ensures.done) (λ full. let bad = c.in-Ok.ensures.full full in cc)
     (subst (λ (n : Counts). Committed n c.args.pass.now c.commit.new.pass c.args.asked c.in-Ok.reply) c.requires.same c.in-Ok.ensures.ok)
     (c.hear.ensures c.args.counts.now c.args.asked (c.place-place.ensures ∙ ap (request_place c.args.counts.now) c.request.ensures))
 

@@ -6,11 +6,14 @@ use Rattle.script_forms.specs.Spelling.{Spells}
 use Rattle.script_reader.specs.GivesPlan.{IsUnlessMemory}
 use Rattle.script_forms.specs.FirstFault.{IsFirstFault}
 use Rattle.tect_app.proofs.Inputs.{read_fault}
-use Rattle.tect_app.proofs.Plans.{spelled_playable}
+use Rattle.tect_app.proofs.Plans.{spelled_playable, few_clients}
 use Rattle.tect_app.proofs.input.read_plan.Goals as goal
 
 pub returns-in-Ok-clause-playable : goal.returns-in-Ok-clause-playable
 returns-in-Ok-clause-playable g c = spelled_playable _ _ c.in-Ok.ensures.spelled
+
+pub returns-in-Ok-clause-clients : goal.returns-in-Ok-clause-clients
+returns-in-Ok-clause-clients g c = few_clients _ _ c.in-Ok.ensures.spelled
 
 pub returns-clause-first : goal.returns-clause-first
 returns-clause-first g c =

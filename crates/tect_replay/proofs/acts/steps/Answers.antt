@@ -19,4 +19,4 @@ steps-preserved c =
     let w = c.args.world.now in
     let v = c.steps.world in
     let u = c.step.new.self in
-    stepped_more w v u c.args.actor c.steps._step c.steps.invariant (subst (λ (t : Turned). Stepped v u (last_op (present v) c.args.actor) t) c.in-Going.is c.in_ok-step.ensures.ok) c.in_ok-step.ensures.run
+    stepped_more w v u c.args.actor c.steps._step c.steps.invariant (subst (λ (t : Turned). Stepped v u (last_op (present v) c.args.actor) t) c.in-Going.is c.in_ok-step.ensures.ok) c.in_ok-step.ensures.run c.in_ok-step.ensures.limits

@@ -1,15 +1,22 @@
-use Rattle.std.proofs.Common.{List, [], ◌∷◌, ◌++◌, refl, ap, ◌∙◌}
-use Rattle.world_runs.specs.declared.event.Event.{Event}
-use Rattle.world_runs.specs.declared.event.Event.TheVariants.{Dumped}
-use Rattle.tect_world.proofs.Lives.{dump_stays}
+use Rattle.std.proofs.Common.{List, [], ◌∷◌, ◌++◌, ap, ◌∙◌, sym, subst}
+use Rattle.std.specs.Prelude.{IfOk}
+use Rattle.store_rules.specs.Dumps.{store_dump}
+use Rattle.store_rules.specs.Store.{Store}
+use Rattle.tect_world.specs.declared.marks.Mark.{Mark}
+use Rattle.tect_world.specs.declared.marks.Mark.TheVariants.{Dump}
+use Rattle.tect_world.proofs.Lives.{dump_stays, dump_grows, few_more, world_store}
 use Rattle.tect_world.proofs.world.World.dump.Goals as goal
 
 pub invariant_of-self-2 : goal.invariant_of-self-2
 invariant_of-self-2 c =
-    dump_stays c.self.inside (record { alloc = c.self.inside.alloc; shards = c.self.inside.shards; clients = c.self.inside.clients; history = c.push_event.new.history })
-    c.self.invariant refl refl (c.push_event.ensures.items ∙ ap (λ (es : List Event). es ++ Dumped ∷ []) c.in_ok-reserve.ensures.items)
+    dump_stays c.self.inside (record { shards = c.self.inside.shards; clients = c.self.inside.clients; clock = c.self.inside.clock; order = c.push_mark.new.order }) c.self.invariant
+    (c.push_mark.ensures.items ∙ ap (λ (ms : List Mark). ms ++ Dump ∷ []) c.in_ok-reserve.ensures.items) (few_more c.self.inside.order.items c.reserve.new.self.items c.push_mark.new.order.items Dump (rw c.as_slice.ensures.value at c.is_short.ensures) c.push_mark.ensures.items)
 
-pub returns-clause-run : goal.returns-clause-run
-returns-clause-run c =
-    (dump_stays c.self.inside (record { alloc = c.self.inside.alloc; shards = c.self.inside.shards; clients = c.self.inside.clients; history = c.push_event.new.history })
-    c.self.invariant refl refl (c.push_event.ensures.items ∙ ap (λ (es : List Event). es ++ Dumped ∷ []) c.in_ok-reserve.ensures.items)).run
+pub returns-clause-ok : goal.returns-clause-ok
+returns-clause-ok c =
+    rw (← c.self.view_is) (dump_grows c.self.inside (record { shards = c.self.inside.shards; clients = c.self.inside.clients; clock = c.self.inside.clock; order = c.push_mark.new.order }) c.self.invariant
+    (c.push_mark.ensures.items ∙ ap (λ (ms : List Mark). ms ++ Dump ∷ []) c.in_ok-reserve.ensures.items) (few_more c.self.inside.order.items c.reserve.new.self.items c.push_mark.new.order.items Dump (rw c.as_slice.ensures.value at c.is_short.ensures) c.push_mark.ensures.items))
+
+pub returns-clause-lines : goal.returns-clause-lines
+returns-clause-lines c =
+    rw (← c.self.view_is) (c.in_ok-lines.ensures ∙ ap store_dump (world_store c.self.inside c.self.invariant))

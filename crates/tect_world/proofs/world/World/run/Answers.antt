@@ -5,7 +5,7 @@ use Rattle.tect_world.proofs.Running.{run_is, goes_first, goes_on, goes_nearer, 
 use Rattle.tect_world.proofs.world.World.run.Goals as goal
 
 pub steps-init : goal.steps-init
-steps-init c = goes_first c.args.self.now c.args.actor (subst run_is c.self.view_is c.self.invariant.run) c.requires.running
+steps-init c = goes_first c.args.self.now c.args.actor c.known.ensures.run c.requires.running
 
 pub step-requires-clause-running : goal.step-requires-clause-running
 step-requires-clause-running c = c.steps.invariant.running

@@ -1,0 +1,64 @@
+-- What is known of a race when a line is passed, when a dump ends a part, and when the script ends.
+use Rattle.std.proofs.Common.{◌≡◌, ℕ, ◌+◌, ◌-◌, ◌<◌, ◌≤◌, Some, List, [], ◌∷◌, ◌++◌, length, length-drop, take, drop, slice_get, slice_range, get_or, refl, sym, ap, subst, ◌∙◌, arith, take-append-drop}
+use Rattle.std.specs.List.{All, flat_map}
+use Rattle.std.proofs.lemmas.List.{take_all}
+use Rattle.std.proofs.lemmas.List.Elements.{recursion_from_All}
+use Rattle.std.proofs.lemmas.Option.{slice_get_within, get_or_from_slice_get}
+use Rattle.tect_ids.specs.Places.{HasPlaces}
+use Rattle.tect_ids.specs.declared.ids.Counts.{Counts}
+use Rattle.tect_ids.specs.declared.script.Line.{Line}
+use Rattle.tect_ids.specs.declared.script.Line.TheVariants as lines
+use Rattle.tect_ids.specs.declared.script.ReportLine.{ReportLine}
+use Rattle.race_runs.specs.Gathered.{IsLineOf}
+use Rattle.racers.specs.declared.racer.Racer.{Racer}
+use Rattle.race_ends.specs.declared.ended.EndedPart.{EndedPart}
+use Rattle.race_ends.specs.HaveRun.{HaveRun}
+use Rattle.tect_race.specs.Crews.{RacersRan, AllClosed}
+use Rattle.tect_race.specs.Progress.{Stood, HasCome}
+use Rattle.tect_race.specs.Ready.{AreRacers, IsOfClient}
+use Rattle.tect_race.specs.declared.script.Progress.{Progress}
+use Rattle.tect_race.proofs.Looping.{stood_on, run_ended}
+use Rattle.tect_race.proofs.Parts.{lines_to, drop_more, all_more}
+
+-- a line of the script is of a client, if it is no dump
+of_client : (n : ℕ) (line : Line) → IsLineOf n line → (line ≡ lines.Dump → ⊥) → IsOfClient n line
+of_client n (lines.Client client actor act) is no_dump = is
+of_client n lines.Dump is no_dump = absurd (no_dump refl)
+of_client n (lines.Store counts) is no_dump = absurd is
+of_client n lines.Sweep is no_dump = absurd is
+of_client n (lines.Lose disk) is no_dump = absurd is
+
+module _ (counts : Counts) (names : List (List ℕ)) (ls : List Line) (p : Progress) where
+  -- a line that is no dump is the part's next
+  pub come_past : (number : ℕ) (line : Line) → number < length ls → line ≡ get_or ls number line → (line ≡ lines.Dump → ⊥) → All (IsLineOf (length names)) ls → HasCome counts names ls number p → HasCome counts names ls (number + 1) p
+  come_past number line within read no_dump asked come =
+      let is : IsLineOf (length names) line = subst (IsLineOf (length names)) (sym read) (asked number line within) in
+      record {
+        low = (let l = come.low in omega arith);
+        part = all_more (IsOfClient (length names)) ls p.start number line come.low within (sym read) come.part (of_client (length names) line is no_dump);
+        stood = come.stood;
+      }
+
+  -- a dump ends the part before it
+  pub come_on : (ts us : List Racer) (dump : ℕ) (e : EndedPart) → slice_get ls dump ≡ Some lines.Dump → HasCome counts names ls dump p → RacersRan names (slice_range ls p.start dump) p.racers.items ts → AreRacers counts (drop dump ls) ts
+      → All (λ r. r.client.clock ≤ e.clock) ts → AllClosed e.clock ts us → e.answers.items ≡ flat_map (λ r. r.answers.items) ts
+      → Stood counts names (take (dump + 1) ls) (drop (dump + 1) ls) e.clock us (p.ended.items ++ e ∷ [])
+  come_on ts us dump e here come ran ready high closed told =
+      let within : dump < length ls = slice_get_within ls dump lines.Dump here in
+      let read = get_or_from_slice_get ls dump lines.Dump lines.Dump here in
+      let left : drop dump ls ≡ lines.Dump ∷ drop (dump + 1) ls = drop_more dump ls lines.Dump within ∙ ap (λ x. x ∷ drop (dump + 1) ls) read in
+      let own = recursion_from_All (IsOfClient (length names)) (slice_range ls p.start dump) come.part in
+      let stood = stood_on counts names (take p.start ls) (drop p.start ls) (slice_range ls p.start dump) p.clock p.racers.items ts us p.ended.items come.stood ran
+      (drop (dump + 1) ls) e (subst (λ (l : List Line). AreRacers counts l ts) left ready) own high closed told in
+      subst (λ (l : List Line). Stood counts names l (drop (dump + 1) ls) e.clock us (p.ended.items ++ e ∷ [])) (sym (lines_to ls p.start dump lines.Dump come.low within read)) stood
+
+  -- the script ends the last part
+  pub come_to_end : (ts us : List Racer) (k : ℕ) (last : List ReportLine) → HasPlaces counts → All (IsLineOf (length names)) ls → HasCome counts names ls (length ls) p → RacersRan names (slice_range ls p.start (length ls)) p.racers.items ts
+      → AreRacers counts (drop (length ls) ls) ts → AllClosed k ts us → last ≡ flat_map (λ r. r.answers.items) ts → HaveRun counts names ls us p.ended.items last
+  come_to_end ts us k last places asked come ran ready closed told =
+      let part : List Line = slice_range ls p.start (length ls) in
+      let all : part ≡ drop p.start ls = take_all (length ls - p.start) (drop p.start ls) (let d = length-drop p.start ls in omega arith) in
+      let whole : take p.start ls ++ part ≡ ls = ap (λ l. take p.start ls ++ l) all ∙ take-append-drop p.start ls in
+      let run = run_ended counts names (take p.start ls) (drop p.start ls) part p.clock p.racers.items ts us p.ended.items come.stood ran
+      (drop (length ls) ls) k last places (subst (All (IsLineOf (length names))) (sym whole) asked) ready (recursion_from_All (IsOfClient (length names)) part come.part) closed told in
+      subst (λ (l : List Line). HaveRun counts names l us p.ended.items last) whole run

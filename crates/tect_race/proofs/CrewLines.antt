@@ -1,0 +1,172 @@
+-- What a crew does in some lines, and then in one more.
+use Rattle.std.proofs.Common.{◌≡◌, ◌≢◌, ℕ, ◌+◌, ◌-◌, ◌*◌, ◌/◌, ◌%◌, ◌^◌, ◌<◌, ◌≤◌, Option, Some, None, Result, Ok, Err, OnOk, IfErr, IsOk, List, [], ◌∷◌, ◌++◌, length, set, refl, sym, ap, subst, ◌∙◌, arith, ◌⊎◌, inl, inr, slice_get, slice_index_or, length-set}
+use Rattle.std.proofs.lemmas.Option.{slice_get_within, slice_get_read}
+use Rattle.tect_ids.specs.declared.ids.Counts.{Counts}
+use Rattle.tect_ids.specs.declared.script.Act.{Act}
+use Rattle.tect_ids.specs.declared.script.Line.{Line}
+use Rattle.tect_ids.specs.declared.script.Line.TheVariants as lines
+use Rattle.world_runs.specs.Turns.{ClientTurn, TakesAct}
+use Rattle.script_runs.specs.Standing.{AtTurn}
+use Rattle.clients.specs.Lives.{state_in}
+use Rattle.racers.specs.declared.racer.Racer.{Racer}
+use Rattle.tect_race.specs.declared.crew.Crew.{Crew}
+use Rattle.racers.specs.Lines.{Plays}
+use Rattle.tect_race.specs.Lines.{Ran, PlaysOrRests}
+use Rattle.tect_race.specs.Crews.{CrewPlays, CrewRan}
+use Rattle.tect_race.specs.Ready.{IsReady, IsCrew, IsOfClient}
+use Rattle.tect_race.proofs.RacerLines.{adds_actor, ran_none, ran_on, ready_on}
+use Rattle.tect_race.proofs.Slots.{also_at, same_at, some_at, set_here, set_there, stands, place_crew, place_slot, decide}
+
+pub crew_ran_none : (names : List (List ℕ)) (c : Crew) → CrewRan names [] c c
+crew_ran_none names c = record {
+  number = refl;
+  count = refl;
+  each = λ slot r t e f. subst (λ (x : Racer). Ran names [] r x) (same_at c.racers.items slot r t e f) (ran_none names r);
+}
+
+pub crew_ran_on : (names : List (List ℕ)) (ls : List Line) (line : Line) (a b c : Crew) → CrewRan names ls a b → CrewPlays names line b c → CrewRan names (ls ++ line ∷ []) a c
+crew_ran_on names ls line a b c ran plays = record {
+  number = plays.number ∙ ran.number;
+  count = plays.count ∙ ran.count;
+  each = λ slot r t e f.
+      let s = also_at a.racers.items b.racers.items slot r e ran.count in
+      ran_on names ls line r s.0 t (ran.each slot r s.0 e s.1) (plays.each slot s.0 t s.1 f);
+}
+
+plays_actor : (names : List (List ℕ)) (line : Line) (r t : Racer) → PlaysOrRests names line r t → t.client.actor ≡ r.client.actor
+plays_actor names (lines.Client client actor act) r t (inl w) = ap (λ (x : Racer). x.client.actor) w.1
+plays_actor names (lines.Client client actor act) r t (inr w) = adds_actor names r t (w.1).news (w.1).more (w.1).adds
+plays_actor names lines.Dump r t w = absurd w
+plays_actor names (lines.Store counts) r t w = absurd w
+plays_actor names lines.Sweep r t w = absurd w
+plays_actor names (lines.Lose disk) r t w = absurd w
+
+pub crew_ready_on : (counts : Counts) (names : List (List ℕ)) (clients workers : ℕ) (line : Line) (later : List Line) (c d : Crew)
+    → IsCrew counts clients workers (line ∷ later) c → CrewPlays names line c d → IsCrew counts clients workers later d
+crew_ready_on counts names clients workers line later c d is plays = record {
+  number = subst (λ k. k < workers) (sym plays.number) is.number;
+  filled = λ slot. (
+    λ l. subst (λ k. slot * workers + k < clients) (sym plays.number) ((is.filled slot).0 (let e = plays.count in omega arith)),
+    λ l. (let h = (is.filled slot).1 (subst (λ k. slot * workers + k < clients) plays.number l) in let e = plays.count in omega arith),
+  );
+  own = λ slot t f.
+      let r = also_at d.racers.items c.racers.items slot t f (sym plays.count) in
+      plays_actor names line r.0 t (plays.each slot r.0 t r.1 f) ∙ is.own slot r.0 r.1 ∙ ap (λ k. slot * workers + k + 1) (sym plays.number);
+  ready = λ slot t f.
+      let r = also_at d.racers.items c.racers.items slot t f (sym plays.count) in
+      ready_on names counts line later r.0 t (is.ready slot r.0 r.1) (plays.each slot r.0 t r.1 f);
+}
+
+-- ---- a line of a client of another crew
+
+module _ (counts : Counts) (names : List (List ℕ)) (clients workers : ℕ) (client : List ℕ) (actor : ℕ) (act : Act) (later : List Line) (c : Crew)
+    (is : IsCrew counts clients workers (lines.Client client actor act ∷ later) c) (low : 1 ≤ actor) where
+  not_own : (actor - 1) % workers ≢ c.number → (slot : ℕ) (r : Racer) → slice_get c.racers.items slot ≡ Some r → actor ≢ r.client.actor
+  not_own ne slot r e same =
+      let own = is.own slot r e in
+      let x : actor - 1 ≡ slot * workers + c.number = omega arith in
+      ne (ap (λ k. k % workers) x ∙ place_crew workers c.number slot is.number)
+
+  pub crew_rests : (actor - 1) % workers ≢ c.number → CrewPlays names (lines.Client client actor act) c c
+  crew_rests ne = record {
+    number = refl;
+    count = refl;
+    each = λ slot r t e f. inl (not_own ne slot r e, sym (same_at c.racers.items slot r t e f));
+  }
+
+-- ---- a line of one of the crew
+
+  module _ (mine : (actor - 1) % workers ≡ c.number) (high : actor ≤ clients) where
+    abbrev at : ℕ
+    at = (actor - 1) / workers
+
+    whole : at * workers + c.number ≡ actor - 1
+    whole = ap (λ k. at * workers + k) (sym mine) ∙ stands workers (actor - 1)
+
+    pub own_slot : at < length c.racers.items
+    own_slot = (is.filled at).1 (let e = whole in omega arith)
+
+    pub own_actor : (r : Racer) → slice_get c.racers.items at ≡ Some r → r.client.actor ≡ actor
+    own_actor r e = let o = is.own at r e in let w = whole in omega arith
+
+    other : (slot : ℕ) → slot ≢ at → (r : Racer) → slice_get c.racers.items slot ≡ Some r → actor ≢ r.client.actor
+    other slot ne r e same =
+        let own = is.own slot r e in
+        let x : actor - 1 ≡ slot * workers + c.number = omega arith in
+        ne (sym (ap (λ k. k / workers) x ∙ place_slot workers c.number slot is.number))
+
+    own_or_other : (r t : Racer) (d : Crew) → slice_get c.racers.items at ≡ Some r → d.racers.items ≡ set c.racers.items at t → Plays names act r t
+        → (slot : ℕ) (x y : Racer) → (slot ≡ at) ⊎ (slot ≢ at) → slice_get c.racers.items slot ≡ Some x → slice_get d.racers.items slot ≡ Some y
+        → PlaysOrRests names (lines.Client client actor act) x y
+    own_or_other r t d e items plays slot x y (inl here) f g =
+        let xr : x ≡ r = same_at c.racers.items at x r (subst (λ k. slice_get c.racers.items k ≡ Some x) here f) e in
+        let yt : y ≡ t = same_at d.racers.items at y t (subst (λ k. slice_get d.racers.items k ≡ Some y) here g)
+        (subst (λ (l : List Racer). slice_get l at ≡ Some t) (sym items) (set_here c.racers.items at t own_slot)) in
+        inr (sym (own_actor r e) ∙ ap (λ (w : Racer). w.client.actor) (sym xr), subst (λ (w : Racer). Plays names act w y) (sym xr) (subst (λ (w : Racer). Plays names act r w) (sym yt) plays))
+    own_or_other r t d e items plays slot x y (inr there) f g =
+        let same : slice_get d.racers.items slot ≡ slice_get c.racers.items slot =
+        ap (λ (l : List Racer). slice_get l slot) items ∙ set_there c.racers.items at slot t there in
+        inl (other slot there x f, same_at c.racers.items slot y x (sym same ∙ g) f)
+
+    pub crew_plays : (r t : Racer) (d : Crew) → slice_get c.racers.items at ≡ Some r → d.number ≡ c.number → d.racers.items ≡ set c.racers.items at t → Plays names act r t
+        → CrewPlays names (lines.Client client actor act) c d
+    crew_plays r t d e number items plays = record {
+      number = number;
+      count = ap (λ (l : List Racer). length l) items ∙ length-set c.racers.items at t;
+      each = λ slot x y f g. own_or_other r t d e items plays slot x y (decide slot at) f g;
+    }
+
+-- ---- the line as the code has it
+
+on_ok : {A B E F : Type 0} → {P Q : Type 0} → (o : Result A E) (q : Result B F) → (IsOk q → IsOk o) → (P → Q) → OnOk o P → OnOk q Q
+on_ok (Ok x) (Ok y) k f h = f h
+on_ok (Ok x) (Err e) k f h = tt
+on_ok (Err e) (Ok y) k f h = let w = k refl in cc
+on_ok (Err e) (Err d) k f h = tt
+
+module _ (counts : Counts) (names : List (List ℕ)) (clients workers : ℕ) (line : Line) (client : List ℕ) (actor : ℕ) (act : Act) (c : Crew)
+    (is : line ≡ lines.Client client actor act) (of : IsOfClient clients line) (ready : (later : List Line) × IsCrew counts clients workers (line ∷ later) c) where
+  abbrev own_line : Line
+  own_line = lines.Client client actor act
+
+  abbrev bounds : IsOfClient clients own_line
+  bounds = subst (IsOfClient clients) is of
+
+  crew_is : IsCrew counts clients workers (own_line ∷ ready.0) c
+  crew_is = subst (λ (l : Line). IsCrew counts clients workers (l ∷ ready.0) c) is ready.1
+
+  pub line_rests : ((actor - 1) % workers ≡ c.number → ⊥) → CrewPlays names line c c
+  line_rests ne = subst (λ (l : Line). CrewPlays names l c c) (sym is) (crew_rests counts names clients workers client actor act ready.0 c crew_is bounds.0 ne)
+
+  module _ (mine : (actor - 1) % workers ≡ c.number) where
+    pub line_slot : (actor - 1) / workers < length c.racers.items
+    line_slot = own_slot counts names clients workers client actor act ready.0 c crew_is bounds.0 mine bounds.1
+
+    module _ (r : Racer) (value : r ≡ slice_index_or c.racers.items ((actor - 1) / workers) r) where
+      here : slice_get c.racers.items ((actor - 1) / workers) ≡ Some r
+      here = slice_get_read c.racers.items (length c.racers.items) ((actor - 1) / workers) r refl line_slot value
+
+      racer_ready : IsReady counts (own_line ∷ ready.0) r
+      racer_ready = crew_is.ready ((actor - 1) / workers) r here
+
+      actor_is : r.client.actor ≡ actor
+      actor_is = own_actor counts names clients workers client actor act ready.0 c crew_is bounds.0 mine bounds.1 r here
+
+      pub line_counts : r.client.counts ≡ counts
+      line_counts = racer_ready.counts_are
+
+      pub line_client : (1 ≤ r.client.actor) × (r.client.actor ≤ clients)
+      line_client = let e = actor_is in let b = bounds in (omega arith, omega arith)
+
+      pub line_few : (state_in r.client).number + 1 < 2 ^ 31
+      line_few = let f = racer_ready.few in omega arith
+
+      pub line_takes : (turn : ClientTurn) × AtTurn turn (state_in r.client) × TakesAct turn act
+      line_takes =
+          let turns = racer_ready.turns in
+          (turns actor, subst (λ k. AtTurn (turns k) (state_in r.client)) actor_is racer_ready.turn, racer_ready.in_turn.2)
+
+      pub line_plays : {E F : Type 0} → (o : Result (Unit {0}) E) (q : Result (Unit {0}) F) → (IsOk q → IsOk o) → (t : Racer) (d : Crew) → d.number ≡ c.number → d.racers.items ≡ set c.racers.items ((actor - 1) / workers) t
+          → OnOk o (Plays names act r t) → OnOk q (CrewPlays names line c d)
+      line_plays o q k t d number items =
+          on_ok o q k (λ plays. subst (λ (l : Line). CrewPlays names l c d) (sym is) (crew_plays counts names clients workers client actor act ready.0 c crew_is bounds.0 mine bounds.1 r t d here number items plays))

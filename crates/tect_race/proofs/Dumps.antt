@@ -1,0 +1,163 @@
+-- The stories of all clients, when a dump ends a part.
+use Rattle.std.proofs.Common.{◌≡◌, ℕ, suc, ◌+◌, ◌≤◌, max, None, List, [], ◌∷◌, ◌++◌, length, length-append, map, filter, refl, sym, ap, subst, ◌∙◌, arith}
+use Rattle.std.specs.List.{AllByRecursion, flat_map}
+use Rattle.std.proofs.lemmas.List.Elements.{All-nil}
+use Rattle.tect_ids.specs.declared.ids.Counts.{Counts}
+use Rattle.tect_ids.specs.declared.script.Line.{Line}
+use Rattle.tect_ids.specs.declared.script.Line.TheVariants as lines
+use Rattle.place_kit.specs.Moments.{stamp_of}
+use Rattle.world_runs.specs.declared.event.Event.TheVariants.{Dumped}
+use Rattle.world_runs.specs.Races.{line_concerns}
+use Rattle.noted_runs.specs.ClientLines.{DoesLines}
+use Rattle.clients.specs.Lives.{ClientLife, events_in}
+use Rattle.race_runs.specs.Stories.{Part, Story, with_dumps}
+use Rattle.race_runs.proofs.Growing as growing
+use Rattle.race_runs.proofs.Growing.{no_part, dumped, moments_dumped, events_dumped, dumps_dumped, timely_dumped, answers_dumped}
+use Rattle.racers.specs.declared.racer.Racer.{Racer}
+use Rattle.racers.specs.Lives.{busy_in}
+use Rattle.race_ends.specs.declared.ended.EndedPart.{EndedPart}
+use Rattle.tect_race.specs.Crews.{Closed, AllClosed, RacersRan}
+use Rattle.tect_race.specs.Standing.{Stands, AllStand, last_clock, first_answers, later_parts, HaveEnded}
+use Rattle.tect_race.proofs.Events.{filter-append, does_lines-append}
+use Rattle.tect_race.proofs.Stories.{silent_dumped, grown_story, stands_grown, same_ended, weaker}
+
+same_last : (low : ℕ) (clocks : List ℕ) → growing.last_clock low clocks ≡ last_clock low clocks
+same_last low [] = refl
+same_last low (k ∷ ks) = same_last k ks
+
+pub last_is : (low k : ℕ) (clocks : List ℕ) → last_clock low (clocks ++ k ∷ []) ≡ k
+last_is low k [] = refl
+last_is low k (j ∷ js) = last_is j k js
+
+module _ (counts : Counts) (names : List (List ℕ)) (done : List Line) (clocks : List ℕ) (r t : Racer) (s : Story) (is : Stands counts names done clocks r s)
+    (k : ℕ) (high : r.client.clock ≤ k) (closed : Closed k r t) where
+  clock_is : t.client.clock ≡ k
+  clock_is = ap (λ (w : ClientLife). w.clock) closed.client ∙ (let e : max r.client.clock k ≡ k = omega arith in e)
+
+  does_dump : DoesLines s.actor None (filter (line_concerns s.actor) (done ++ lines.Dump ∷ [])) (with_dumps (s.ended ++ s.last ∷ []) no_part) (busy_in t.client)
+  does_dump =
+      let same : busy_in t.client ≡ busy_in r.client = ap busy_in closed.client in
+      let all = does_lines-append s.actor None (busy_in r.client) (busy_in r.client) (filter (line_concerns s.actor) done) (lines.Dump ∷ []) (with_dumps s.ended s.last) (Dumped ∷ []) is.does ([], refl, (refl, refl)) in
+      rw (filter-append (line_concerns s.actor) done (lines.Dump ∷ []), dumps_dumped s.ended s.last, same) all
+
+  pub stands_dumped : Stands counts names (done ++ lines.Dump ∷ []) (clocks ++ k ∷ []) t (dumped s)
+  stands_dumped = record {
+    counts_are = ap (λ (w : ClientLife). w.counts) closed.client ∙ is.counts_are;
+    actor = is.actor ∙ sym (ap (λ (w : ClientLife). w.actor) closed.client);
+    moments = moments_dumped s.ended s.last ∙ is.moments ∙ sym (ap (λ (w : ClientLife). w.moments) closed.client);
+    silent = silent_dumped s.ended s.last ∙ is.silent ∙ sym (ap (λ (w : ClientLife). w.silent) closed.client);
+    events = events_dumped s.ended s.last ∙ is.events ∙ sym (ap events_in closed.client);
+    does = does_dump;
+    timely = timely_dumped 0 clocks k s.ended s.last is.timely (let f = is.floor in let e = same_last 0 clocks in omega arith) (weaker r.client.clock k (s.last).news high is.below);
+    below = All-nil (λ m. stamp_of m ≤ t.client.clock);
+    floor = (let e = last_is 0 k clocks in let c = clock_is in omega arith);
+    answers = answers_dumped counts names s.actor [] s.ended s.last is.answers;
+    told = closed.answers;
+    parts = length-append s.ended (s.last ∷ []) ∙ ap (λ n. n + 1) is.parts ∙ sym (length-append clocks (k ∷ []));
+  }
+
+-- ---- all clients
+
+pub all_grown : (counts : Counts) (names : List (List ℕ)) (done ls : List Line) (clocks : List ℕ) (rs ts : List Racer) (ss : List Story) → AllStand counts names done clocks rs ss → RacersRan names ls rs ts
+    → (us : List Story) × AllStand counts names (done ++ ls) clocks ts us × (map (λ s. s.ended) us ≡ map (λ s. s.ended) ss)
+all_grown counts names done ls clocks [] [] [] a r = ([], tt, refl)
+all_grown counts names done ls clocks [] (t ∷ ts) ss a r = absurd r
+all_grown counts names done ls clocks (x ∷ rs) [] ss a r = absurd r
+all_grown counts names done ls clocks [] [] (s ∷ ss) a r = absurd a
+all_grown counts names done ls clocks (x ∷ rs) (t ∷ ts) [] a r = absurd a
+all_grown counts names done ls clocks (x ∷ rs) (t ∷ ts) (s ∷ ss) a r =
+    let rest = all_grown counts names done ls clocks rs ts ss a.1 r.1 in (
+      grown_story counts names done ls clocks x t s a.0 r.0 ∷ rest.0,
+      (stands_grown counts names done ls clocks x t s a.0 r.0, rest.1),
+      ap (λ e. e ∷ map (λ (u : Story). u.ended) rest.0) (same_ended counts names done ls clocks x t s a.0 r.0) ∙ ap (λ l. s.ended ∷ l) rest.2,
+    )
+
+pub all_dumped : (counts : Counts) (names : List (List ℕ)) (done : List Line) (clocks : List ℕ) (k : ℕ) (rs ts : List Racer) (ss : List Story) → AllStand counts names done clocks rs ss
+    → AllByRecursion (λ r. r.client.clock ≤ k) rs → AllClosed k rs ts → AllStand counts names (done ++ lines.Dump ∷ []) (clocks ++ k ∷ []) ts (map dumped ss)
+all_dumped counts names done clocks k [] [] [] a h r = tt
+all_dumped counts names done clocks k [] (t ∷ ts) ss a h r = absurd r
+all_dumped counts names done clocks k (x ∷ rs) [] ss a h r = absurd r
+all_dumped counts names done clocks k [] [] (s ∷ ss) a h r = absurd a
+all_dumped counts names done clocks k (x ∷ rs) (t ∷ ts) [] a h r = absurd a
+all_dumped counts names done clocks k (x ∷ rs) (t ∷ ts) (s ∷ ss) a h r =
+    (stands_dumped counts names done clocks x t s a.0 k h.0 r.0, all_dumped counts names done clocks k rs ts ss a.1 h.1 r.1)
+
+-- the clients' answers are those of their last parts
+pub all_told : (counts : Counts) (names : List (List ℕ)) (done : List Line) (clocks : List ℕ) (rs : List Racer) (ss : List Story) → AllStand counts names done clocks rs ss
+    → flat_map (λ r. r.answers.items) rs ≡ flat_map (λ s. s.last.answers) ss
+all_told counts names done clocks [] [] a = refl
+all_told counts names done clocks [] (s ∷ ss) a = absurd a
+all_told counts names done clocks (r ∷ rs) [] a = absurd a
+all_told counts names done clocks (r ∷ rs) (s ∷ ss) a =
+    ap (λ l. l ++ flat_map (λ (x : Racer). x.answers.items) rs) (a.0).told ∙ ap (λ l. (s.last).answers ++ l) (all_told counts names done clocks rs ss a.1)
+
+pub all_parts : (counts : Counts) (names : List (List ℕ)) (done : List Line) (clocks : List ℕ) (rs : List Racer) (ss : List Story) → AllStand counts names done clocks rs ss
+    → AllByRecursion (λ s. length s.ended ≡ length clocks) ss
+all_parts counts names done clocks [] [] a = tt
+all_parts counts names done clocks [] (s ∷ ss) a = absurd a
+all_parts counts names done clocks (r ∷ rs) [] a = absurd a
+all_parts counts names done clocks (r ∷ rs) (s ∷ ss) a = ((a.0).parts, all_parts counts names done clocks rs ss a.1)
+
+-- ---- the answers of the parts that ended
+
+rest : Story → Story
+rest s = record s { ended = later_parts s.ended }
+
+one_less : (ps : List Part) (n : ℕ) → length ps ≡ suc n → length (later_parts ps) ≡ n
+one_less [] n e = absurd (omega arith)
+one_less (p ∷ ps) n e = omega arith
+
+lengths_later : (n : ℕ) (ss : List Story) → AllByRecursion (λ s. length s.ended ≡ suc n) ss → AllByRecursion (λ s. length s.ended ≡ n) (map rest ss)
+unfolding rest
+lengths_later n [] l = tt
+lengths_later n (s ∷ ss) l = (one_less s.ended n l.0, lengths_later n ss l.1)
+
+no_parts : (ps : List Part) → length ps ≡ 0 → ps ≡ []
+no_parts [] e = refl
+no_parts (p ∷ ps) e = absurd (omega arith)
+
+firsts_are : (ss : List Story) → AllByRecursion (λ s. length s.ended ≡ 0) ss → flat_map first_answers (map (λ s. s.ended) (map dumped ss)) ≡ flat_map (λ s. s.last.answers) ss
+firsts_are [] l = refl
+firsts_are (s ∷ ss) l =
+    ap (λ (e : List Part). first_answers (e ++ s.last ∷ []) ++ flat_map first_answers (map (λ (u : Story). u.ended) (map dumped ss))) (no_parts s.ended l.0)
+    ∙ ap (λ x. (s.last).answers ++ x) (firsts_are ss l.1)
+
+first_stays : (ps : List Part) (p : Part) (n : ℕ) → length ps ≡ suc n → first_answers (ps ++ p ∷ []) ≡ first_answers ps
+first_stays [] p n e = absurd (omega arith)
+first_stays (q ∷ qs) p n e = refl
+
+firsts_stay : (n : ℕ) (ss : List Story) → AllByRecursion (λ s. length s.ended ≡ suc n) ss → flat_map first_answers (map (λ s. s.ended) (map dumped ss)) ≡ flat_map first_answers (map (λ s. s.ended) ss)
+firsts_stay n [] l = refl
+firsts_stay n (s ∷ ss) l =
+    ap (λ x. x ++ flat_map first_answers (map (λ (u : Story). u.ended) (map dumped ss))) (first_stays s.ended s.last n l.0)
+    ∙ ap (λ x. first_answers s.ended ++ x) (firsts_stay n ss l.1)
+
+later_stays : (ps : List Part) (p : Part) (n : ℕ) → length ps ≡ suc n → later_parts (ps ++ p ∷ []) ≡ later_parts ps ++ p ∷ []
+later_stays [] p n e = absurd (omega arith)
+later_stays (q ∷ qs) p n e = refl
+
+laters_stay : (n : ℕ) (ss : List Story) → AllByRecursion (λ s. length s.ended ≡ suc n) ss → map later_parts (map (λ s. s.ended) (map dumped ss)) ≡ map (λ s. s.ended) (map dumped (map rest ss))
+unfolding rest
+laters_stay n [] l = refl
+laters_stay n (s ∷ ss) l =
+    ap (λ x. x ∷ map later_parts (map (λ (u : Story). u.ended) (map dumped ss))) (later_stays s.ended s.last n l.0)
+    ∙ ap (λ x. (later_parts s.ended ++ s.last ∷ []) ∷ x) (laters_stay n ss l.1)
+
+rests_are : (ss : List Story) → map later_parts (map (λ s. s.ended) ss) ≡ map (λ s. s.ended) (map rest ss)
+unfolding rest
+rests_are [] = refl
+rests_are (s ∷ ss) = ap (λ x. later_parts s.ended ∷ x) (rests_are ss)
+
+lasts_stay : (ss : List Story) → flat_map (λ s. s.last.answers) (map rest ss) ≡ flat_map (λ s. s.last.answers) ss
+unfolding rest
+lasts_stay [] = refl
+lasts_stay (s ∷ ss) = ap (λ x. (s.last).answers ++ x) (lasts_stay ss)
+
+pub ended_on : (es : List EndedPart) (e : EndedPart) (ss : List Story) → AllByRecursion (λ s. length s.ended ≡ length es) ss → HaveEnded es (map (λ s. s.ended) ss) → e.answers.items ≡ flat_map (λ s. s.last.answers) ss
+    → HaveEnded (es ++ e ∷ []) (map (λ s. s.ended) (map dumped ss))
+ended_on [] e ss l h f = (f ∙ sym (firsts_are ss l), tt)
+ended_on (x ∷ xs) e ss l h f = (
+  h.0 ∙ sym (firsts_stay (length xs) ss l),
+  subst (HaveEnded (xs ++ e ∷ [])) (sym (laters_stay (length xs) ss l))
+      (ended_on xs e (map rest ss) (lengths_later (length xs) ss l) (subst (HaveEnded xs) (rests_are ss) h.1) (f ∙ sym (lasts_stay ss))),
+)

@@ -1,0 +1,16 @@
+pub mod Events
+pub mod Slots
+pub mod RacerLines
+pub mod CrewLines
+pub mod Losses
+pub mod Dealing
+pub mod Parts
+pub mod Mustering
+pub mod Endings
+pub mod Stories
+pub mod Dumps
+pub mod Finished
+pub mod Looping
+pub mod Coming
+pub mod Crossing
+pub mod Playing

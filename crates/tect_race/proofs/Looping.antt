@@ -1,0 +1,230 @@
+-- How far the loop over the parts of a script has come.
+use Rattle.std.proofs.Common.{◌≡◌, ℕ, suc, ◌+◌, ◌<◌, ◌≤◌, Some, List, [], ◌∷◌, ◌++◌, length, length-append, map, count_by, if◌then◌else◌, refl, sym, ap, subst, ◌∙◌, arith, slice_get}
+use Rattle.std.specs.List.{All, AllZip, AllByRecursion, flat_map}
+use Rattle.std.proofs.lemmas.List.Sums.{sum_by-cons}
+use Rattle.std.proofs.lemmas.List.Elements.{All-nil, recursion_from_All}
+use Rattle.tect_ids.specs.declared.ids.Counts.{Counts}
+use Rattle.tect_ids.specs.declared.script.Line.{Line}
+use Rattle.tect_ids.specs.declared.script.Line.TheVariants as lines
+use Rattle.tect_ids.specs.declared.script.ReportLine.{ReportLine}
+use Rattle.place_kit.specs.Moments.{stamp_of}
+use Rattle.world_runs.specs.Turns.{all_idle}
+use Rattle.clients.specs.Lives.{ClientLife, idle_life, events_in, state_in}
+use Rattle.race_runs.specs.Stories.{Story, Part}
+use Rattle.race_runs.specs.Gathered.{IsLineOf, is_dump, answers_now, part_of, rest_of}
+use Rattle.race_runs.proofs.Growing.{no_story, dumped}
+use Rattle.racers.specs.declared.racer.Racer.{Racer}
+use Rattle.racers.specs.Lives.{busy_in}
+use Rattle.race_ends.specs.declared.ended.EndedPart.{EndedPart}
+use Rattle.race_ends.specs.HaveRun.{clocks_of, HasStory, HaveAnswers, HaveRun}
+use Rattle.script_runs.specs.Standing.{AtTurn}
+use Rattle.tect_ids.specs.Places.{HasPlaces}
+use Rattle.tect_race.specs.Lines.{Ran}
+use Rattle.tect_race.specs.Crews.{RacersRan, AllClosed, Closed}
+use Rattle.tect_race.specs.Done.{AreNew, IsScript}
+use Rattle.tect_race.specs.Ready.{AreRacers, IsReady, IsOfClient}
+use Rattle.tect_race.specs.Progress.{Stood}
+use Rattle.tect_race.specs.Standing.{Stands, AllStand, HaveEnded, last_clock, first_answers, later_parts}
+use Rattle.tect_race.proofs.Dumps.{all_grown, all_dumped, all_told, all_parts, ended_on, last_is}
+use Rattle.tect_race.proofs.Mustering.{zip_length, zip_at}
+use Rattle.tect_race.proofs.Finished.{finished}
+use Rattle.tect_race.proofs.Slots.{also_at}
+
+-- ---- before the first line
+
+by_recursion : {A : Type 0} → (P : A → Type 0) (xs : List A) → ((i : ℕ) (x : A) → slice_get xs i ≡ Some x → P x) → AllByRecursion P xs
+by_recursion P [] h = tt
+by_recursion P (x ∷ xs) h = (h 0 x refl, by_recursion P xs (λ i y e. h (suc i) y e))
+
+module _ (counts : Counts) (names : List (List ℕ)) where
+  abbrev Idle : Racer → Type 0
+  Idle r = (a : ℕ) × (r.client ≡ idle_life a counts) × (r.answers.items ≡ [])
+
+  stands_new : (r : Racer) → Idle r → Stands counts names [] [] r (no_story r.client.actor)
+  stands_new r (a, life, none) = record {
+    counts_are = ap (λ (w : ClientLife). w.counts) life;
+    actor = refl;
+    moments = sym (ap (λ (w : ClientLife). w.moments) life);
+    silent = sym (ap (λ (w : ClientLife). w.silent) life);
+    events = sym (ap events_in life);
+    does = (refl, ap busy_in life);
+    timely = All-nil (λ m. 0 < stamp_of m);
+    below = All-nil (λ m. stamp_of m ≤ r.client.clock);
+    floor = omega arith;
+    answers = refl;
+    told = none;
+    parts = refl;
+  }
+
+  all_new : (rs : List Racer) → AllByRecursion Idle rs → AllStand counts names [] [] rs (map (λ r. no_story r.client.actor) rs)
+  all_new [] h = tt
+  all_new (r ∷ rs) h = (stands_new r h.0, all_new rs h.1)
+
+  pub stood_new : (ls : List Line) (rs : List Racer) → AreNew counts (length names) rs → IsScript (length names) ls → Stood counts names [] ls 0 rs []
+  stood_new ls rs new script = record {
+    all = new.count;
+    ready = record {
+      own = λ i r e. ap (λ (w : ClientLife). w.actor) (new.lives i r e);
+      ready = λ i r e.
+          let life = new.lives i r e in
+          let number : (state_in r.client).number ≡ 0 = ap (λ (w : ClientLife). (state_in w).number) life in
+          record {
+            counts_are = ap (λ (w : ClientLife). w.counts) life;
+            turns = all_idle;
+            in_turn = script.in_turn;
+            turn = (ap (λ (w : ClientLife). (state_in w).running) life, ap (λ (w : ClientLife). (state_in w).stopped) life);
+            few = (let f = script.few in omega arith);
+          };
+    };
+    stories = map (λ r. no_story r.client.actor) rs;
+    stand = all_new rs (by_recursion Idle rs (λ i r e. (i + 1, new.lives i r e, new.answers i r e)));
+    ended = tt;
+    dumps = refl;
+    clock_is = refl;
+  }
+
+-- ---- a dump
+
+count_cons : (x : Line) (xs : List Line) → count_by is_dump (x ∷ xs) ≡ (if is_dump x then 1 else 0) + count_by is_dump xs
+count_cons x xs = sum_by-cons (λ (y : Line). if is_dump y then 1 else 0) x xs
+
+pub count-append : (xs ys : List Line) → count_by is_dump (xs ++ ys) ≡ count_by is_dump xs + count_by is_dump ys
+count-append [] ys = omega arith
+count-append (x ∷ xs) ys =
+    let h = count-append xs ys in
+    let a = count_cons x (xs ++ ys) in
+    let b = count_cons x xs in
+    omega arith
+
+pub no_dumps : (n : ℕ) (ls : List Line) → AllByRecursion (IsOfClient n) ls → count_by is_dump ls ≡ 0
+no_dumps n [] h = refl
+no_dumps n (lines.Client client actor act ∷ ls) h =
+    let first : count_by is_dump (lines.Client client actor act ∷ ls) ≡ 0 + count_by is_dump ls = count_cons (lines.Client client actor act) ls in
+    let rest = no_dumps n ls h.1 in
+    omega arith
+no_dumps n (lines.Dump ∷ ls) h = absurd h.0
+no_dumps n (lines.Store counts ∷ ls) h = absurd h.0
+no_dumps n (lines.Sweep ∷ ls) h = absurd h.0
+no_dumps n (lines.Lose disk ∷ ls) h = absurd h.0
+
+ready_closed : (counts : Counts) (ls : List Line) (k : ℕ) (r t : Racer) → Closed k r t → IsReady counts (lines.Dump ∷ ls) r → IsReady counts ls t
+ready_closed counts ls k r t closed ready = record {
+  counts_are = ap (λ (w : ClientLife). w.counts) closed.client ∙ ready.counts_are;
+  turns = ready.turns;
+  in_turn = ready.in_turn;
+  turn = subst (λ (w : ClientLife). AtTurn (ready.turns w.actor) (state_in w)) (sym closed.client) ready.turn;
+  few = (let f = ready.few in let n = ap (λ (w : ClientLife). (state_in w).number) closed.client in omega arith);
+}
+
+ready_all : (counts : Counts) (ls : List Line) (k : ℕ) (rs ts : List Racer) → AllClosed k rs ts → AreRacers counts (lines.Dump ∷ ls) rs → AreRacers counts ls ts
+ready_all counts ls k rs ts closed racers = record {
+  own = λ i t e.
+      let r = also_at ts rs i t e (sym (zip_length (Closed k) rs ts closed)) in
+      ap (λ (w : ClientLife). w.actor) (zip_at (Closed k) rs ts i r.0 t closed r.1 e).client ∙ racers.own i r.0 r.1;
+  ready = λ i t e.
+      let r = also_at ts rs i t e (sym (zip_length (Closed k) rs ts closed)) in
+      ready_closed counts ls k r.0 t (zip_at (Closed k) rs ts i r.0 t closed r.1 e) (racers.ready i r.0 r.1);
+}
+
+lengths_of : (n m : ℕ) (ss : List Story) → n ≡ m → AllByRecursion (λ s. length s.ended ≡ n) ss → AllByRecursion (λ s. length s.ended ≡ m) ss
+lengths_of n m ss e l = subst (λ k. AllByRecursion (λ (s : Story). length s.ended ≡ k) ss) e l
+
+clocks-append : (es : List EndedPart) (e : EndedPart) → clocks_of (es ++ e ∷ []) ≡ clocks_of es ++ e.clock ∷ []
+clocks-append [] e = refl
+clocks-append (x ∷ xs) e = ap (λ l. x.clock ∷ l) (clocks-append xs e)
+
+length_clocks : (es : List EndedPart) → length (clocks_of es) ≡ length es
+length_clocks [] = refl
+length_clocks (x ∷ xs) = ap suc (length_clocks xs)
+
+all_finished : (counts : Counts) (names : List (List ℕ)) (ls : List Line) (clocks : List ℕ) (k : ℕ) (rs ts : List Racer) (ss : List Story) → AllStand counts names ls clocks rs ss → AllClosed k rs ts
+    → AllZip (HasStory counts names ls clocks) ts ss
+all_finished counts names ls clocks k [] [] [] a r = tt
+all_finished counts names ls clocks k [] (t ∷ ts) ss a r = absurd r
+all_finished counts names ls clocks k (x ∷ rs) [] ss a r = absurd r
+all_finished counts names ls clocks k [] [] (s ∷ ss) a r = absurd a
+all_finished counts names ls clocks k (x ∷ rs) (t ∷ ts) [] a r = absurd a
+all_finished counts names ls clocks k (x ∷ rs) (t ∷ ts) (s ∷ ss) a r = (finished counts names ls clocks k x t s a.0 r.0, all_finished counts names ls clocks k rs ts ss a.1 r.1)
+
+later_is : (ps : List Part) → later_parts ps ≡ elim ps [ [] ↦ [] | p ∷ qs ↦ qs ]
+later_is [] = refl
+later_is (p ∷ ps) = refl
+
+rests_of : (ss : List Story) → map later_parts (map (λ s. s.ended) ss) ≡ map (λ s. s.ended) (map rest_of ss)
+rests_of [] = refl
+rests_of (s ∷ ss) = ap (λ e. e ∷ map later_parts (map (λ (u : Story). u.ended) ss)) (later_is s.ended) ∙ ap (λ l. (rest_of s).ended ∷ l) (rests_of ss)
+
+lasts_of : (ss : List Story) → flat_map (λ s. s.last.answers) (map rest_of ss) ≡ flat_map (λ s. s.last.answers) ss
+lasts_of [] = refl
+lasts_of (s ∷ ss) = ap (λ x. (s.last).answers ++ x) (lasts_of ss)
+
+rest_length : (ps : List Part) (n : ℕ) → length ps ≡ suc n → length (later_parts ps) ≡ n
+rest_length [] n e = absurd (omega arith)
+rest_length (p ∷ ps) n e = omega arith
+
+rest_lengths : (n : ℕ) (ss : List Story) → AllByRecursion (λ s. length s.ended ≡ suc n) ss → AllByRecursion (λ s. length s.ended ≡ n) (map rest_of ss)
+rest_lengths n [] l = tt
+rest_lengths n (s ∷ ss) l = (ap (λ (e : List Part). length e) (sym (later_is s.ended)) ∙ rest_length s.ended n l.0, rest_lengths n ss l.1)
+
+first_is : (ps : List Part) (last : Part) (n : ℕ) → length ps ≡ suc n → first_answers ps ≡ (let p : Part = elim ps [ [] ↦ last | p ∷ qs ↦ p ] in p.answers)
+first_is [] last n e = absurd (omega arith)
+first_is (p ∷ ps) last n e = refl
+
+firsts_of : (n : ℕ) (ss : List Story) → AllByRecursion (λ s. length s.ended ≡ suc n) ss → flat_map first_answers (map (λ s. s.ended) ss) ≡ answers_now ss
+firsts_of n [] l = refl
+firsts_of n (s ∷ ss) l = ap (λ x. x ++ flat_map first_answers (map (λ (u : Story). u.ended) ss)) (first_is s.ended s.last n l.0) ∙ ap (λ x. (part_of s).answers ++ x) (firsts_of n ss l.1)
+
+have_answers : (es : List EndedPart) (last : List ReportLine) (ss : List Story) → AllByRecursion (λ s. length s.ended ≡ length es) ss → HaveEnded es (map (λ s. s.ended) ss) → last ≡ flat_map (λ s. s.last.answers) ss → HaveAnswers es last ss
+have_answers [] last ss l h f = f
+have_answers (x ∷ xs) last ss l h f = (
+  h.0 ∙ firsts_of (length xs) ss l,
+  have_answers xs last (map rest_of ss) (rest_lengths (length xs) ss l) (subst (HaveEnded xs) (rests_of ss) h.1) (f ∙ sym (lasts_of ss)),
+)
+
+module _ (counts : Counts) (names : List (List ℕ)) (done left part : List Line) (clock : ℕ) (rs ts us : List Racer) (es : List EndedPart) (stood : Stood counts names done left clock rs es) (ran : RacersRan names part rs ts) where
+  abbrev grown : (vs : List Story) × AllStand counts names (done ++ part) (clocks_of es) ts vs × (map (λ s. s.ended) vs ≡ map (λ s. s.ended) stood.stories)
+  grown = all_grown counts names done part (clocks_of es) rs ts stood.stories stood.stand ran
+
+  lengths : AllByRecursion (λ s. length s.ended ≡ length es) grown.0
+  lengths = lengths_of (length (clocks_of es)) (length es) grown.0 (length_clocks es) (all_parts counts names (done ++ part) (clocks_of es) ts grown.0 grown.1)
+
+  ended_still : HaveEnded es (map (λ s. s.ended) grown.0)
+  ended_still = subst (HaveEnded es) (sym grown.2) stood.ended
+
+  pub as_many : length ts ≡ length names
+  as_many = zip_length (Ran names part) rs ts ran ∙ stood.all
+
+  pub stood_on : (later : List Line) (e : EndedPart) → AreRacers counts (lines.Dump ∷ later) ts → AllByRecursion (IsOfClient (length names)) part → All (λ r. r.client.clock ≤ e.clock) ts → AllClosed e.clock ts us
+      → e.answers.items ≡ flat_map (λ r. r.answers.items) ts → Stood counts names ((done ++ part) ++ lines.Dump ∷ []) later e.clock us (es ++ e ∷ [])
+  stood_on later e ready own high closed told = record {
+    all = zip_length (Closed e.clock) ts us closed ∙ as_many;
+    ready = ready_all counts later e.clock ts us closed ready;
+    stories = map dumped grown.0;
+    stand = subst (λ (ks : List ℕ). AllStand counts names ((done ++ part) ++ lines.Dump ∷ []) ks us (map dumped grown.0)) (sym (clocks-append es e))
+        (all_dumped counts names (done ++ part) (clocks_of es) e.clock ts us grown.0 grown.1 (recursion_from_All (λ r. r.client.clock ≤ e.clock) ts high) closed);
+    ended = ended_on es e grown.0 lengths ended_still (told ∙ all_told counts names (done ++ part) (clocks_of es) ts grown.0 grown.1);
+    dumps = (
+        let a = count-append (done ++ part) (lines.Dump ∷ []) in
+        let b = count-append done part in
+        let n = no_dumps (length names) part own in
+        let one : count_by is_dump (lines.Dump ∷ []) ≡ 1 = count_cons lines.Dump [] in
+        let d = stood.dumps in
+        let l = length-append es (e ∷ []) in
+        omega arith);
+    clock_is = ap (last_clock 0) (clocks-append es e) ∙ last_is 0 e.clock (clocks_of es);
+  }
+
+  pub run_ended : (later : List Line) (k : ℕ) (last : List ReportLine) → HasPlaces counts → All (IsLineOf (length names)) (done ++ part) → AreRacers counts later ts → AllByRecursion (IsOfClient (length names)) part → AllClosed k ts us
+      → last ≡ flat_map (λ r. r.answers.items) ts → HaveRun counts names (done ++ part) us es last
+  run_ended later k last places asked ready own closed told = record {
+    places = places;
+    asked = asked;
+    dumps = (let b = count-append done part in let n = no_dumps (length names) part own in let d = stood.dumps in omega arith);
+    number = zip_length (Closed k) ts us closed ∙ as_many;
+    numbered = λ i t e.
+        let r = also_at us ts i t e (sym (zip_length (Closed k) ts us closed)) in
+        ap (λ (w : ClientLife). w.actor) (zip_at (Closed k) ts us i r.0 t closed r.1 e).client ∙ ready.own i r.0 r.1;
+    stories = grown.0;
+    each = all_finished counts names (done ++ part) (clocks_of es) k ts us grown.0 grown.1 closed;
+    answers = have_answers es last grown.0 lengths ended_still (told ∙ all_told counts names (done ++ part) (clocks_of es) ts grown.0 grown.1);
+  }

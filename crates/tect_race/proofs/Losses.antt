@@ -1,0 +1,66 @@
+-- A client that is astray found another machine than the one that its place was started with.
+use Rattle.std.proofs.Common.{◌≡◌, ◌≢◌, ℕ, ◌+◌, ◌%◌, ◌<◌, ◌≤◌, Result, Ok, Err, IfErr, IsOk, refl, sym, ap, subst, ◌∙◌, arith}
+use Rattle.tect_ids.specs.declared.ids.Counts.{Counts}
+use Rattle.tect_ids.specs.Places.{HasPlaces, id_hash}
+use Rattle.store_rules.specs.declared.any.AnyReq.{AnyReq}
+use Rattle.store_rules.specs.declared.any.AnyReq.TheVariants as any
+use Rattle.store_rules.specs.Places.{request_place, dir_of, file_of}
+use Rattle.place_kit.specs.declared.entry.Entry.{Entry}
+use Rattle.place_kit.specs.declared.entry.Label.{Label}
+use Rattle.place_kit.specs.declared.entry.Refused.{Refused}
+use Rattle.place_kit.specs.Started.{started_label}
+use Rattle.place_locks.specs.Commits.{IsRefusalFor}
+use Rattle.place_locks.specs.Started.{label_at}
+use Rattle.racers.specs.declared.fault.RacerFault.{RacerFault}
+use Rattle.racers.specs.declared.fault.RacerFault.TheVariants as racer_faults
+use Rattle.racers.specs.Lines.{IsFaultOf}
+use Rattle.racers.specs.Steps.{FoundAstray}
+use Rattle.race_ends.specs.declared.fault.RaceFault.{RaceFault}
+use Rattle.race_ends.specs.declared.fault.RaceFault.TheVariants as faults
+use Rattle.race_ends.specs.Faults.{IsLossOf, IsRaceFault}
+use Rattle.race_ends.proofs.Losses.{loss_is_fault}
+use Rattle.tect_race.specs.Faults.{race_result}
+
+within_names : (x n m : ℕ) → 1 ≤ n → 0 + x % n < n + m
+within_names x n m some = omega arith
+
+within_files : (x n m : ℕ) → 1 ≤ m → n + x % m < n + m
+within_files x n m some = omega arith
+
+request_within : (c : Counts) (q : AnyReq) → HasPlaces c → (request_place c q).0 < c.names + c.files
+request_within c (any.Name q) places = within_names (id_hash (dir_of q).0) c.names c.files places.names.0
+request_within c (any.File q) places = within_files (id_hash (file_of q).0) c.names c.files places.files.0
+
+-- what a commit at locked places says, by their counts
+abbrev pub CommitsAt : {W : Type 0} → (counts_of : W → Counts) → W → W → ℕ → AnyReq → Result Entry Refused → Type 0
+CommitsAt counts_of w v clock asked result = IfErr result (IsRefusalFor (label_at (counts_of w) (request_place (counts_of w) asked).0))
+
+found_other : {W : Type 0} → (counts_of : W → Counts) (c : Counts) (want found : Label) → HasPlaces c → FoundAstray counts_of (CommitsAt counts_of) c want found → IsLossOf c (faults.Astray want found)
+found_other counts_of c want found places (w, v, clock, asked, same, said) =
+    let is : want ≡ started_label c (request_place c asked).0 = said.0 ∙ ap (λ (k : Counts). started_label k (request_place k asked).0) same in
+    let at : want.place.0 ≡ (request_place c asked).0 = ap (λ (l : Label). l.place.0) is in
+    (subst (λ n. n < c.names + c.files) (sym at) (request_within c asked places), is ∙ ap (started_label c) (sym at), said.1)
+
+lost : {W : Type 0} → (counts_of : W → Counts) (c : Counts) (played : Result (Unit {0}) RacerFault) → HasPlaces c → IfErr played (IsFaultOf counts_of (CommitsAt counts_of) c) → IfErr (race_result played) (IsLossOf c)
+lost counts_of c (Ok done) places f = tt
+lost counts_of c (Err racer_faults.NoMemory) places f = tt
+lost counts_of c (Err (racer_faults.Astray want found)) places f = found_other counts_of c want found places f
+
+pub lost_racer : {W : Type 0} → (counts_of : W → Counts) (c : Counts) (played : Result (Unit {0}) RacerFault) (result : Result (Unit {0}) RaceFault) → HasPlaces c → result ≡ race_result played
+    → IfErr played (IsFaultOf counts_of (CommitsAt counts_of) c) → IfErr result (IsLossOf c)
+lost_racer counts_of c played result places is f = subst (λ (r : Result (Unit {0}) RaceFault). IfErr r (IsLossOf c)) (sym is) (lost counts_of c played places f)
+
+came : (played : Result (Unit {0}) RacerFault) → IsOk (race_result played) → IsOk played
+came (Ok done) h = refl
+came (Err fault) h = absurd (cc)
+
+pub played_too : (played : Result (Unit {0}) RacerFault) (result : Result (Unit {0}) RaceFault) → result ≡ race_result played → IsOk result → IsOk played
+played_too played result is h = came played (subst IsOk is h)
+
+pub if_err : {A E : Type 0} → {P Q : E → Type 0} → (o : Result A E) → ((e : E) → P e → Q e) → IfErr o P → IfErr o Q
+if_err (Ok v) f h = tt
+if_err (Err e) f h = f e h
+
+-- what a part lost ends the race
+pub ended_by_loss : {A : Type 0} → (b c : Counts) (o : Result A RaceFault) → b ≡ c → IfErr o (IsLossOf b) → IfErr o (IsRaceFault c)
+ended_by_loss b c o same h = if_err o (loss_is_fault c) (subst (λ k. IfErr o (IsLossOf k)) same h)

@@ -1,0 +1,215 @@
+-- The clients of all crews, before and behind some lines.
+use Rattle.std.proofs.Common.{◌≡◌, ◌≢◌, ℕ, zero, suc, ◌+◌, ◌*◌, ◌/◌, ◌%◌, ◌<◌, ◌≤◌, ◌↔◌, Option, Some, None, Result, Ok, Err, IfOk, IfErr, List, [], ◌∷◌, ◌++◌, length, map, get_or, refl, sym, ap, subst, ◌∙◌, arith, slice_get}
+use Rattle.std.specs.List.{AllZip, All, AllByRecursion}
+use Rattle.std.proofs.lemmas.List.Elements.{All-from_recursion, recursion_from_All}
+use Rattle.std.proofs.lemmas.Option.{slice_get_within, slice_get-get_or, get_or_from_slice_get}
+use Rattle.std.proofs.Math.Nat.{mod-lt}
+use Rattle.tect_ids.specs.declared.ids.Counts.{Counts}
+use Rattle.tect_ids.specs.declared.script.Line.{Line}
+use Rattle.racers.specs.declared.racer.Racer.{Racer}
+use Rattle.tect_race.specs.declared.crew.Crew.{Crew}
+use Rattle.race_ends.specs.declared.fault.RaceFault.{RaceFault}
+use Rattle.race_ends.specs.Faults.{IsLossOf}
+use Rattle.tect_race.specs.Lines.{Ran}
+use Rattle.tect_race.specs.Crews.{CrewRan, CrewEnds, CrewCame, CrewsRan, RacersRan}
+use Rattle.tect_race.specs.Ready.{IsReady, IsCrew, AreRacers, AreCrews, AreDealt}
+use Rattle.tect_race.proofs.Slots.{also_at, same_at, some_at, stands, place_crew, place_slot}
+
+-- ---- lists place by place
+
+pub zip_length : {A B : Type 0} → (R : A → B → Type 0) (xs : List A) (ys : List B) → AllZip R xs ys → length ys ≡ length xs
+zip_length R [] [] z = refl
+zip_length R [] (y ∷ ys) z = absurd z
+zip_length R (x ∷ xs) [] z = absurd z
+zip_length R (x ∷ xs) (y ∷ ys) z = ap suc (zip_length R xs ys z.1)
+
+pub zip_at : {A B : Type 0} → (R : A → B → Type 0) (xs : List A) (ys : List B) (n : ℕ) (x : A) (y : B) → AllZip R xs ys → slice_get xs n ≡ Some x → slice_get ys n ≡ Some y → R x y
+zip_at R [] [] n x y z e f = (let l = slice_get_within {A = _} [] n x e in absurd (omega arith))
+zip_at R [] (b ∷ ys) n x y z e f = absurd z
+zip_at R (a ∷ xs) [] n x y z e f = absurd z
+zip_at R (a ∷ xs) (b ∷ ys) zero x y z e f = subst (λ v. R v y) (same_at (a ∷ xs) 0 a x refl e) (subst (λ w. R a w) (same_at (b ∷ ys) 0 b y refl f) z.0)
+zip_at R (a ∷ xs) (b ∷ ys) (suc n) x y z e f = zip_at R xs ys n x y z.1 e f
+
+pub zip_from : {A B : Type 0} → (R : A → B → Type 0) (xs : List A) (ys : List B) → length ys ≡ length xs
+    → ((n : ℕ) (x : A) (y : B) → slice_get xs n ≡ Some x → slice_get ys n ≡ Some y → R x y) → AllZip R xs ys
+zip_from R [] [] l h = tt
+zip_from R [] (y ∷ ys) l h = absurd (omega arith)
+zip_from R (x ∷ xs) [] l h = absurd (omega arith)
+zip_from R (x ∷ xs) (y ∷ ys) l h = (h 0 x y refl refl, zip_from R xs ys (omega arith) (λ n a b e f. h (suc n) a b e f))
+
+pub all_at : {A : Type 0} → (P : A → Type 0) (xs : List A) (n : ℕ) (x : A) → All P xs → slice_get xs n ≡ Some x → P x
+all_at P xs n x all e = subst P (get_or_from_slice_get xs n x x e) (all n x (slice_get_within xs n x e))
+
+pub all_from : {A : Type 0} → (P : A → Type 0) (xs : List A) → ((n : ℕ) (x : A) → slice_get xs n ≡ Some x → P x) → All P xs
+all_from P xs h = λ n d l. h n (get_or xs n d) (slice_get-get_or xs n d l)
+
+tabulated : {A : Type 0} → (a : A) (xs : List A) (P : ℕ → A → Type 0) → P 0 a → ((i : ℕ) (x : A) → slice_get xs i ≡ Some x → P (suc i) x) → (i : ℕ) (x : A) → slice_get (a ∷ xs) i ≡ Some x → P i x
+tabulated a xs P p h zero x e = subst (P 0) (same_at (a ∷ xs) 0 a x refl e) p
+tabulated a xs P p h (suc i) x e = h i x e
+
+tabulate : {A : Type 0} → (n : ℕ) (P : ℕ → A → Type 0) → ((i : ℕ) → i < n → (a : A) × P i a) → (xs : List A) × (length xs ≡ n) × ((i : ℕ) (a : A) → slice_get xs i ≡ Some a → P i a)
+tabulate {A} zero P h = ([], refl, λ i a e. (let l = slice_get_within {A = A} [] i a e in absurd (omega arith)))
+tabulate {A} (suc n) P h =
+    let first = h 0 (omega arith) in
+    let rest = tabulate n (λ i. P (suc i)) (λ i l. h (suc i) (omega arith)) in
+    (first.0 ∷ rest.0, ap suc rest.1, tabulated first.0 rest.0 P first.1 rest.2)
+
+-- ---- the clients after the lines
+
+module _ (w : ℕ) (pos : 0 < w) (names : List (List ℕ)) (ls : List Line) (rs : List Racer) (cs ds : List Crew) (dealt : AreDealt w rs cs) (ran : CrewsRan names ls cs ds) where
+  -- it stands there
+  record IsAt (i : ℕ) (t : Racer) : Type 0 where
+    crew : Crew
+    there : slice_get ds (i % w) ≡ Some crew
+    slot : slice_get crew.racers.items (i / w) ≡ Some t
+
+  crews_are : length ds ≡ w
+  crews_are = zip_length (CrewRan names ls) cs ds ran ∙ dealt.count
+
+  find : (i : ℕ) → i < length rs → (t : Racer) × IsAt i t
+  find i l =
+      let low : i % w < w = mod-lt i pos in
+      let c = some_at cs (i % w) (let e = dealt.count in omega arith) in
+      let d = also_at cs ds (i % w) c.0 c.1 (zip_length (CrewRan names ls) cs ds ran) in
+      let same = (zip_at (CrewRan names ls) cs ds (i % w) c.0 d.0 ran c.1 d.1).count in
+      let there = (dealt.filled (i % w) c.0 c.1 (i / w)).1 (let s = stands w i in omega arith) in
+      let t = some_at (d.0).racers.items (i / w) (omega arith) in
+      (t.0, record { crew = d.0; there = d.1; slot = t.1 })
+
+  abbrev found : (ts : List Racer) × (length ts ≡ length rs) × ((i : ℕ) (t : Racer) → slice_get ts i ≡ Some t → IsAt i t)
+  found = tabulate (length rs) IsAt find
+
+  pub after : List Racer
+  after = found.0
+
+  pub after_length : length after ≡ length rs
+  unfolding after
+  after_length = found.1
+
+  after_at : (i : ℕ) (t : Racer) → slice_get after i ≡ Some t → IsAt i t
+  unfolding after
+  after_at = found.2
+
+  after_each : (k : ℕ) (d : Crew) → slice_get ds k ≡ Some d → (slot : ℕ) (t : Racer) → slice_get d.racers.items slot ≡ Some t → slice_get after (slot * w + k) ≡ Some t
+  after_each k d e slot t f =
+      let low : k < w = (let l = slice_get_within ds k d e in let s = crews_are in omega arith) in
+      let c = also_at ds cs k d e (sym (zip_length (CrewRan names ls) cs ds ran)) in
+      let same = (zip_at (CrewRan names ls) cs ds k c.0 d ran c.1 e).count in
+      let within = (dealt.filled k c.0 c.1 slot).0 (let l = slice_get_within d.racers.items slot t f in omega arith) in
+      let u = some_at after (slot * w + k) (let l = after_length in omega arith) in
+      let at = after_at (slot * w + k) u.0 u.1 in
+      let there : slice_get ds k ≡ Some at.crew = subst (λ i. slice_get ds i ≡ Some at.crew) (place_crew w k slot low) at.there in
+      let is : at.crew ≡ d = same_at ds k at.crew d there e in
+      let place : slice_get (at.crew).racers.items slot ≡ Some u.0 = subst (λ i. slice_get (at.crew).racers.items i ≡ Some u.0) (place_slot w k slot low) at.slot in
+      let own : u.0 ≡ t = same_at d.racers.items slot u.0 t (subst (λ (x : Crew). slice_get x.racers.items slot ≡ Some u.0) is place) f in
+      u.1 ∙ ap Some own
+
+  pub after_dealt : AreDealt w after ds
+  after_dealt = record {
+    count = crews_are;
+    numbers = λ k d e.
+        let c = also_at ds cs k d e (sym (zip_length (CrewRan names ls) cs ds ran)) in
+        (zip_at (CrewRan names ls) cs ds k c.0 d ran c.1 e).number ∙ dealt.numbers k c.0 c.1;
+    filled = λ k d e slot.
+        let c = also_at ds cs k d e (sym (zip_length (CrewRan names ls) cs ds ran)) in
+        let same = (zip_at (CrewRan names ls) cs ds k c.0 d ran c.1 e).count in
+        let old = dealt.filled k c.0 c.1 slot in
+        let l = after_length in
+        (λ h. (let o = old.0 (omega arith) in omega arith), λ h. (let o = old.1 (omega arith) in omega arith));
+    each = after_each;
+  }
+
+  ran_at : (i : ℕ) (r t : Racer) → slice_get rs i ≡ Some r → slice_get after i ≡ Some t → Ran names ls r t
+  ran_at i r t e f =
+      let at = after_at i t f in
+      let c = also_at ds cs (i % w) at.crew at.there (sym (zip_length (CrewRan names ls) cs ds ran)) in
+      let both = zip_at (CrewRan names ls) cs ds (i % w) c.0 at.crew ran c.1 at.there in
+      let s = also_at (at.crew).racers.items (c.0).racers.items (i / w) t at.slot (sym both.count) in
+      let old : slice_get rs i ≡ Some s.0 = subst (λ k. slice_get rs k ≡ Some s.0) (stands w i) (dealt.each (i % w) c.0 c.1 (i / w) s.0 s.1) in
+      subst (λ (x : Racer). Ran names ls x t) (same_at rs i s.0 r old e) (both.each (i / w) s.0 t s.1 at.slot)
+
+  pub after_ran : RacersRan names ls rs after
+  after_ran = zip_from (Ran names ls) rs after after_length ran_at
+
+  pub after_ready : (counts : Counts) (clients : ℕ) (later : List Line) → AreCrews counts clients w later ds → AreRacers counts later after
+  after_ready counts clients later crews = record {
+    own = λ i t f.
+        let at = after_at i t f in
+        let crew = all_at (IsCrew counts clients w later) ds (i % w) at.crew crews.crews at.there in
+        let number = crews.numbers (i % w) at.crew at.there in
+        crew.own (i / w) t at.slot ∙ ap (λ k. i / w * w + k + 1) number ∙ ap (λ k. k + 1) (stands w i);
+    ready = λ i t f.
+        let at = after_at i t f in
+        (all_at (IsCrew counts clients w later) ds (i % w) at.crew crews.crews at.there).ready (i / w) t at.slot;
+  }
+
+-- ---- the crews before the lines
+
+pub crews_dealt : (counts : Counts) (w : ℕ) (ls : List Line) (rs : List Racer) (cs : List Crew) → AreRacers counts ls rs → AreDealt w rs cs → AreCrews counts (length rs) w ls cs
+crews_dealt counts w ls rs cs racers dealt = record {
+  count = dealt.count;
+  numbers = dealt.numbers;
+  crews = all_from (IsCrew counts (length rs) w ls) cs (λ k c e.
+      let number = dealt.numbers k c e in
+      record {
+        number = (let l = slice_get_within cs k c e in let s = dealt.count in omega arith);
+        filled = λ slot. subst (λ j. (slot < length c.racers.items) ↔ (slot * w + j < length rs)) (sym number) (dealt.filled k c e slot);
+        own = λ slot r f. racers.own (slot * w + k) r (dealt.each k c e slot r f) ∙ ap (λ j. slot * w + j + 1) (sym number);
+        ready = λ slot r f. racers.ready (slot * w + k) r (dealt.each k c e slot r f);
+      });
+}
+
+-- ---- what the workers came to
+
+pub all_came : (counts : Counts) (names : List (List ℕ)) (w : ℕ) (ls later : List Line) (cs : List Crew) (rs : List (Result Crew RaceFault)) → length rs ≡ length cs
+    → ((i : ℕ) (c : Crew) (r : Result Crew RaceFault) → i < length cs → CrewCame counts names w ls later (get_or cs i c) (get_or rs i r)) → AllZip (CrewCame counts names w ls later) cs rs
+all_came counts names w ls later cs rs l h =
+    zip_from (CrewCame counts names w ls later) cs rs l (λ i c r e f.
+        subst (λ (x : Crew). CrewCame counts names w ls later x r) (get_or_from_slice_get cs i c c e)
+            (subst (λ (y : Result Crew RaceFault). CrewCame counts names w ls later (get_or cs i c) y) (get_or_from_slice_get rs i r r f) (h i c r (slice_get_within cs i c e))))
+
+stray_of : (counts : Counts) (names : List (List ℕ)) (w : ℕ) (ls later : List Line) (c : Crew) (r : Result Crew RaceFault) → CrewCame counts names w ls later c r → IfErr r (IsLossOf counts)
+stray_of counts names w ls later c (Ok d) came = tt
+stray_of counts names w ls later c (Err e) came = came.so
+
+came_strays : (counts : Counts) (names : List (List ℕ)) (w : ℕ) (ls later : List Line) (cs : List Crew) (rs : List (Result Crew RaceFault)) → AllZip (CrewCame counts names w ls later) cs rs → AllByRecursion (λ r. IfErr r (IsLossOf counts)) rs
+came_strays counts names w ls later [] [] z = tt
+came_strays counts names w ls later [] (r ∷ rs) z = absurd z
+came_strays counts names w ls later (c ∷ cs) [] z = absurd z
+came_strays counts names w ls later (c ∷ cs) (r ∷ rs) z = (stray_of counts names w ls later c r z.0, came_strays counts names w ls later cs rs z.1)
+
+pub strays : (counts : Counts) (names : List (List ℕ)) (w : ℕ) (ls later : List Line) (cs : List Crew) (rs : List (Result Crew RaceFault)) → AllZip (CrewCame counts names w ls later) cs rs → All (λ r. IfErr r (IsLossOf counts)) rs
+strays counts names w ls later cs rs z = All-from_recursion (λ r. IfErr r (IsLossOf counts)) rs (came_strays counts names w ls later cs rs z)
+
+ended_by : (counts : Counts) (names : List (List ℕ)) (w : ℕ) (ls later : List Line) (cs ds : List Crew) → AllZip (CrewCame counts names w ls later) cs (map Ok ds) → AllZip (CrewEnds counts names w ls later) cs ds
+ended_by counts names w ls later [] [] z = tt
+ended_by counts names w ls later [] (d ∷ ds) z = absurd z
+ended_by counts names w ls later (c ∷ cs) [] z = absurd z
+ended_by counts names w ls later (c ∷ cs) (d ∷ ds) z = ((z.0).so, ended_by counts names w ls later cs ds z.1)
+
+pub all_ended : (counts : Counts) (names : List (List ℕ)) (w : ℕ) (ls later : List Line) (cs : List Crew) (rs : List (Result Crew RaceFault)) (ds : List Crew) → AllZip (CrewCame counts names w ls later) cs rs → map Ok ds ≡ rs
+    → AllZip (CrewEnds counts names w ls later) cs ds
+all_ended counts names w ls later cs rs ds z e = ended_by counts names w ls later cs ds (subst (λ (l : List (Result Crew RaceFault)). AllZip (CrewCame counts names w ls later) cs l) (sym e) z)
+
+pub ended_ran : (counts : Counts) (names : List (List ℕ)) (w : ℕ) (ls later : List Line) (cs ds : List Crew) → AllZip (CrewEnds counts names w ls later) cs ds → CrewsRan names ls cs ds
+ended_ran counts names w ls later [] [] z = tt
+ended_ran counts names w ls later [] (d ∷ ds) z = absurd z
+ended_ran counts names w ls later (c ∷ cs) [] z = absurd z
+ended_ran counts names w ls later (c ∷ cs) (d ∷ ds) z = ((z.0).ran, ended_ran counts names w ls later cs ds z.1)
+
+pub ended_ready : (counts : Counts) (names : List (List ℕ)) (w : ℕ) (ls ks later : List Line) (cs ds : List Crew) → AreCrews counts (length names) w ks cs → AllZip (CrewEnds counts names w ls later) cs ds → AreCrews counts (length names) w later ds
+ended_ready counts names w ls ks later cs ds crews z =
+    let same = zip_length (CrewEnds counts names w ls later) cs ds z in
+    record {
+      count = same ∙ crews.count;
+      numbers = λ k d e.
+          let c = also_at ds cs k d e (sym same) in
+          (zip_at (CrewEnds counts names w ls later) cs ds k c.0 d z c.1 e).ran.number ∙ crews.numbers k c.0 c.1;
+      crews = all_from (IsCrew counts (length names) w later) ds (λ k d e.
+          let c = also_at ds cs k d e (sym same) in
+          (zip_at (CrewEnds counts names w ls later) cs ds k c.0 d z c.1 e).ready);
+    }
+
+pub if_ok : {A E : Type 0} → {P Q : A → Type 0} → (o : Result A E) → ((v : A) → P v → Q v) → IfOk o P → IfOk o Q
+if_ok (Ok v) f h = f v h
+if_ok (Err e) f h = tt

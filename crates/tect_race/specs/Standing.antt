@@ -1,0 +1,56 @@
+-- How far the clients of a race have come, each with its story so far.
+use Rattle.std.specs.Prelude.{◌≡◌, ℕ, ◌≤◌, None, List, [], ◌∷◌, ◌++◌, filter, map, length}
+use Rattle.std.specs.List.{All, AllZip, flat_map}
+use Rattle.tect_ids.specs.declared.ids.Counts.{Counts}
+use Rattle.tect_ids.specs.declared.script.Line.{Line}
+use Rattle.tect_ids.specs.declared.script.ReportLine.{ReportLine}
+use Rattle.place_kit.specs.Moments.{stamp_of}
+use Rattle.world_runs.specs.declared.event.Event.{Event}
+use Rattle.world_runs.specs.Races.{line_concerns}
+use Rattle.noted_runs.specs.ClientLines.{DoesLines}
+use Rattle.clients.specs.Lives.{events_in}
+use Rattle.race_runs.specs.Stories.{Part, Story, Timely, Answers, all_moments, all_events, with_dumps}
+use Rattle.racers.specs.declared.racer.Racer.{Racer}
+use Rattle.racers.specs.Lives.{busy_in}
+use Rattle.race_ends.specs.declared.ended.EndedPart.{EndedPart}
+
+-- the events of the ops that were refused
+abbrev pub all_silent : List Part → Part → List Event
+all_silent [] last = last.silent
+all_silent (p ∷ ps) last = p.silent ++ all_silent ps last
+
+abbrev pub last_clock : ℕ → List ℕ → ℕ
+last_clock low [] = low
+last_clock low (k ∷ ks) = last_clock k ks
+
+-- The story tells what the client noted and was refused in these lines, and the racer has the answers of the story's last part.
+pub record Stands (counts : Counts) (names : List (List ℕ)) (done : List Line) (clocks : List ℕ) (r : Racer) (s : Story) : Type 0 where
+  pub counts_are : r.client.counts ≡ counts
+  pub actor : s.actor ≡ r.client.actor
+  pub moments : all_moments s.ended s.last ≡ r.client.moments
+  pub silent : all_silent s.ended s.last ≡ r.client.silent
+  pub events : all_events s.ended s.last ≡ events_in r.client
+  pub does : DoesLines s.actor None (filter (line_concerns s.actor) done) (with_dumps s.ended s.last) (busy_in r.client)
+  pub timely : Timely 0 clocks s.ended s.last
+  pub below : All (λ m. stamp_of m ≤ r.client.clock) s.last.news
+  pub floor : last_clock 0 clocks ≤ r.client.clock
+  pub answers : Answers counts names s.actor [] s.ended s.last
+  pub told : r.answers.items ≡ s.last.answers
+  pub parts : length s.ended ≡ length clocks
+
+abbrev pub AllStand : Counts → List (List ℕ) → List Line → List ℕ → List Racer → List Story → Type 0
+AllStand counts names done clocks = AllZip (Stands counts names done clocks)
+
+-- the answers of a client's first part, and its parts behind that
+abbrev pub first_answers : List Part → List ReportLine
+first_answers [] = []
+first_answers (p ∷ ps) = p.answers
+
+abbrev pub later_parts : List Part → List Part
+later_parts [] = []
+later_parts (p ∷ ps) = ps
+
+-- the answers of the parts that ended are those of the clients' parts, client by client
+abbrev pub HaveEnded : List EndedPart → List (List Part) → Type 0
+HaveEnded [] parts = Unit {0}
+HaveEnded (e ∷ es) parts = (e.answers.items ≡ flat_map first_answers parts) × HaveEnded es (map later_parts parts)

@@ -1,0 +1,62 @@
+ghost use Rattle.std.specs.Prelude.{◌≤◌, IfOk, IfErr, length};
+ghost use Rattle.race_ends.specs.Raced.{IsRaced};
+ghost use Rattle.race_ends.specs.Faults.{IsRaceFault};
+ghost use Rattle.script_runs.specs.Playable.{IsPlayable};
+
+use crate::course::Course;
+use crate::script::{Run, run_script};
+use place_locks::Places;
+use race_ends::{RaceFault, Raced, finish};
+use std::alloc::Global;
+use std::sync::Wait;
+use std::thread::Threads;
+use tect_edge::Gate;
+use tect_ids::Plan;
+
+/// Runs the script of a plan on so many workers. Client number i, from 0, is of the worker `i % workers`, which does the lines of
+/// its clients in the order of the script, in a thread of its own. What a thread that could not start would have done is done all
+/// the same. The gate is told of each commit, with the number of the worker.
+///
+/// At a dump, and at the end, all workers have ended. A dump comes at the greatest clock of all clients, and each client's clock is
+/// raised to it, so that what is stamped up to it was done before the dump, and all else after it.
+///
+/// The report has the answers of the lines before each dump, client by client in first-seen order, and behind them the dump; last
+/// come the answers of the lines behind the last dump. With it comes one history of all that the clients and the places kept. It
+/// is claimed to be a run of the world that follows the script client by client, and the report to be its own.
+///
+/// There is no memory where memory is wanting, and where a client's clock has come to 2^63. A race is split where what its clients
+/// kept and what its places kept are not the same transactions, and astray where at a place another machine was found than the one
+/// that it was started with.
+pub fn race<R: Threads + Wait + Sync, G: Gate + Sync>(
+    rt: &R,
+    alloc: Global,
+    plan: &Plan,
+    workers: u32,
+    gate: &G,
+) -> Result<Raced, RaceFault>
+    requires plan { IsPlayable plan.now }
+    requires clients { length plan.now.clients ≤ 64 }
+    requires workers { (1 ≤ workers) × (workers ≤ 64) }
+    ensures raced { IfOk result (λ raced. IsRaced plan.now raced.merged raced.report.items) }
+    ensures fault { IfErr result (IsRaceFault plan.now.counts) }
+{
+    let places = Places::start(alloc, plan.counts)?;
+    let run = {
+        let course = Course {
+            rt,
+            alloc,
+            places: &places,
+            clients: plan.clients.as_slice(),
+            lines: plan.lines.as_slice(),
+            workers,
+            gate,
+        };
+        run_script(&course, plan.counts)?
+    };
+    let Run {
+        racers,
+        ended,
+        last,
+    } = run;
+    finish(alloc, plan, places, racers, ended, last)
+}

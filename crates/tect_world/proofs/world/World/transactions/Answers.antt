@@ -1,0 +1,8 @@
+use Rattle.std.proofs.Common.{is_some, ap, sym, ◌∙◌}
+use Rattle.world_runs.specs.Moments.{Actor}
+use Rattle.tect_world.proofs.Worlds.{own_state_is, own_op, own_count}
+use Rattle.tect_world.proofs.world.World.transactions.Goals as goal
+
+pub returns-clause-count : goal.returns-clause-count
+returns-clause-count c =
+    rw (← c.self.view_is) (c.transactions.ensures ∙ own_count c.self.inside c.args.actor c.index.result.now c.self.invariant c.requires.0 c.requires.1 c.index.ensures)

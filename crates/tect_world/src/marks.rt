@@ -1,0 +1,26 @@
+ghost use Rattle.std.specs.Prelude.{◌≡◌, ◌+◌, ◌<◌, ◌^◌, ◌≤◌, [], ◌∷◌, ◌++◌, length, vec_len, vec_capacity};
+
+/// Whose event comes next: an actor's, or a dump.
+#[derive(Clone, Copy)]
+pub enum Mark {
+    Actor(u32),
+    Dump,
+}
+
+/// Adds a mark for which there is room. It takes no memory.
+pub fn push_mark(order: &mut Vec<Mark>, mark: Mark)
+    requires { vec_len order.old < vec_capacity order.old }
+    ensures items { order.new.items ≡ order.old.items ++ mark ∷ [] }
+    ensures room { vec_capacity order.old ≤ vec_capacity order.new }
+{
+    if order.push(mark).is_err() {
+        unreachable!()
+    }
+}
+
+// An order is short, since its marks take room.
+pub fn is_short(order: &[Mark])
+    ensures { length order.now < 2 ^ 61 }
+{
+    let _len = order.len();
+}
