@@ -41,7 +41,7 @@ def main():
     for number in range(max(map(row, below)), 0, -1):
         names = sorted(name for name in below if rows[name] == number)
         code, laws = [[name for name in names if (name in used) == wanted] for wanted in (True, False)]
-        print(f"{number:2}  {'  '.join(code):60}{'  '.join(laws)}".rstrip())
+        print(f"{number:2}  {'  '.join(code):51}{'  '.join(laws)}".rstrip())
 
 
 main()
