@@ -1,4 +1,4 @@
-/* Preloaded by measure.py: tells, on standard error, how long a program had threads of its own: from the first that was started to
+/* Preloaded by measure_race.py: tells, on standard error, how long a program had threads of its own: from the first that was started to
    the last that was joined, in nanoseconds. */
 #define _GNU_SOURCE
 #include <dlfcn.h>
