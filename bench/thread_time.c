@@ -4,7 +4,9 @@
 #include <dlfcn.h>
 #include <pthread.h>
 #include <stdio.h>
+#include <sys/syscall.h>
 #include <time.h>
+#include <unistd.h>
 
 static long long first, last;
 
@@ -27,6 +29,9 @@ int pthread_join(pthread_t thread, void **result) {
     return answer;
 }
 
-__attribute__((destructor)) static void tell(void) {
-    fprintf(stderr, "threads %lld\n", first ? last - first : 0);
+/* The program ends by this call. */
+__attribute__((noreturn)) void _exit(int status) {
+    dprintf(2, "threads %lld\n", first ? last - first : 0);
+    syscall(SYS_exit_group, status);
+    __builtin_unreachable();
 }
