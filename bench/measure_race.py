@@ -4,13 +4,16 @@
 measure_race.py [LINES [TIMES]] (60,000 and 5 if left out): a script of make_race_script.py, 16 clients in directories of their own over 16
 name and 16 file shards, raced by 1, 2 and 4 workers, each TIMES times, the fastest counts. thread_time.c, preloaded, tells how long the
 program had threads of its own. Where one worker has none, its work is its whole time less what four workers take beside their threads.
+
+How much a transaction takes is seen by two scripts, of as many looks at a name each, which differ by one transaction of each look: the
+difference of their peaks. It is kept by its shard and by its client, and at the end of a race in the one list of all too.
 """
 import pathlib
 import subprocess
 import sys
 import tempfile
 
-from measuring import HERE, MEBIBYTE, PROGRAM, make, run, table
+from measuring import HERE, MEBIBYTE, PROGRAM, make, run, table, write
 
 WORKERS = (1, 2, 4)
 
@@ -43,6 +46,19 @@ def measured(script, shim, times):
         yield workers, f"{whole:.3f} s", f"{work[workers]:.3f} s", f"{work[workers] / work[1]:.2f}", f"{memory / MEBIBYTE:.0f} MiB", f"{memory / entries(script):.0f}"
 
 
+def looks(room, lines, name):
+    """16 clients, each with a directory, look at it or into it."""
+    homes = "".join(f"c{at} mkdir /home{at}\n" for at in range(1, 17))
+    return write(room, f"looks{len(name)}", "store 16 16 1 3 3\n" + homes + "".join(f"c{at % 16 + 1} look /home{at % 16 + 1}{name}\n" for at in range(lines)))
+
+
+def bytes_of_transaction(room, lines):
+    short, long = looks(room, lines, ""), looks(room, lines, "/file")
+    for words, kept in [(("replay",), 2), (("race", "--workers", "4"), 3)]:
+        more = (run(long, *words).memory - run(short, *words).memory) / lines
+        yield f"`tect {' '.join(words)}`", f"{more:.0f}", kept, f"{more / kept:.0f}"
+
+
 def main():
     lines, times = [int(word) for word in sys.argv[1:]] + [60000, 5][len(sys.argv) - 1 :]
     with tempfile.TemporaryDirectory() as room:
@@ -50,6 +66,7 @@ def main():
         head = "Workers", "Whole time", "Of it the workers", "Of one worker's", "Peak memory", "Bytes of it for each entry"
         print(f"A race of {lines:,} lines, {entries(script):,} entries of history (transactions, begins and ends):\n")
         print(table(head, *measured(script, preloaded(room), times)))
+        print(table(("Mode", "Bytes of a transaction", "Times that it is kept", "Bytes each time"), *bytes_of_transaction(room, lines)))
 
 
 main()
