@@ -1,6 +1,6 @@
 -- What a crew does in some lines, and then in one more.
-use Rattle.std.proofs.Common.{◌≡◌, ◌≢◌, ℕ, ◌+◌, ◌-◌, ◌*◌, ◌/◌, ◌%◌, ◌^◌, ◌<◌, ◌≤◌, Option, Some, None, Result, Ok, Err, OnOk, IfErr, IsOk, List, [], ◌∷◌, ◌++◌, length, set, refl, sym, ap, subst, ◌∙◌, arith, ◌⊎◌, inl, inr, slice_get, slice_index_or, length-set}
-use Rattle.std.proofs.lemmas.Option.{slice_get_within, slice_get_read}
+use Rattle.std.proofs.Common.{◌≡◌, ◌≢◌, ℕ, ◌+◌, ◌-◌, ◌*◌, ◌/◌, ◌%◌, ◌^◌, ◌<◌, ◌≤◌, Some, Result, Ok, Err, OnOk, IsOk, List, [], ◌∷◌, ◌++◌, length, set, refl, sym, ap, subst, ◌∙◌, arith, ◌⊎◌, inl, inr, slice_get, slice_index_or, length-set}
+use Rattle.std.proofs.lemmas.Option.{slice_get_read}
 use Rattle.tect_ids.specs.declared.ids.Counts.{Counts}
 use Rattle.tect_ids.specs.declared.script.Act.{Act}
 use Rattle.tect_ids.specs.declared.script.Line.{Line}
@@ -15,7 +15,7 @@ use Rattle.tect_race.specs.Lines.{Ran, PlaysOrRests}
 use Rattle.tect_race.specs.Crews.{CrewPlays, CrewRan}
 use Rattle.tect_race.specs.Ready.{IsReady, IsCrew, IsOfClient}
 use Rattle.tect_race.proofs.RacerLines.{adds_actor, ran_none, ran_on, ready_on}
-use Rattle.tect_race.proofs.Slots.{also_at, same_at, some_at, set_here, set_there, stands, place_crew, place_slot, decide}
+use Rattle.tect_race.proofs.Slots.{also_at, same_at, set_here, set_there, stands, place_crew, place_slot, decide}
 
 pub crew_ran_none : (names : List (List ℕ)) (c : Crew) → CrewRan names [] c c
 crew_ran_none names c = record {
@@ -74,7 +74,7 @@ module _ (counts : Counts) (names : List (List ℕ)) (clients workers : ℕ) (cl
     each = λ slot r t e f. inl (not_own ne slot r e, sym (same_at c.racers.items slot r t e f));
   }
 
--- ---- a line of one of the crew
+  -- ---- a line of one of the crew
 
   module _ (mine : (actor - 1) % workers ≡ c.number) (high : actor ≤ clients) where
     abbrev at : ℕ

@@ -1,6 +1,5 @@
 -- Threads may share what a race has in common.
-use denote.Param.Send.{IsSend, IsSync, sendable}
-use Rattle.std.proofs.Crossing.{crosses}
+use denote.Param.Send.{IsSync}
 use Rattle.tect_ids.proofs.name.Name.TheSendSync as name
 use Rattle.tect_ids.proofs.script.Line.TheSendSync as line
 use Rattle.tect_ids.specs.contracts.script.Line as Line

@@ -1,5 +1,5 @@
 -- Clients that are dealt to workers, one after another.
-use Rattle.std.proofs.Common.{◌≡◌, ◌≢◌, ℕ, suc, ◌+◌, ◌*◌, ◌/◌, ◌%◌, ◌<◌, ◌≤◌, ◌↔◌, Option, Some, None, List, [], ◌∷◌, ◌++◌, length, set, length-set, length-append, refl, sym, ap, subst, ◌∙◌, arith, ◌⊎◌, inl, inr, slice_get, zero, ◌-◌, reverse, append_assoc}
+use Rattle.std.proofs.Common.{◌≡◌, ◌≢◌, ℕ, suc, ◌+◌, ◌*◌, ◌/◌, ◌%◌, ◌<◌, ◌≤◌, ◌↔◌, Some, List, [], ◌∷◌, ◌++◌, length, set, length-set, length-append, refl, sym, ap, subst, ◌∙◌, arith, ◌⊎◌, inl, inr, slice_get, zero, ◌-◌, reverse, append_assoc}
 use Rattle.std.proofs.lemmas.Option.{slice_get_within}
 use Rattle.std.proofs.lemmas.Bool.{cases_lt}
 use Rattle.std.proofs.lemmas.List.{append-nil, reverse-append, reverse-reverse}
@@ -7,7 +7,7 @@ use Rattle.std.proofs.Math.Nat.{mul-le-mul_right, mod-lt}
 use Rattle.racers.specs.declared.racer.Racer.{Racer}
 use Rattle.tect_race.specs.declared.crew.Crew.{Crew}
 use Rattle.tect_race.specs.Ready.{AreDealt, IsMustered}
-use Rattle.tect_race.proofs.Slots.{at_end, at_front, decide, same_at, set_here, set_there, stands, place_crew, place_slot, some_at}
+use Rattle.tect_race.proofs.Slots.{at_end, at_front, decide, same_at, set_here, set_there, stands, place_crew}
 
 le_or : (b a : ℕ) → (b ≤ a) ⊎ (a < b)
 le_or b a = elim (cases_lt a b) [ inl h ↦ inr h | inr h ↦ inl h ]
@@ -272,4 +272,3 @@ pub mustered_all : (w : ℕ) (all : List Racer) (cs : List Crew) (rs : List Race
 mustered_all w all cs rs is =
     let none : is.before ≡ [] = length_none is.before is.left_are in
     ap (λ (l : List Racer). reverse l) is.taken ∙ reverse-reverse is.behind ∙ sym (is.whole ∙ ap (λ l. l ++ is.behind) none)
-

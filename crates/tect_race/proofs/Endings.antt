@@ -1,11 +1,10 @@
 -- Parts that end, client by client; and clients that begin.
-use Rattle.std.proofs.Common.{◌≡◌, ◌≢◌, ℕ, zero, suc, ◌+◌, ◌<◌, ◌≤◌, Some, List, [], ◌∷◌, ◌++◌, length, length-append, set, take, drop, get_or, refl, sym, ap, subst, ◌∙◌, arith, ◌⊎◌, inl, inr, slice_get, append_assoc}
+use Rattle.std.proofs.Common.{◌≡◌, ℕ, zero, suc, ◌+◌, ◌<◌, ◌≤◌, Some, List, [], ◌∷◌, ◌++◌, length, length-append, set, take, drop, get_or, refl, sym, ap, subst, ◌∙◌, arith, inl, inr, slice_get, append_assoc}
 use Rattle.std.specs.List.{AllZip, flat_map}
 use Rattle.std.proofs.lemmas.Bool.{cases_lt}
 use Rattle.std.proofs.lemmas.List.{append-nil}
 use Rattle.std.proofs.lemmas.Option.{slice_get_within}
 use Rattle.tect_ids.specs.declared.ids.Counts.{Counts}
-use Rattle.tect_ids.specs.declared.script.ReportLine.{ReportLine}
 use Rattle.clients.specs.Lives.{idle_life}
 use Rattle.racers.specs.declared.racer.Racer.{Racer}
 use Rattle.tect_race.specs.Done.{AreNew}
@@ -81,11 +80,11 @@ pub new_on : (counts : Counts) (n : ℕ) (rs ts : List Racer) (r : Racer) → Ar
 new_on counts n rs ts r new e life none = subst (AreNew counts (n + 1)) (sym e) (record {
   count = length-append rs (r ∷ []) ∙ ap (λ k. k + 1) new.count;
   lives = λ i t f. elim (cases_lt i (length rs)) [
-      | inl l ↦ new.lives i t (sym (at_front rs r i l) ∙ f)
-      | inr g ↦ (let p = last_place rs r i t f g in subst (λ (x : Racer). x.client ≡ idle_life (i + 1) counts) (sym p.1) (life ∙ ap (λ k. idle_life (k + 1) counts) (sym (p.0 ∙ new.count))))
-    ];
+    | inl l ↦ new.lives i t (sym (at_front rs r i l) ∙ f)
+    | inr g ↦ (let p = last_place rs r i t f g in subst (λ (x : Racer). x.client ≡ idle_life (i + 1) counts) (sym p.1) (life ∙ ap (λ k. idle_life (k + 1) counts) (sym (p.0 ∙ new.count))))
+  ];
   answers = λ i t f. elim (cases_lt i (length rs)) [
-      | inl l ↦ new.answers i t (sym (at_front rs r i l) ∙ f)
-      | inr g ↦ ap (λ (x : Racer). x.answers.items) (last_place rs r i t f g).1 ∙ none
-    ];
+    | inl l ↦ new.answers i t (sym (at_front rs r i l) ∙ f)
+    | inr g ↦ ap (λ (x : Racer). x.answers.items) (last_place rs r i t f g).1 ∙ none
+  ];
 })

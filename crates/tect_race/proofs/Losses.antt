@@ -1,5 +1,5 @@
 -- A client that is astray found another machine than the one that its place was started with.
-use Rattle.std.proofs.Common.{◌≡◌, ◌≢◌, ℕ, ◌+◌, ◌%◌, ◌<◌, ◌≤◌, Result, Ok, Err, IfErr, IsOk, refl, sym, ap, subst, ◌∙◌, arith}
+use Rattle.std.proofs.Common.{◌≡◌, ℕ, ◌+◌, ◌%◌, ◌<◌, ◌≤◌, Result, Ok, Err, IfErr, IsOk, refl, sym, ap, subst, ◌∙◌, arith}
 use Rattle.tect_ids.specs.declared.ids.Counts.{Counts}
 use Rattle.tect_ids.specs.Places.{HasPlaces, id_hash}
 use Rattle.store_rules.specs.declared.any.AnyReq.{AnyReq}
@@ -17,8 +17,7 @@ use Rattle.racers.specs.Lines.{IsFaultOf}
 use Rattle.racers.specs.Steps.{FoundAstray}
 use Rattle.race_ends.specs.declared.fault.RaceFault.{RaceFault}
 use Rattle.race_ends.specs.declared.fault.RaceFault.TheVariants as faults
-use Rattle.race_ends.specs.Faults.{IsLossOf, IsRaceFault}
-use Rattle.race_ends.proofs.Losses.{loss_is_fault}
+use Rattle.race_ends.specs.Faults.{IsLossOf}
 use Rattle.tect_race.specs.Faults.{race_result}
 
 within_names : (x n m : ℕ) → 1 ≤ n → 0 + x % n < n + m
@@ -56,11 +55,3 @@ came (Err fault) h = absurd (cc)
 
 pub played_too : (played : Result (Unit {0}) RacerFault) (result : Result (Unit {0}) RaceFault) → result ≡ race_result played → IsOk result → IsOk played
 played_too played result is h = came played (subst IsOk is h)
-
-pub if_err : {A E : Type 0} → {P Q : E → Type 0} → (o : Result A E) → ((e : E) → P e → Q e) → IfErr o P → IfErr o Q
-if_err (Ok v) f h = tt
-if_err (Err e) f h = f e h
-
--- what a part lost ends the race
-pub ended_by_loss : {A : Type 0} → (b c : Counts) (o : Result A RaceFault) → b ≡ c → IfErr o (IsLossOf b) → IfErr o (IsRaceFault c)
-ended_by_loss b c o same h = if_err o (loss_is_fault c) (subst (λ k. IfErr o (IsLossOf k)) same h)

@@ -1,7 +1,7 @@
 -- The clients of all crews, before and behind some lines.
-use Rattle.std.proofs.Common.{◌≡◌, ◌≢◌, ℕ, zero, suc, ◌+◌, ◌*◌, ◌/◌, ◌%◌, ◌<◌, ◌≤◌, ◌↔◌, Option, Some, None, Result, Ok, Err, IfOk, IfErr, List, [], ◌∷◌, ◌++◌, length, map, get_or, refl, sym, ap, subst, ◌∙◌, arith, slice_get}
+use Rattle.std.proofs.Common.{◌≡◌, ℕ, zero, suc, ◌+◌, ◌*◌, ◌/◌, ◌%◌, ◌<◌, ◌↔◌, Some, Result, Ok, Err, IfOk, IfErr, List, [], ◌∷◌, length, map, get_or, refl, sym, ap, subst, ◌∙◌, arith, slice_get}
 use Rattle.std.specs.List.{AllZip, All, AllByRecursion}
-use Rattle.std.proofs.lemmas.List.Elements.{All-from_recursion, recursion_from_All}
+use Rattle.std.proofs.lemmas.List.Elements.{All-from_recursion}
 use Rattle.std.proofs.lemmas.Option.{slice_get_within, slice_get-get_or, get_or_from_slice_get}
 use Rattle.std.proofs.Math.Nat.{mod-lt}
 use Rattle.tect_ids.specs.declared.ids.Counts.{Counts}
@@ -12,7 +12,7 @@ use Rattle.race_ends.specs.declared.fault.RaceFault.{RaceFault}
 use Rattle.race_ends.specs.Faults.{IsLossOf}
 use Rattle.tect_race.specs.Lines.{Ran}
 use Rattle.tect_race.specs.Crews.{CrewRan, CrewEnds, CrewCame, CrewsRan, RacersRan}
-use Rattle.tect_race.specs.Ready.{IsReady, IsCrew, AreRacers, AreCrews, AreDealt}
+use Rattle.tect_race.specs.Ready.{IsCrew, AreRacers, AreCrews, AreDealt}
 use Rattle.tect_race.proofs.Slots.{also_at, same_at, some_at, stands, place_crew, place_slot}
 
 -- ---- lists place by place
@@ -165,8 +165,8 @@ pub all_came : (counts : Counts) (names : List (List ℕ)) (w : ℕ) (ls later :
     → ((i : ℕ) (c : Crew) (r : Result Crew RaceFault) → i < length cs → CrewCame counts names w ls later (get_or cs i c) (get_or rs i r)) → AllZip (CrewCame counts names w ls later) cs rs
 all_came counts names w ls later cs rs l h =
     zip_from (CrewCame counts names w ls later) cs rs l (λ i c r e f.
-        subst (λ (x : Crew). CrewCame counts names w ls later x r) (get_or_from_slice_get cs i c c e)
-            (subst (λ (y : Result Crew RaceFault). CrewCame counts names w ls later (get_or cs i c) y) (get_or_from_slice_get rs i r r f) (h i c r (slice_get_within cs i c e))))
+    subst (λ (x : Crew). CrewCame counts names w ls later x r) (get_or_from_slice_get cs i c c e)
+    (subst (λ (y : Result Crew RaceFault). CrewCame counts names w ls later (get_or cs i c) y) (get_or_from_slice_get rs i r r f) (h i c r (slice_get_within cs i c e))))
 
 stray_of : (counts : Counts) (names : List (List ℕ)) (w : ℕ) (ls later : List Line) (c : Crew) (r : Result Crew RaceFault) → CrewCame counts names w ls later c r → IfErr r (IsLossOf counts)
 stray_of counts names w ls later c (Ok d) came = tt

@@ -1,9 +1,8 @@
 -- What a racer does in some lines, and then in one more.
-use Rattle.std.proofs.Common.{◌≡◌, ◌≢◌, ℕ, ◌+◌, ◌<◌, ◌≤◌, Bool, true, false, ◌&&◌, nat_lt, nat_le, eqb, if◌then◌else◌, Option, Some, None, List, [], ◌∷◌, ◌++◌, length, map, filter, refl, sym, ap, subst, ◌∙◌, append_assoc, arith, ◌⊎◌, inl, inr}
+use Rattle.std.proofs.Common.{◌≡◌, ◌≢◌, ℕ, ◌≤◌, Bool, true, false, nat_lt, nat_le, eqb, if◌then◌else◌, List, [], ◌∷◌, ◌++◌, filter, refl, sym, ap, subst, ◌∙◌, append_assoc, arith, ◌⊎◌, inl, inr}
 use Rattle.std.proofs.lemmas.List.{append-nil}
 use Rattle.std.proofs.lemmas.Grind.{common_steps}
 use Rattle.tect_ids.specs.declared.ids.Counts.{Counts}
-use Rattle.tect_ids.specs.declared.ids.OpId.{OpId}
 use Rattle.tect_ids.specs.declared.script.Act.{Act}
 use Rattle.tect_ids.specs.declared.script.Line.{Line}
 use Rattle.tect_ids.specs.declared.script.Line.TheVariants as lines
@@ -145,9 +144,15 @@ plays_on names ls client actor act r s t ran is plays =
     let yes : eqb actor r.client.actor ≡ true = ap (λ k. eqb k r.client.actor) (is ∙ own) ∙ same_number r.client.actor in
     let e : filter (line_concerns r.client.actor) (ls ++ lines.Client client actor act ∷ []) ≡ filter (line_concerns r.client.actor) ls ++ lines.Client client actor act ∷ [] =
     filter_one r.client.actor actor client act ls true yes in
-    let line : DoesLines r.client.actor (busy_in s.client) (lines.Client client actor act ∷ []) (news_events plays.news plays.more) (busy_in t.client) =
-    (news_events plays.news plays.more, [], busy_in t.client, is ∙ own, sym (append-nil (news_events plays.news plays.more)),
-      subst (λ k. DoesLine k (busy_in s.client) act (news_events plays.news plays.more) (busy_in t.client)) own plays.does, (refl, refl)) in
+    let line : DoesLines r.client.actor (busy_in s.client) (lines.Client client actor act ∷ []) (news_events plays.news plays.more) (busy_in t.client) = (
+      news_events plays.news plays.more,
+      [],
+      busy_in t.client,
+      is ∙ own,
+      sym (append-nil (news_events plays.news plays.more)),
+      subst (λ k. DoesLine k (busy_in s.client) act (news_events plays.news plays.more) (busy_in t.client)) own plays.does,
+      (refl, refl),
+    ) in
     let all = does_lines-append r.client.actor (busy_in r.client) (busy_in s.client) (busy_in t.client) (filter (line_concerns r.client.actor) ls) (lines.Client client actor act ∷ [])
     (news_events ran.news ran.more) (news_events plays.news plays.more) ran.does line in
     let f = added_events names r s t ran.news plays.news ran.more plays.more ran.adds plays.adds in

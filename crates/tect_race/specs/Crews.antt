@@ -1,7 +1,7 @@
 -- What the racers of a worker do in lines of the script.
 use Rattle.std.specs.Prelude.{◌≡◌, ℕ, max, Result, Ok, Err, List, [], ◌++◌, length, Some, slice_get}
 use Rattle.std.specs.List.{AllZip}
-use Rattle.clients.specs.Lives.{ClientLife, IsLife}
+use Rattle.clients.specs.Lives.{IsLife}
 use Rattle.tect_ids.specs.declared.ids.Counts.{Counts}
 use Rattle.tect_ids.specs.declared.script.Line.{Line}
 use Rattle.tect_ids.specs.declared.script.ReportLine.{ReportLine}

@@ -2,8 +2,7 @@ ghost use Rattle.std.specs.Prelude.{◌≡◌, ◌<◌, ◌≤◌, ◌^◌, ◌+
 ghost use Rattle.std.specs.List.{All, flat_map};
 ghost use Rattle.tect_race.specs.Crews.{AllClosed, Ended};
 
-use race_ends::EndedPart;
-use race_ends::RaceFault;
+use race_ends::{EndedPart, RaceFault};
 use racers::Racer;
 use std::alloc::Global;
 use tect_ids::{NoMemory, ReportLine};

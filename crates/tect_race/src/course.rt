@@ -1,8 +1,8 @@
 use place_locks::Places;
 use std::alloc::Global;
+use std::sync::Wait;
 use tect_edge::Gate;
 use tect_ids::{Line, Name};
-use std::sync::Wait;
 
 /// What all workers of a race share.
 #[derive(Drop)]

@@ -8,8 +8,8 @@ ghost use Rattle.race_ends.specs.Faults.{IsLossOf};
 ghost use Rattle.tect_race.specs.Faults.{race_result};
 
 use crate::course::Course;
-use race_ends::RaceFault;
 use crate::crew::Crew;
+use race_ends::RaceFault;
 use racers::{Locked, RacerFault, play_act};
 use std::sync::Wait;
 use tect_edge::Gate;
@@ -52,7 +52,13 @@ fn play_line<R: Wait, G: Gate>(
         worker: crew.number,
         gate: course.gate,
     };
-    let played = play_act(&mut at, course.alloc, course.clients, &mut crew.racers[slot], act);
+    let played = play_act(
+        &mut at,
+        course.alloc,
+        course.clients,
+        &mut crew.racers[slot],
+        act,
+    );
     raced(played)
 }
 

@@ -6,10 +6,10 @@ ghost use Rattle.race_ends.specs.Faults.{IsLossOf};
 ghost use Rattle.tect_race.specs.Ready.{AreCrews, AreRacers, IsOfClient};
 
 use crate::course::Course;
-use crate::crews::{deal, muster};
-use race_ends::RaceFault;
-use crate::lines::run_crew;
 use crate::crew::Crew;
+use crate::crews::{deal, muster};
+use crate::lines::run_crew;
+use race_ends::RaceFault;
 use racers::Racer;
 use std::sync::Wait;
 use std::thread;

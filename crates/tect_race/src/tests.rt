@@ -150,33 +150,39 @@ fn tells_stopped(line: &ReportLine) -> bool {
 /// The line of the root, with that many entries.
 fn shows_root(line: &ReportLine, count: u32) -> bool {
     match line {
-        ReportLine::Dump(DumpLine::Dir {
-            dir: DirId(1),
-            entries,
-            ..
-        }) => *entries == count,
+        ReportLine::Dump(
+            DumpLine::Dir {
+                dir: DirId(1),
+                entries,
+                ..
+            },
+        ) => *entries == count,
         _ => false,
     }
 }
 
 fn shows_entry(line: &ReportLine, name: &[u8], file: u64) -> bool {
     match line {
-        ReportLine::Dump(DumpLine::Entry {
-            key,
-            node: Node::File(FileId(id)),
-            ..
-        }) => key.name.bytes() == name && *id == file,
+        ReportLine::Dump(
+            DumpLine::Entry {
+                key,
+                node: Node::File(FileId(id)),
+                ..
+            },
+        ) => key.name.bytes() == name && *id == file,
         _ => false,
     }
 }
 
 fn shows_file(line: &ReportLine, file: u64) -> bool {
     match line {
-        ReportLine::Dump(DumpLine::File {
-            file: FileId(id),
-            holds: 1,
-            ..
-        }) => *id == file,
+        ReportLine::Dump(
+            DumpLine::File {
+                file: FileId(id),
+                holds: 1,
+                ..
+            },
+        ) => *id == file,
         _ => false,
     }
 }

@@ -1,4 +1,4 @@
-use Rattle.std.proofs.Common.{◌≡◌, ◌%◌, ◌+◌, ◌∷◌, ◌++◌, [], List, length, length-append, Some, set, slice_get, get_or, refl, sym, ap, subst, ◌∙◌, arith}
+use Rattle.std.proofs.Common.{◌≡◌, ◌%◌, ◌+◌, ◌∷◌, ◌++◌, [], length, length-append, Some, set, slice_get, get_or, refl, sym, ap, subst, ◌∙◌}
 use Rattle.std.proofs.lemmas.Option.{slice_get_read}
 use Rattle.tect_race.specs.declared.crew.Crew.{Crew}
 use Rattle.tect_race.specs.Ready.{AreDealt}

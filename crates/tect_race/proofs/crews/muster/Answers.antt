@@ -1,4 +1,4 @@
-use Rattle.std.proofs.Common.{◌≡◌, ◌≤◌, ◌<◌, ◌%◌, ◌-◌, ◌∷◌, ◌++◌, [], List, length, Some, slice_get, get_or, option_to_list, refl, sym, ap, subst, ◌∙◌, arith}
+use Rattle.std.proofs.Common.{◌≡◌, ◌<◌, ◌%◌, ◌-◌, ◌++◌, List, length, Some, slice_get, option_to_list, refl, sym, ap, subst, ◌∙◌, arith}
 use Rattle.std.proofs.lemmas.Option.{slice_get_read}
 use Rattle.racers.specs.declared.racer.Racer.{Racer}
 use Rattle.tect_race.specs.declared.crew.Crew.{Crew}

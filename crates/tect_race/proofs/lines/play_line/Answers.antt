@@ -9,7 +9,7 @@ pub returns-then-number-course : goal.returns-then-number-course
 returns-then-number-course g c = record {
   fault = tt;
   plays = line_rests c.args.course.now.places.now c.args.course.now.clients.now (length c.args.course.now.clients.now) c.args.course.now.workers c.args.line.now c.in-Client.client c.in-Client.actor c.in-Client.act c.args.crew.now
-    c.in-Client.is c.requires.client c.requires.ready c.if-number-course.true;
+      c.in-Client.is c.requires.client c.requires.ready c.if-number-course.true;
 }
 
 pub play_act-played-requires-clause-counts : goal.play_act-played-requires-clause-counts

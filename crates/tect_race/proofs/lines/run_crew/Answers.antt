@@ -1,4 +1,4 @@
-use Rattle.std.proofs.Common.{◌≡◌, ◌+◌, ◌-◌, ◌<◌, ◌≤◌, ◌∷◌, ◌++◌, [], List, length, take, drop, get_or, refl, sym, ap, subst, ◌∙◌, arith}
+use Rattle.std.proofs.Common.{◌≡◌, ◌+◌, ◌-◌, ◌<◌, ◌≤◌, ◌∷◌, ◌++◌, [], List, length, take, drop, get_or, sym, ap, subst, ◌∙◌, arith}
 use Rattle.std.proofs.lemmas.List.{take_all, take_more}
 use Rattle.tect_ids.specs.declared.script.Line.{Line}
 use Rattle.tect_race.specs.Crews.{CrewRan}
@@ -6,7 +6,6 @@ use Rattle.tect_race.specs.Ready.{IsCrew}
 use Rattle.tect_race.proofs.CrewLines.{crew_ran_none, crew_ran_on, crew_ready_on}
 use Rattle.tect_race.proofs.Parts.{length_part, next_line}
 use Rattle.tect_race.proofs.lines.run_crew.Goals as goal
-
 
 pub lines-init : goal.lines-init
 lines-init g c = record {
@@ -30,7 +29,7 @@ lines-preserved g c =
       ready = crew_ready_on c.args.course.now.places.now c.args.course.now.clients.now (length c.args.course.now.clients.now) c.args.course.now.workers line (drop (c.args.start + (c.lines.line-index + 1)) c.args.course.now.lines.now)
           c.lines.crew c.play_line.new.crew
           (subst (λ (ls : List Line). IsCrew c.args.course.now.places.now (length c.args.course.now.clients.now) c.args.course.now.workers ls c.lines.crew)
-              (left ∙ ap (λ x. x ∷ drop (c.args.start + (c.lines.line-index + 1)) c.args.course.now.lines.now) is) c.lines.invariant.ready)
+          (left ∙ ap (λ x. x ∷ drop (c.args.start + (c.lines.line-index + 1)) c.args.course.now.lines.now) is) c.lines.invariant.ready)
           c.in_ok-play_line.ensures.plays;
     }
 
@@ -40,8 +39,10 @@ returns g c =
     let len : length part ≡ c.args.end - c.args.start = length_part c.args.course.now.lines.now c.args.start c.args.end c.requires.part.0 c.requires.part.1 in
     let past : length part ≤ c.lines.line-index = c.lines-test.false in
     let low : c.lines.line-index ≤ length part = c.lines.auto.line-index-end in
-    record { so = record {
-      ran = subst (λ (ls : List Line). CrewRan c.args.course.now.clients.now ls c.args.crew c.lines.crew) (take_all c.lines.line-index part past) c.lines.invariant.ran;
-      ready = subst (λ k. IsCrew c.args.course.now.places.now (length c.args.course.now.clients.now) c.args.course.now.workers (drop k c.args.course.now.lines.now) c.lines.crew)
-          (let q = c.requires.part.0 in let e : c.args.start + c.lines.line-index ≡ c.args.end = omega arith in e) c.lines.invariant.ready;
-    } }
+    record {
+      so = record {
+        ran = subst (λ (ls : List Line). CrewRan c.args.course.now.clients.now ls c.args.crew c.lines.crew) (take_all c.lines.line-index part past) c.lines.invariant.ran;
+        ready = subst (λ k. IsCrew c.args.course.now.places.now (length c.args.course.now.clients.now) c.args.course.now.workers (drop k c.args.course.now.lines.now) c.lines.crew)
+            (let q = c.requires.part.0 in let e : c.args.start + c.lines.line-index ≡ c.args.end = omega arith in e) c.lines.invariant.ready;
+      };
+    }

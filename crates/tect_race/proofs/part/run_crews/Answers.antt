@@ -1,4 +1,4 @@
-use Rattle.std.proofs.Common.{rules, ◌≡◌, ◌<◌, List, Vec, length, map, get_or, drop, slice_range, Ok, sym, subst, ◌∙◌}
+use Rattle.std.proofs.Common.{rules, ◌≡◌, List, Vec, map, get_or, drop, slice_range, Ok, sym, subst, ◌∙◌}
 use Rattle.std.specs.declared.alloc.Global.{Global}
 use Rattle.std.specs.List.{AllZip}
 use Rattle.tect_ids.specs.declared.script.Line.{Line}
@@ -25,10 +25,10 @@ came g c =
     all_came c.args.course.now.places.now c.args.course.now.clients.now c.args.course.now.workers (Part g c) (drop c.args.end c.args.course.now.lines.now) c.args.crews.items c.in-Ok.ran.items
     (sym c.in-Ok.ran.ok.0 ∙ c.in-Ok.ensures.len ∙ c.args.crews.ok.0)
     (λ i x r l.
-        let e = c.in-Ok.ensures.each i r l in
-        let job : Crew = e.1.job in
-        let fact : CrewCame c.args.course.now.places.now c.args.course.now.clients.now c.args.course.now.workers (Part g c) (drop c.args.end c.args.course.now.lines.now) job (get_or c.in-Ok.ran.items i r) = search rules in
-        subst (λ (y : Crew). CrewCame c.args.course.now.places.now c.args.course.now.clients.now c.args.course.now.workers (Part g c) (drop c.args.end c.args.course.now.lines.now) y (get_or c.in-Ok.ran.items i r)) (sym (e.1.job_is x)) fact)
+    let e = c.in-Ok.ensures.each i r l in
+    let job : Crew = e.1.job in
+    let fact : CrewCame c.args.course.now.places.now c.args.course.now.clients.now c.args.course.now.workers (Part g c) (drop c.args.end c.args.course.now.lines.now) job (get_or c.in-Ok.ran.items i r) = search rules in
+    subst (λ (y : Crew). CrewCame c.args.course.now.places.now c.args.course.now.clients.now c.args.course.now.workers (Part g c) (drop c.args.end c.args.course.now.lines.now) y (get_or c.in-Ok.ran.items i r)) (sym (e.1.job_is x)) fact)
 
 pub finished-requires : goal.finished-requires
 finished-requires g c =

@@ -1,16 +1,15 @@
-use Rattle.std.proofs.Common.{◌≡◌, ◌<◌, List, length, drop, slice_range, sym, ap, subst, ◌∙◌}
-use Rattle.tect_ids.specs.declared.script.Line.{Line}
+use Rattle.std.proofs.Common.{◌≡◌, ◌<◌, List, length, drop, slice_range, sym, subst, ◌∙◌}
 use Rattle.racers.specs.declared.racer.Racer.{Racer}
-use Rattle.tect_race.specs.Crews.{CrewsRan, CrewRan, RacersRan}
+use Rattle.tect_race.specs.Crews.{RacersRan}
 use Rattle.tect_race.specs.Ready.{AreCrews, AreDealt, AreRacers}
-use Rattle.tect_race.proofs.Mustering.{crews_dealt, after, after_length, after_dealt, after_ran, after_ready, if_ok}
+use Rattle.tect_race.proofs.Mustering.{crews_dealt, after, after_length, after_dealt, after_ran, after_ready}
 use Rattle.tect_race.proofs.part.run_part.Goals as goal
 use Rattle.tect_race.proofs.part.run_part.Goals.{In_ok-done, In_ok-mustered}
 
 pub run_crews-requires-clause-ready : goal.run_crews-requires-clause-ready
 run_crews-requires-clause-ready g c κs within =
     subst (λ k. AreCrews c.args.course.now.places.now k c.args.course.now.workers (drop c.args.start c.args.course.now.lines.now) c.in_ok-dealt.dealt.items) c.requires.all
-        (crews_dealt c.args.course.now.places.now c.args.course.now.workers (drop c.args.start c.args.course.now.lines.now) c.args.racers.items c.in_ok-dealt.dealt.items c.requires.ready c.in_ok-dealt.ensures)
+    (crews_dealt c.args.course.now.places.now c.args.course.now.workers (drop c.args.start c.args.course.now.lines.now) c.args.racers.items c.in_ok-dealt.dealt.items c.requires.ready c.in_ok-dealt.ensures)
 
 count : (g : _) (c : In_ok-done g) → length c.in_ok-done.done.items ≡ c.args.course.now.workers
 count g c = c.in_ok-done.ensures.ready.count
@@ -26,7 +25,7 @@ now_dealt : (g : _) (c : In_ok-done g) → AreDealt (length c.in_ok-done.done.it
 unfolding now
 now_dealt g c =
     subst (λ k. AreDealt k (now g c) c.in_ok-done.done.items) (sym (count g c))
-        (after_dealt c.args.course.now.workers c.requires.workers c.args.course.now.clients.now (slice_range c.args.course.now.lines.now c.args.start c.args.end) c.args.racers.items c.in_ok-dealt.dealt.items c.in_ok-done.done.items c.in_ok-dealt.ensures c.in_ok-done.ensures.ran)
+    (after_dealt c.args.course.now.workers c.requires.workers c.args.course.now.clients.now (slice_range c.args.course.now.lines.now c.args.start c.args.end) c.args.racers.items c.in_ok-dealt.dealt.items c.in_ok-done.done.items c.in_ok-dealt.ensures c.in_ok-done.ensures.ran)
 
 now_clients : (g : _) (c : In_ok-done g) → length (now g c) ≡ c.len-clients.result
 now_clients g c = now_length g c ∙ sym c.args.racers.ok.0 ∙ sym c.len-clients.ensures
