@@ -6,14 +6,15 @@ name and 16 file shards, raced by 1, 2 and 4 workers, each TIMES times, the fast
 program had threads of its own. Where one worker has none, its work is its whole time less what four workers take beside their threads.
 
 How much a transaction takes is seen by two scripts, of as many looks at a name each, which differ by one transaction of each look: the
-difference of their peaks. It is kept by its shard and by its client, and at the end of a race in the one list of all too.
+difference of their peaks. It is kept by its shard and by its client, and at the end of a race in the one list of all too. What a dump
+costs, at which all workers end and are started anew, is seen by a script of many dumps.
 """
 import pathlib
 import subprocess
 import sys
 import tempfile
 
-from measuring import HERE, MEBIBYTE, PROGRAM, make, run, table, write
+from measuring import HERE, MEBIBYTE, PROGRAM, fastest, make, run, table, write
 
 WORKERS = (1, 2, 4)
 
@@ -59,6 +60,17 @@ def bytes_of_transaction(room, lines):
         yield f"`tect {' '.join(words)}`", f"{more:.0f}", kept, f"{more / kept:.0f}"
 
 
+def dumps(room, count):
+    """A look of one of four clients, and a dump, and so on."""
+    return write(room, "dumps", "store 1 1 1 3 3\n" + "".join(f"c{at % 4 + 1} look /\ndump\n" for at in range(count)))
+
+
+def seconds_of_dumps(room, count, times):
+    script = dumps(room, count)
+    for words in [("replay",), *(("race", "--workers", str(workers)) for workers in (1, 4, 64))]:
+        yield f"`tect {' '.join(words)}`", f"{fastest(times, script, *words).seconds:.3f} s"
+
+
 def main():
     lines, times = [int(word) for word in sys.argv[1:]] + [60000, 5][len(sys.argv) - 1 :]
     with tempfile.TemporaryDirectory() as room:
@@ -67,6 +79,7 @@ def main():
         print(f"A race of {lines:,} lines, {entries(script):,} entries of history (transactions, begins and ends):\n")
         print(table(head, *measured(script, preloaded(room), times)))
         print(table(("Mode", "Bytes of a transaction", "Times that it is kept", "Bytes each time"), *bytes_of_transaction(room, lines)))
+        print(table(("1,000 dumps, each behind one look", "Time"), *seconds_of_dumps(room, 1000, times)))
 
 
 main()
