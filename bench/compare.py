@@ -13,6 +13,7 @@ import sqlite3
 import sys
 import tempfile
 import time
+from typing import NamedTuple
 
 from measuring import fastest, make, table
 
@@ -74,36 +75,49 @@ def files(room):
     return do
 
 
-def seconds(kind, work):
+class Took(NamedTuple):
+    seconds: float
+    processor: float
+
+
+def took(kind, work):
     room = tempfile.mkdtemp(dir=RAM if os.path.isdir(RAM) else None)
     try:
         do = kind(room)
-        start = time.perf_counter()
+        start, busy = time.perf_counter(), time.process_time()
         for verb, path, new in work:
             do(verb, path, new)
-        return time.perf_counter() - start
+        return Took(time.perf_counter() - start, time.process_time() - busy)
     finally:
         shutil.rmtree(room)
 
 
+def least(runs):
+    return Took(*map(min, zip(*runs)))
+
+
 def measured(script, times):
     work = [*commands(script)]
-    idle = min(seconds(nothing, work) for _ in range(times))
-    own = fastest(times, script, "replay").seconds
-    yield "`tect replay`", f"{own:.3f} s", "1"
+    idle = least(took(nothing, work) for _ in range(times))
+    own = fastest(times, script, "replay")
+
+    def row(name, seconds, processor):
+        return name, f"{seconds:.3f} s", f"{seconds / own.seconds:.2f}", f"{processor:.3f} s", f"{processor / own.processor:.2f}"
+
+    yield row("`tect replay`", own.seconds, own.processor)
     for name, kind in [("SQLite in memory", sqlite), ("files in RAM", files)]:
-        took = min(seconds(kind, work) for _ in range(times)) - idle
-        yield name, f"{took:.3f} s", f"{took / own:.2f}"
+        ran = least(took(kind, work) for _ in range(times))
+        yield row(name, ran.seconds - idle.seconds, ran.processor - idle.processor)
     for workers in (1, 2, 4):
-        took = fastest(times, script, "race", "--workers", str(workers)).seconds
-        yield f"`tect race --workers {workers}`", f"{took:.3f} s", f"{took / own:.2f}"
+        ran = fastest(times, script, "race", "--workers", str(workers))
+        yield row(f"`tect race --workers {workers}`", ran.seconds, ran.processor)
 
 
 def main():
     lines, times = [int(word) for word in sys.argv[1:]] + [60000, 3][len(sys.argv) - 1 :]
     with tempfile.TemporaryDirectory() as room:
         print(f"{lines:,} lines, six of ten create, two look, one renames, one deletes:\n")
-        print(table(("Way", "Time", "Of replay's"), *measured(make(room, "make_race_script.py", lines), times)))
+        print(table(("Way", "Time", "Of replay's", "Processor time", "Of replay's"), *measured(make(room, "make_race_script.py", lines), times)))
 
 
 main()

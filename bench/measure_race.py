@@ -3,7 +3,8 @@
 
 measure_race.py [LINES [TIMES]] (60,000 and 5 if left out): a script of make_race_script.py, 16 clients in directories of their own over 16
 name and 16 file shards, raced by 1, 2 and 4 workers, each TIMES times, the fastest counts. thread_time.c, preloaded, tells how long the
-program had threads of its own. Where one worker has none, its work is its whole time less what four workers take beside their threads.
+program had threads of its own, and the processor time of the busiest of them, which is what the workers would take on free processors if none waited
+for another. One worker has no thread of its own: its work is the whole less what four workers take beside theirs.
 
 How much a transaction takes is seen by two scripts, of as many looks at a name each, which differ by one transaction of each look: the
 difference of their peaks. It is kept by its shard and by its client, and at the end of a race in the one list of all too. What a dump
@@ -13,6 +14,7 @@ import pathlib
 import subprocess
 import sys
 import tempfile
+from typing import NamedTuple
 
 from measuring import HERE, MEBIBYTE, PROGRAM, fastest, make, run, table, write
 
@@ -25,9 +27,16 @@ def preloaded(room):
     return str(shim)
 
 
-def thread_seconds(said):
-    words = said.split()
-    return int(words[words.index("threads") + 1]) / 1e9 if "threads" in words else 0.0
+class Workers(NamedTuple):
+    """Seconds of the workers together, of the busiest one's processor time, and of all their processor time."""
+
+    seconds: float
+    busiest: float
+    all: float
+
+
+def workers_of(ran):
+    return Workers(*(int(word) / 1e9 for word in ran.said.split()[-3:]))
 
 
 def entries(script):
@@ -38,13 +47,25 @@ def entries(script):
 
 
 def measured(script, shim, times):
-    runs = {workers: [run(script, "race", "--workers", str(workers), LD_PRELOAD=shim) for _ in range(times)] for workers in WORKERS}
-    beside = min(ran.seconds - thread_seconds(ran.said) for ran in runs[WORKERS[-1]])
-    work = {workers: min(thread_seconds(ran.said) or ran.seconds - beside for ran in runs[workers]) for workers in WORKERS}
-    for workers in WORKERS:
-        whole = min(ran.seconds for ran in runs[workers])
-        memory = max(ran.memory for ran in runs[workers])
-        yield workers, f"{whole:.3f} s", f"{work[workers]:.3f} s", f"{work[workers] / work[1]:.2f}", f"{memory / MEBIBYTE:.0f} MiB", f"{memory / entries(script):.0f}"
+    runs = {count: [run(script, "race", "--workers", str(count), LD_PRELOAD=shim) for _ in range(times)] for count in WORKERS}
+    work = {count: [workers_of(ran) for ran in runs[count]] for count in WORKERS}
+    most = list(zip(runs[WORKERS[-1]], work[WORKERS[-1]]))
+    alone = min(ran.processor for ran in runs[1]) - min(ran.processor - own.all for ran, own in most)
+    work[1] = [Workers(min(ran.seconds for ran in runs[1]) - min(ran.seconds - own.seconds for ran, own in most), alone, alone)]
+    one = Workers(*map(min, zip(*work[1])))
+    for count in WORKERS:
+        whole, own = min(ran.seconds for ran in runs[count]), Workers(*map(min, zip(*work[count])))
+        memory = max(ran.memory for ran in runs[count])
+        yield (
+            count,
+            f"{whole:.3f} s",
+            f"{own.seconds:.3f} s",
+            f"{own.seconds / one.seconds:.2f}",
+            f"{own.busiest:.3f} s",
+            f"{own.busiest / one.busiest:.2f}",
+            f"{memory / MEBIBYTE:.0f} MiB",
+            f"{memory / entries(script):.0f}",
+        )
 
 
 def looks(room, lines, name):
@@ -75,7 +96,7 @@ def main():
     lines, times = [int(word) for word in sys.argv[1:]] + [60000, 5][len(sys.argv) - 1 :]
     with tempfile.TemporaryDirectory() as room:
         script = make(room, "make_race_script.py", lines)
-        head = "Workers", "Whole time", "Of it the workers", "Of one worker's", "Peak memory", "Bytes of it for each entry"
+        head = "Workers", "Whole time", "The workers", "Of one's", "Processor time of the busiest", "Of one's", "Peak memory", "Of it for an entry, bytes"
         print(f"A race of {lines:,} lines, {entries(script):,} entries of history (transactions, begins and ends):\n")
         print(table(head, *measured(script, preloaded(room), times)))
         print(table(("Mode", "Bytes of a transaction", "Times that it is kept", "Bytes each time"), *bytes_of_transaction(room, lines)))

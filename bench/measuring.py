@@ -13,9 +13,10 @@ MEBIBYTE = 2**20
 
 
 class Run(NamedTuple):
-    """Seconds of the whole run, its peak memory in bytes, and what it wrote on standard error."""
+    """Seconds of the whole run, its processor time, its peak memory in bytes, and what it wrote on standard error."""
 
     seconds: float
+    processor: float
     memory: int
     said: str
 
@@ -33,11 +34,13 @@ def run(script, *words, **environment):
         said = errors.read().decode()
     if status != 0:
         sys.exit(f"{' '.join(words)} over {script}: status {status}")
-    return Run(seconds, usage.ru_maxrss * 1024, said)
+    return Run(seconds, usage.ru_utime + usage.ru_stime, usage.ru_maxrss * 1024, said)
 
 
 def fastest(times, script, *words):
-    return min(run(script, *words) for _ in range(times))
+    """The least time, processor time and memory of so many runs."""
+    runs = [run(script, *words) for _ in range(times)]
+    return Run(min(ran.seconds for ran in runs), min(ran.processor for ran in runs), min(ran.memory for ran in runs), "")
 
 
 def make(room, maker, *numbers):
