@@ -1,11 +1,11 @@
 -- The lines of a report that are written one after another.
-use Rattle.std.proofs.Common.{◌≡◌, ℕ, ◌+◌, ◌<◌, ◌≤◌, List, [], ◌∷◌, ◌++◌, Option, length, get_or, take, drop, sym, ap, ◌∙◌, append_assoc, arith}
+use Rattle.std.proofs.Common.{◌≡◌, ℕ, ◌+◌, ◌<◌, ◌≤◌, List, [], ◌∷◌, ◌++◌, Option, length, get_or, take, drop, sym, ap, ◌∙◌, arith}
 use Rattle.std.specs.Io.KnownBytes.{Appends}
 use Rattle.std.proofs.lemmas.List.{take_all, take_more, take-append-drop, append-nil}
 use Rattle.tect_ids.specs.declared.script.ReportLine.{ReportLine}
 use Rattle.tect_edge.specs.Prefixes.{AppendsProperPrefix}
 use Rattle.tect_replay.specs.Output.{line_text, lines_text, end_text, AppendsPrefix}
-use Rattle.tect_replay.proofs.Texts.{prefix_then, prefix_longer, prefix_less, proper_then, lines-append}
+use Rattle.tect_replay.proofs.Texts.{prefix_then, prefix_longer, prefix_less, lines-append}
 
 -- a further line
 pub line_more : (ls : List ReportLine) (i : ℕ) (l : ReportLine) → i < length ls → l ≡ get_or ls i l → lines_text (take (i + 1) ls) ≡ lines_text (take i ls) ++ line_text l

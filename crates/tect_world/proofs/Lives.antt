@@ -1,29 +1,31 @@
 -- the fields of the world tell a run of it, and stay so with more events of one actor
-use Rattle.std.proofs.Common.{zero, suc, ◌≡◌, ◌≢◌, ℕ, ◌+◌, ◌-◌, ◌<◌, ◌≤◌, ◌^◌, Bool, true, false, eqb, if◌then◌else◌, List, [], ◌∷◌, ◌++◌, length, get_or, set, replicate, refl, sym, ap, subst, ◌∙◌, inl, inr, ◌⊎◌, arith, length-append}
-use Rattle.std.proofs.lemmas.List.{get_or-set_same, get_or-set_other, get_or-replicate, length-replicate, get_or_past, length-set, append-nil}
+use Rattle.std.proofs.Common.{◌≡◌, ◌≢◌, ℕ, ◌+◌, ◌-◌, ◌<◌, ◌≤◌, ◌^◌, Bool, true, false, eqb, if◌then◌else◌, List, [], ◌∷◌, ◌++◌, length, set, refl, sym, ap, subst, ◌∙◌, inl, inr, ◌⊎◌, arith, length-append}
+use Rattle.std.proofs.lemmas.List.{get_or-set_same, get_or-set_other, length-map, get_or_past, length-set, append-nil}
 use Rattle.std.proofs.lemmas.Bool.{cases_lt}
 use Rattle.tect_ids.specs.declared.ids.Counts.{Counts}
 use Rattle.tect_ids.proofs.KeyTests.{num_eq_cases}
 use Rattle.store_rules.specs.Store.{Store, opening_store}
 use Rattle.world_runs.specs.declared.event.Event.{Event}
 use Rattle.world_runs.specs.declared.event.Event.TheVariants.{Dumped}
-use Rattle.world_runs.specs.Moments.{Actor, Moment, idle_actor, opening, after_all, moment, IsWorldRun}
-use Rattle.place_kit.specs.declared.entry.Entry.{Entry}
-use Rattle.noted_runs.specs.Events.{own}
+use Rattle.world_runs.specs.Moments.{idle_actor, opening, after_all, IsWorldRun}
+use Rattle.place_kit.specs.declared.entry.Moment.{Moment as Noted}
+use Rattle.noted_runs.specs.Events.{own, event_of, events_of}
 use Rattle.noted_runs.specs.OwnRuns.{OwnRun, own_state, RepliesAre, stored_after}
 use Rattle.noted_runs.specs.Limits.{KeepsLimits, OwnLimits}
 use Rattle.noted_runs.proofs.Actors.{own-append, replies-append, stored_after-append, after_all-append}
 use Rattle.noted_runs.proofs.Owns.{own_runs_make_run, states_are_their_own}
 use Rattle.noted_runs.proofs.Limits.{own_limits_make_limits}
-use Rattle.clients.specs.Lives.{ClientLife, IsLife, events_in, state_in, idle_life}
-use Rattle.kept_shards.specs.KeptStore.{KeptStore, clock_at, clock_after}
+use Rattle.clients.specs.Lives.{ClientLife, events_in, state_in, idle_life}
+use Rattle.kept_shards.specs.KeptStore.{clock_at}
 use Rattle.tect_world.specs.declared.marks.Mark.{Mark}
 use Rattle.tect_world.specs.declared.marks.Mark.TheVariants as marks
 use Rattle.tect_world.specs.declared.world.World.TheInside.{Inside}
-use Rattle.tect_world.specs.Clients.{client_at, events_by, IsClientOf, AreIdle}
+use Rattle.tect_world.specs.Clients.{client_at, events_by, IsClientOf}
 use Rattle.tect_world.specs.Life.{Life, present, grown}
-use Rattle.tect_world.specs.Order.{in_order, marks_of}
-use Rattle.tect_world.specs.Inside.{life_of, IsWorld}
+use Rattle.tect_world.specs.Order.{in_order, marks_of, moments_in_order}
+use Rattle.tect_world.specs.Inside.{life_of, noted_in, IsWorld}
+use Rattle.tect_world.specs.Noted.{moments_by, AreNoted}
+use Rattle.tect_world.proofs.MomentOrders.{HaveMarks, MayGrow, moments-grow, moments-dump}
 use Rattle.tect_world.proofs.Orders.{AreMarked, marks-append, in_order-grow}
 use Rattle.tect_world.proofs.Owning.{own_behind, own_none}
 
@@ -34,7 +36,7 @@ same_or_not a b = grind (arith, num_eq_cases b a)
 pub present-grown : (w : Life) (es : List Event) → present (grown w es) ≡ after_all (present w) es
 present-grown w es = after_all-append (opening w.counts) w.history es
 
-up_to : (a : ℕ) → (a ≤ 65) ⊎ (65 < a)
+pub up_to : (a : ℕ) → (a ≤ 65) ⊎ (65 < a)
 up_to a = elim (cases_lt 65 a) [ inl h ↦ inr h | inr h ↦ inl h ]
 
 -- ---- what the world tells
@@ -96,6 +98,26 @@ module _ (w : Inside) (is : IsWorld w) where
         (states_are_their_own w.shards.counts history).0 a ∙ ap (own_state w.shards.counts idle_actor) world_owns
         ∙ ap (λ (c : Counts). own_state c idle_actor (events_in client)) (sym (is.each a low high).counts)
 
+-- ---- the moments of all passes
+
+more_events : (l : ClientLife) → length l.moments ≤ length (events_in l)
+more_events l = omega (arith, length-append (events_of l.moments) l.silent, length-map l.moments event_of)
+
+-- each actor has at least as many events as moments
+fewer_moments : (c : Counts) (ls : List ClientLife) (b : ℕ) → length (moments_by c ls b) ≤ length (events_by c ls b)
+fewer_moments c ls b = by_zero (eqb b 0)
+  where
+    by_zero : (t : Bool) → length (if t then [] else (client_at c ls b).moments) ≤ length (if t then [] else events_in (client_at c ls b))
+    by_zero true = omega arith
+    by_zero false = more_events (client_at c ls b)
+
+pub have_marks : (w : Inside) → IsWorld w → HaveMarks w.order.items (moments_by w.shards.counts w.clients.items)
+have_marks w is b = let fewer = fewer_moments w.shards.counts w.clients.items b in omega (arith, fewer, is.marked b)
+
+-- these moments of one actor, and none of the others
+abbrev pub moments_of_one : ℕ → List Noted → ℕ → List Noted
+moments_of_one a ms b = if eqb b a then ms else []
+
 -- ---- events of one actor
 
 -- these events of one actor, and none of the others
@@ -116,6 +138,12 @@ pub record Grows (old new : Inside) (a : ℕ) (s : ClientLife) (es : List Event)
   pub few : length new.order.items < 2 ^ 62
   pub replies : RepliesAre old.shards.store es
   pub store : new.shards.store ≡ stored_after old.shards.store es
+  pub kept : List Noted
+  pub moments : s.moments ≡ (client_at old.shards.counts old.clients.items a).moments ++ kept
+  pub in_turn : moments_in_order ms (moments_of_one a kept) ≡ kept
+  pub fresh : (kept ≡ []) ⊎ ((client_at old.shards.counts old.clients.items a).silent ≡ [])
+  pub held : length new.shards.entries ≡ length old.shards.entries
+  pub noted : AreNoted new.clock new.shards.entries (noted_in old ++ kept)
 
 module _ (old new : Inside) (a : ℕ) (s : ClientLife) (es : List Event) (ms : List Mark) (is : IsWorld old) (low : 1 ≤ a) (high : a ≤ 65) (g : Grows old new a s es ms) where
   abbrev c : Counts
@@ -158,6 +186,61 @@ module _ (old new : Inside) (a : ℕ) (s : ClientLife) (es : List Event) (ms : L
       ∙ ap (in_order (old.order.items ++ ms)) (λ i b. events_more b i)
       ∙ in_order-grow old.order.items ms (events_by c old.clients.items) (of_one a es) is.marked
       ∙ ap (λ (x : List Event). (life_of old).history ++ x) g.told
+
+  moments_more : (b : ℕ) → moments_by c new.clients.items b ≡ moments_by c old.clients.items b ++ moments_of_one a g.kept b
+  moments_more b = elim (same_or_not a b) [
+    | inl e ↦
+        let some : eqb b 0 ≡ false = grind (arith, num_eq_cases b 0, low, e) in
+        let here : eqb b a ≡ true = grind (arith, num_eq_cases b a, e) in
+        ap (λ (t : Bool). if t then [] else (client_at c new.clients.items b).moments) some
+        ∙ ap (λ (x : ℕ). (client_at c new.clients.items x).moments) e ∙ ap (λ (l : ClientLife). l.moments) at_own ∙ g.moments
+        ∙ ap (λ (x : ℕ). (client_at c old.clients.items x).moments ++ g.kept) (sym e)
+        ∙ ap (λ (t : Bool). (if t then [] else (client_at c old.clients.items b).moments) ++ g.kept) (sym some)
+        ∙ ap (λ (t : Bool). moments_by c old.clients.items b ++ (if t then g.kept else [])) (sym here)
+    | inr d ↦
+        let there : eqb b a ≡ false = grind (arith, num_eq_cases b a, d) in
+        by_zero b d ∙ sym (append-nil (moments_by c old.clients.items b)) ∙ ap (λ (t : Bool). moments_by c old.clients.items b ++ (if t then g.kept else [])) (sym there)
+  ]
+    where
+      by_zero : (b : ℕ) → b ≢ a → moments_by c new.clients.items b ≡ moments_by c old.clients.items b
+      by_zero b d = elim (eqb b 0) as (λ t. eqb b 0 ≡ t → (if t then [] else (client_at c new.clients.items b).moments) ≡ (if t then [] else (client_at c old.clients.items b).moments)) [
+        | true ↦ λ e. refl
+        | false ↦ λ e. ap (λ (l : ClientLife). l.moments) (at_other b (let some : b ≢ 0 = λ z. grind (arith, num_eq_cases b 0, z, e) in omega (arith, some)) d)
+      ] refl
+
+  -- where no op of the actor was refused, each mark of it is of a moment
+  all_moments : (l : ClientLife) → l.silent ≡ [] → length (events_in l) ≡ length l.moments
+  all_moments l none = ap (λ (es : List Event). length (events_of l.moments ++ es)) none ∙ ap length (append-nil (events_of l.moments)) ∙ length-map l.moments event_of
+
+  no_more : (t : Bool) → g.kept ≡ [] → (if t then g.kept else []) ≡ []
+  no_more true none = none
+  no_more false none = refl
+
+  may_grow : MayGrow old.order.items (moments_by c old.clients.items) (moments_of_one a g.kept)
+  may_grow b = elim (same_or_not a b) [
+    | inl e ↦
+        elim g.fresh [
+          | inl none ↦ inl (no_more (eqb b a) none)
+          | inr none ↦
+              let some : eqb b 0 ≡ false = grind (arith, num_eq_cases b 0, low, e) in
+              let events : length (events_by c old.clients.items b) ≡ length (events_in (client_at c old.clients.items b)) =
+              ap (λ (t : Bool). length (if t then [] else events_in (client_at c old.clients.items b))) some in
+              let moments : length (moments_by c old.clients.items b) ≡ length (client_at c old.clients.items b).moments =
+              ap (λ (t : Bool). length (if t then [] else (client_at c old.clients.items b).moments)) some in
+              let silent : (client_at c old.clients.items b).silent ≡ [] = ap (λ (x : ℕ). (client_at c old.clients.items x).silent) e ∙ none in
+              let all = all_moments (client_at c old.clients.items b) silent in
+              inr (omega (arith, is.marked b, events, moments, all))
+        ]
+    | inr d ↦ let there : eqb b a ≡ false = grind (arith, num_eq_cases b a, d) in inl (ap (λ (t : Bool). if t then g.kept else []) there)
+  ]
+
+  noted_more : noted_in new ≡ noted_in old ++ g.kept
+  noted_more =
+      ap (λ (k : Counts). moments_in_order new.order.items (moments_by k new.clients.items)) g.counts
+      ∙ ap (λ (o : List Mark). moments_in_order o (moments_by c new.clients.items)) g.order
+      ∙ ap (moments_in_order (old.order.items ++ ms)) (λ i b. moments_more b i)
+      ∙ moments-grow old.order.items ms (moments_by c old.clients.items) (moments_of_one a g.kept) (have_marks old is) may_grow
+      ∙ ap (λ (x : List Noted). noted_in old ++ x) g.in_turn
 
   pub grows : life_of new ≡ grown (life_of old) es
   grows i = record { counts = g.counts i; history = history_more i }
@@ -210,6 +293,8 @@ module _ (old new : Inside) (a : ℕ) (s : ClientLife) (es : List Event) (ms : L
     replies = subst (RepliesAre opening_store) (sym history_more)
         (replies-append opening_store (life_of old).history es is.replies (subst (λ (x : Store). RepliesAre x es) is.store g.replies));
     store = g.store ∙ ap (λ (x : Store). stored_after x es) is.store ∙ sym (stored_after-append opening_store (life_of old).history es) ∙ ap (stored_after opening_store) (sym history_more);
+    held = subst (λ (k : Counts). length new.shards.entries ≡ k.names + k.files) (sym g.counts) (g.held ∙ is.held);
+    noted = subst (λ (ns : List Noted). AreNoted new.clock new.shards.entries ns) (sym noted_more) g.noted;
   }
 
 -- ---- a dump
@@ -232,6 +317,11 @@ module _ (old new : Inside) (is : IsWorld old) (order : new.order.items ≡ old.
   pub dump_grows : life_of dumped ≡ grown (life_of old) (Dumped ∷ [])
   dump_grows i = record { counts = old.shards.counts; history = dumped_history i }
 
+  dumped_noted : noted_in dumped ≡ noted_in old
+  dumped_noted =
+      let own : ℕ → List Noted = moments_by old.shards.counts old.clients.items in
+      ap (λ (o : List Mark). moments_in_order o own) order ∙ moments-dump old.order.items own
+
   still_marked : (b : ℕ) → marks_of b new.order.items ≡ length (by_old b)
   still_marked b =
       let both = marks-append b old.order.items (marks.Dump ∷ []) in
@@ -249,67 +339,6 @@ module _ (old new : Inside) (is : IsWorld old) (order : new.order.items ≡ old.
     owns = λ b. ap (own b) dumped_history ∙ own-append b (life_of old).history (Dumped ∷ []) ∙ append-nil (own b (life_of old).history) ∙ is.owns b;
     replies = subst (RepliesAre opening_store) (sym dumped_history) (replies-append opening_store (life_of old).history (Dumped ∷ []) is.replies tt);
     store = is.store ∙ sym (stored_after-append opening_store (life_of old).history (Dumped ∷ [])) ∙ ap (stored_after opening_store) (sym dumped_history);
-  }
-
--- ---- the world before anything was done
-
-abbrev opening_kept : Counts → KeptStore
-opening_kept c = record { counts = c; store = opening_store; entries = replicate (c.names + c.files) [] }
-
-module _ (new : Inside) (c : Counts) (shards : new.shards ≡ opening_kept c) (idle : AreIdle c new.clients.items 65) (clock : new.clock ≡ 0) (order : new.order.items ≡ []) where
-  first_at : (a : ℕ) → 1 ≤ a → a ≤ 65 → client_at c new.clients.items a ≡ idle_life a c
-  first_at a low high =
-      let number : a - 1 + 1 ≡ a = omega (arith, low) in
-      idle.each (a - 1) (omega (arith, low, high)) ∙ ap (λ (n : ℕ). idle_life n c) number
-
-  counts_are : new.shards.counts ≡ c
-  counts_are = ap (λ (w : KeptStore). w.counts) shards
-
-  none_by : (a : ℕ) → events_by c new.clients.items a ≡ []
-  none_by a = elim (eqb a 0) as (λ t. eqb a 0 ≡ t → (if t then [] else events_in (client_at c new.clients.items a)) ≡ []) [
-    | true ↦ λ e. refl
-    | false ↦ λ e. none_in a (up_to a) (let some : a ≢ 0 = λ z. grind (arith, num_eq_cases a 0, z, e) in omega (arith, some))
-  ] refl
-    where
-      none_in : (a : ℕ) → (a ≤ 65) ⊎ (65 < a) → 1 ≤ a → events_in (client_at c new.clients.items a) ≡ []
-      none_in a (inl high) low = ap events_in (first_at a low high)
-      none_in a (inr far) low = ap events_in (let past : client_at c new.clients.items a ≡ idle_life 0 c = get_or_past new.clients.items (a - 1) (idle_life 0 c) (omega (arith, far, idle.number)) in past)
-
-  no_history : (life_of new).history ≡ []
-  no_history = ap (λ (o : List Mark). in_order o (events_by new.shards.counts new.clients.items)) order
-
-  no_clock : (n p : ℕ) → clock_after 0 (get_or (replicate n []) p []) ≡ 0
-  no_clock n p = by_place n p (cases_lt p n)
-    where
-      by_place : (n p : ℕ) → (p < n) ⊎ (n ≤ p) → clock_after 0 (get_or (replicate n []) p []) ≡ 0
-      by_place n p (inl lt) = ap (clock_after 0) (get_or-replicate n p [] [] lt)
-      by_place n p (inr le) =
-          let past : length (replicate n (let none : List Entry = [] in none)) ≤ p = rw length-replicate le in
-          ap (clock_after 0) (get_or_past (replicate n []) p [] past)
-
-  first_each : (a : ℕ) → 1 ≤ a → a ≤ 65 → IsClientOf c new.clock a (client_at c new.clients.items a)
-  first_each a low high =
-      let at = first_at a low high in
-      record {
-        actor = ap (λ (l : ClientLife). l.actor) at;
-        counts = ap (λ (l : ClientLife). l.counts) at;
-        life = idle.lives (a - 1) (omega (arith, low, high));
-        early = rw (at, clock) (omega arith);
-      }
-
-  pub start_is : life_of new ≡ record { counts = c; history = [] }
-  start_is i = record { counts = counts_are i; history = no_history i }
-
-  pub start_world : IsWorld new
-  start_world = record {
-    number = idle.number;
-    each = subst (λ (k : Counts). (a : ℕ) → 1 ≤ a → a ≤ 65 → IsClientOf k new.clock a (client_at k new.clients.items a)) (sym counts_are) first_each;
-    places = λ p. rw (shards, clock) (let zero : clock_after 0 (get_or (replicate (c.names + c.files) []) p []) ≡ 0 = no_clock (c.names + c.files) p in omega (arith, zero));
-    early = omega (arith, clock);
-    few = rw order (omega arith);
-    marked = subst (λ (k : Counts). (b : ℕ) → marks_of b new.order.items ≡ length (events_by k new.clients.items b)) (sym counts_are)
-        (λ b. ap (marks_of b) order ∙ ap length (sym (none_by b)));
-    owns = subst (λ (k : Counts). (b : ℕ) → own b (life_of new).history ≡ events_by k new.clients.items b) (sym counts_are) (λ b. ap (own b) no_history ∙ sym (none_by b));
-    replies = subst (RepliesAre opening_store) (sym no_history) tt;
-    store = ap (λ (w : KeptStore). w.store) shards ∙ ap (stored_after opening_store) (sym no_history);
+    held = is.held;
+    noted = subst (λ (ns : List Noted). AreNoted old.clock old.shards.entries ns) (sym dumped_noted) is.noted;
   }

@@ -14,7 +14,7 @@ use Rattle.tect_world.proofs.Lives.{of_one}
 
 -- ---- marks
 
-same : (a : ℕ) → eqb a a ≡ true
+pub same : (a : ℕ) → eqb a a ≡ true
 same a = grind (arith, num_eq_cases a a)
 
 later_one : (a : ℕ) (e : Event) (es : List Event) (b : ℕ) → (if eqb b a then later_events (of_one a (e ∷ es) b) else of_one a (e ∷ es) b) ≡ of_one a es b

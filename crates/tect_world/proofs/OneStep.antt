@@ -18,7 +18,6 @@ use Rattle.clients.specs.Lives.{ClientLife}
 use Rattle.clients.specs.Steps.{Tried, Unasked, Did, Denied, DidThere, entry_in, tried_life, ended_with, ended_life, tried_events, end_events}
 use Rattle.kept_shards.specs.KeptStore.{KeptStore, committed, entries_at, clock_after, clock_at}
 use Rattle.kept_shards.specs.KeptStore as kept
-use Rattle.tect_world.specs.Life.{transaction}
 use Rattle.tect_world.proofs.Marking.{has_act}
 
 -- ---- the client after the step

@@ -48,7 +48,7 @@ no_ask : (serial : ℕ) (o : Option Program) (a : Answer) → program_answer o �
 no_ask serial None a is = refl
 no_ask serial (Some p) a is = no_ask_at p.op (object_number p.op.actor serial) p.command p.phase a is
 
-refused_asks : (serial : ℕ) (o : Option Program) → WasRefused o → program_ask serial o ≡ None
+pub refused_asks : (serial : ℕ) (o : Option Program) → WasRefused o → program_ask serial o ≡ None
 refused_asks serial None is = refl
 refused_asks serial (Some p) is = ap (phase_ask p.op (object_number p.op.actor serial) p.command) is
 

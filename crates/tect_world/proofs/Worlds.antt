@@ -1,27 +1,26 @@
 -- the world after the code of each call
-use Rattle.std.proofs.Common.{◌≡◌, ◌≢◌, ℕ, ◌+◌, ◌-◌, ◌<◌, ◌≤◌, ◌^◌, ◌⊎◌, inl, inr, Bool, true, false, eqb, if◌then◌else◌, max, Option, Some, None, List, [], ◌∷◌, ◌++◌, length, get_or, set, refl, sym, ap, ◌∙◌, subst, append_assoc, arith, length-append}
-use Rattle.std.specs.Prelude.{IsSome, OnOk, OnErr, MatchResult, Result, Ok, Err}
-use Rattle.std.proofs.lemmas.List.{append-nil, map-append}
+use Rattle.std.proofs.Common.{◌≡◌, ◌≢◌, ℕ, ◌+◌, ◌-◌, ◌<◌, ◌≤◌, ◌^◌, ◌⊎◌, inl, inr, Bool, true, false, eqb, if◌then◌else◌, Option, None, List, [], ◌∷◌, ◌++◌, length, get_or, set, refl, sym, ap, ◌∙◌, subst, append_assoc, arith, length-append}
+use Rattle.std.specs.Prelude.{OnOk, OnErr, MatchResult, Result, Ok, Err}
+use Rattle.std.proofs.lemmas.List.{append-nil}
 use Rattle.tect_ids.specs.declared.ids.Counts.{Counts}
 use Rattle.tect_ids.specs.declared.ids.OpId.{OpId}
 use Rattle.tect_ids.specs.declared.answer.Answer.{Answer}
 use Rattle.tect_ids.specs.declared.command.Command.{Command}
 use Rattle.store_rules.specs.declared.any.AnyReq.{AnyReq}
 use Rattle.store_rules.specs.declared.any.AnyReply.{AnyReply}
+use Rattle.store_rules.specs.Places.{request_place}
 use Rattle.store_rules.specs.Store.{Store, store_reply}
 use Rattle.op_names.specs.declared.program.Program.{Program}
 use Rattle.place_kit.specs.declared.entry.Moment.{Moment}
 use Rattle.place_kit.specs.declared.entry.Moment.TheVariants.{Local}
 use Rattle.place_kit.specs.declared.entry.Note.TheVariants as notes
-use Rattle.place_kit.specs.Moments.{running_in, running_after}
-use Rattle.place_kit.proofs.Pushes.{running_in-push}
+use Rattle.place_kit.specs.Moments.{running_in}
 use Rattle.world_runs.specs.declared.event.Event.{Event}
-use Rattle.world_runs.specs.declared.event.Event.TheVariants.{Began, Refused, Stopped, Failed}
+use Rattle.world_runs.specs.declared.event.Event.TheVariants.{Began, Refused, Stopped}
 use Rattle.world_runs.specs.Moments.{Actor, program_of, idle_actor}
 use Rattle.world_runs.specs.Moments as runs
-use Rattle.world_runs.specs.Follows.{IsBeginOf}
 use Rattle.world_runs.specs.Report.{transactions}
-use Rattle.noted_runs.specs.Events.{own, events_of, event_of}
+use Rattle.noted_runs.specs.Events.{events_of}
 use Rattle.noted_runs.specs.OwnRuns.{OwnRun, own_state, RepliesAre, stored_after}
 use Rattle.noted_runs.proofs.Actors.{own_run-rest}
 use Rattle.noted_runs.proofs.Owns.{counts_stay}
@@ -30,9 +29,9 @@ use Rattle.all_shards.proofs.Stepped.{any_default}
 use Rattle.actors.specs.declared.turned.Turned.{Turned}
 use Rattle.actors.specs.declared.turned.Turned.TheVariants.{Done}
 use Rattle.actors.specs.Turns.{turned_by}
-use Rattle.clients.specs.Lives.{ClientLife, IsLife, events_in, state_in, op_in, next_op_in, idle_life, begun_life, refused_life, Begins, RefusesNext, stopped_with, stopped_life}
+use Rattle.clients.specs.Lives.{ClientLife, IsLife, events_in, state_in, op_in, next_op_in, idle_life, begun_life, refused_life}
 use Rattle.clients.specs.Phases.{RunsIn, WasRefused}
-use Rattle.clients.specs.Steps.{Tried, Did, DidThere, EndsSo, state_after, entry_in, ended_life, tried_life}
+use Rattle.clients.specs.Steps.{Did, DidThere, EndsSo, state_after, entry_in, ended_life, tried_life}
 use Rattle.kept_shards.specs.KeptStore.{KeptStore, clock_at}
 use Rattle.kept_shards.specs.KeptStore as kept
 use Rattle.tect_world.specs.declared.marks.Mark.{Mark}
@@ -40,60 +39,17 @@ use Rattle.tect_world.specs.declared.marks.Mark.TheVariants as marks
 use Rattle.tect_world.specs.declared.world.World.TheInside.{Inside}
 use Rattle.tect_world.specs.Clients.{client_at, raised, IsClientOf}
 use Rattle.tect_world.specs.ClientSteps.{StepsOnce, BeginsOnce, StopsOnce, StaysSo, marks_for, stepped_events}
-use Rattle.tect_world.specs.Inside.{life_of, IsWorld}
-use Rattle.tect_world.specs.Life.{Life, present, grown, last_op, next_op, actor_asks, actor_answer, actor_events, transaction, step_answer, step_events}
+use Rattle.tect_world.specs.Inside.{life_of, noted_in, IsWorld}
+use Rattle.tect_world.specs.Noted.{AreNoted}
+use Rattle.tect_world.specs.Life.{present, grown, last_op, next_op, actor_asks, actor_answer, actor_events, transaction, step_answer, step_events}
 use Rattle.tect_world.specs.Steps.{HasBegun, FailsWith, Stepped}
-use Rattle.tect_world.proofs.Lives.{Grows, of_one, grows, stays, world_run, world_store, world_owns, world_state}
+use Rattle.tect_world.proofs.Lives.{Grows, grows, stays, world_run, world_store, world_owns, world_state}
 use Rattle.tect_world.proofs.Marking.{told_all, marked_all, step_few, marks_length}
 use Rattle.tect_world.proofs.OneStep.{same_actor, same_counts, clock_rises, clock_early, step_replies, next_is, places_then}
 use Rattle.tect_world.proofs.Outcomes.{outcome, Outcome}
-use Rattle.tect_world.proofs.Running.{own_program}
-
--- an end for want of memory or room
-abbrev failed : OpId → Answer → List Event
-failed op x = Failed op x ∷ []
-
--- the program that runs is that of the actor's last op
-own_programs : (w : Life) (a : ℕ) → runs.IsWorldRun w.counts w.history → (o : Option Program) → ((present w).actors a).running ≡ o → program_of o (last_op (present w) a) ≡ o
-own_programs w a run None is = refl
-own_programs w a run (Some p) is = ap (λ (o : Option Program). program_of o (last_op (present w) a)) (sym is) ∙ own_program w a p run is
-
--- ---- one event more of a client
-
-noted_event : (ms : List Moment) (m : Moment) (ss : List Event) → ss ≡ [] → events_of (ms ++ m ∷ []) ++ ss ≡ (events_of ms ++ ss) ++ event_of m ∷ []
-noted_event ms m ss none =
-    ap (λ (es : List Event). events_of (ms ++ m ∷ []) ++ es) none ∙ append-nil (events_of (ms ++ m ∷ [])) ∙ map-append event_of ms (m ∷ [])
-    ∙ ap (λ (es : List Event). es ++ event_of m ∷ []) (sym (append-nil (events_of ms)) ∙ ap (λ (es : List Event). events_of ms ++ es) (sym none))
-
--- an op that runs was not refused
-none_silent : (ss : List Event) (ms : List Moment) (m : Moment) (op : OpId) (o : Option Program) → RunsIn ss (running_in None (ms ++ m ∷ [])) o
-    → running_after (running_in None ms) m ≡ Some op → ss ≡ []
-none_silent [] ms m op o going is = refl
-none_silent (e ∷ es) ms m op o going is = let last = running_in-push None ms m in let none = going.0 in absurd cc
-
--- the stop of a client
-pub record IsStop (l m : ClientLife) : Type 0 where
-  pub events : events_in m ≡ events_in l ++ Stopped (op_in l) ∷ []
-  pub actor : m.actor ≡ l.actor
-  pub counts : m.counts ≡ l.counts
-  pub low : l.clock ≤ m.clock
-  pub high : m.clock ≤ l.clock + 1
-
-stop_by : (l : ClientLife) (ss : List Event) → l.silent ≡ ss → IsStop l (stopped_with l ss)
-stop_by l [] is = record {
-  events = noted_event l.moments (Local (l.clock + 1) l.actor (notes.Stopped (op_in l))) l.silent is;
-  actor = refl;
-  counts = refl;
-  low = omega arith;
-  high = omega arith;
-}
-stop_by l (e ∷ es) is = record {
-  events = sym (append_assoc (events_of l.moments) l.silent (Stopped (op_in l) ∷ []));
-  actor = refl;
-  counts = refl;
-  low = omega arith;
-  high = omega arith;
-}
+use Rattle.tect_world.proofs.Notings.{noted_later, noted_local}
+use Rattle.tect_world.proofs.StepMoments.{step_moments, step_noted, step_fewer, step_fresh, noted_all, step_kept, entries_stay}
+use Rattle.tect_world.proofs.Stopping.{failed, own_programs, noted_event, none_silent, none_more, IsStop, stop_by, request_within}
 
 module _ (old : Inside) (a : ℕ) (before : ClientLife) (is : IsWorld old) (low : 1 ≤ a) (high : a ≤ 65) (at : before ≡ get_or old.clients.items (a - 1) before) where
   abbrev c : Counts
@@ -125,6 +81,19 @@ module _ (old : Inside) (a : ℕ) (before : ClientLife) (is : IsWorld old) (low 
 
   clock_is : r.clock ≡ old.clock
   clock_is = omega (arith, mine.early)
+
+  noted_now : AreNoted r.clock old.shards.entries (noted_in old)
+  noted_now = noted_later old.clock r.clock old.shards.entries (noted_in old) is.noted (omega (arith, clock_is))
+
+  within : (q : AnyReq) → (request_place r.counts q).0 < length old.shards.entries
+  within q =
+      let lt = request_within before.counts q mine.life.places in
+      omega (arith, lt, is.held, ap (λ (k : Counts). k.names) mine.counts, ap (λ (k : Counts). k.files) mine.counts)
+
+  -- of the client as the world has it
+  same_fresh : (kept : List Moment) → (kept ≡ []) ⊎ (before.silent ≡ []) → (kept ≡ []) ⊎ ((client_at c old.clients.items a).silent ≡ [])
+  same_fresh kept (inl none) = inl none
+  same_fresh kept (inr none) = inr (ap (λ (l : ClientLife). l.silent) (sym same_client) ∙ none)
 
   own_prog : program_of (state_in before).running (op_in before) ≡ (state_in before).running
   own_prog =
@@ -169,8 +138,28 @@ module _ (old : Inside) (a : ℕ) (before : ClientLife) (is : IsWorld old) (low 
       order_length : length new.order.items ≡ length old.order.items + length es
       order_length = ap length order_is ∙ length-append old.order.items (marks_for a es) ∙ ap (λ (n : ℕ). length old.order.items + n) (marks_length a es)
 
+      refused_so : r.silent ≢ [] → WasRefused (state_in r).running
+      refused_so = by_silent r.silent mine.life.going
+        where
+          by_silent : (ss : List Event) → RunsIn ss (running_in None before.moments) (state_in before).running → ss ≢ [] → WasRefused (state_in before).running
+          by_silent [] going some = absurd (some refl)
+          by_silent (e ∷ es) going some = going.1
+
+      abbrev noted_then : List Moment
+      noted_then = step_moments r o.step.stamp o.step.tried (op_in r) o.step.answer
+
+      clock_then : (ended_life (tried_life r o.step.stamp o.step.tried) (op_in r) o.step.answer).clock ≡ new.clock
+      clock_then = ap (λ (l : ClientLife). l.clock) (sym s_is) ∙ sym o.clock
+
       step_grows : Grows old new a s es (marks_for a es)
       step_grows = record {
+        kept = noted_then;
+        moments = ap (λ (l : ClientLife). l.moments) s_is ∙ step_noted r o.step.stamp o.step.tried (op_in r) o.step.answer ∙ ap (λ (l : ClientLife). l.moments ++ noted_then) same_client;
+        in_turn = noted_all a es noted_then (step_fewer r o.step.stamp o.step.tried (op_in r) o.step.answer);
+        fresh = same_fresh noted_then (step_fresh r r.silent o.step.stamp o.step.tried (op_in r) o.step.answer refl refused_so o.step.asks);
+        held = entries_stay old.shards new.shards r o.step.stamp (noted_in old) noted_now within o.step.tried o.step.there;
+        noted = subst (λ (k : ℕ). AreNoted k new.shards.entries (noted_in old ++ noted_then)) clock_then
+            (step_kept old.shards new.shards r o.step.stamp (noted_in old) noted_now within o.step.tried (op_in r) o.step.answer o.step.there o.step.later);
         items = items;
         counts = counts;
         events = o.step.events ∙ ap (λ (l : ClientLife). events_in l ++ es) same_client;
@@ -193,13 +182,6 @@ module _ (old : Inside) (a : ℕ) (before : ClientLife) (is : IsWorld old) (low 
       step_stays = stays old new a s es (marks_for a es) is low high step_grows
 
       -- what the step comes to
-
-      refused_so : r.silent ≢ [] → WasRefused (state_in r).running
-      refused_so = by_silent r.silent mine.life.going
-        where
-          by_silent : (ss : List Event) → RunsIn ss (running_in None before.moments) (state_in before).running → ss ≢ [] → WasRefused (state_in before).running
-          by_silent [] going some = absurd (some refl)
-          by_silent (e ∷ es) going some = going.1
 
       replied : (q : AnyReq) (y : AnyReply) → o.step.tried ≡ Did q y → y ≡ store_reply (present (life_of old)).store q
       replied q y same =
@@ -253,12 +235,20 @@ module _ (old : Inside) (a : ℕ) (before : ClientLife) (is : IsWorld old) (low 
 
     pub one_grows : (e : Event) → new.shards ≡ old.shards → events_in s ≡ events_in before ++ e ∷ [] → s.actor ≡ before.actor → s.counts ≡ before.counts → r.clock ≤ s.clock → s.clock ≤ r.clock + 1
         → new.clock ≡ s.clock → new.order.items ≡ os ++ marks.Actor before.actor ∷ [] → RepliesAre old.shards.store (e ∷ []) → old.shards.store ≡ stored_after old.shards.store (e ∷ [])
+        → (kept : List Moment) → s.moments ≡ before.moments ++ kept → length kept ≤ 1 → (kept ≡ []) ⊎ (before.silent ≡ []) → AreNoted s.clock old.shards.entries (noted_in old ++ kept)
         → Grows old new a s (e ∷ []) (marks_for a (e ∷ []))
-    one_grows e shards events actor counts rises soon clock pushed replies store =
+    one_grows e shards events actor counts rises soon clock pushed replies store kept moments few fresh noted =
         let order_is : new.order.items ≡ old.order.items ++ marks.Actor a ∷ [] =
         pushed ∙ ap (λ (ms : List Mark). ms ++ marks.Actor before.actor ∷ []) order ∙ ap (λ (n : ℕ). old.order.items ++ marks.Actor n ∷ []) mine.actor in
         let order_length : length new.order.items ≡ length old.order.items + 1 = ap length order_is ∙ length-append old.order.items (marks.Actor a ∷ []) in
         record {
+          kept = kept;
+          moments = moments ∙ ap (λ (l : ClientLife). l.moments ++ kept) same_client;
+          in_turn = noted_all a (e ∷ []) kept few;
+          fresh = same_fresh kept fresh;
+          held = ap (λ (w : KeptStore). length w.entries) shards;
+          noted = subst (λ (w : KeptStore). AreNoted new.clock w.entries (noted_in old ++ kept)) (sym shards)
+              (subst (λ (k : ℕ). AreNoted k old.shards.entries (noted_in old ++ kept)) (sym clock) noted);
           items = items;
           counts = ap (λ (w : KeptStore). w.counts) shards;
           events = events ∙ ap (λ (l : ClientLife). events_in l ++ e ∷ []) same_client;
@@ -285,13 +275,17 @@ module _ (old : Inside) (a : ℕ) (before : ClientLife) (is : IsWorld old) (low 
           subst (λ (x : ClientLife). RunsIn x.silent (running_in None x.moments) (state_in s).running) begun life.going in
           let none : r.silent ≡ [] = none_silent r.silent r.moments note (next_op_in r) (state_in s).running going refl in
           one_grows (Began (next_op_in r) command) shards (ap events_in begun ∙ noted_event r.moments note r.silent none) (ap (λ (l : ClientLife). l.actor) begun) (ap (λ (l : ClientLife). l.counts) begun)
-          (rw begun (omega arith)) (rw begun (omega arith)) clock pushed tt refl
+          (rw begun (omega arith)) (rw begun (omega arith)) clock pushed tt refl (note ∷ []) (ap (λ (l : ClientLife). l.moments) begun) (omega arith) (inr none)
+          (subst (λ (k : ℕ). AreNoted k old.shards.entries (noted_in old ++ note ∷ [])) (sym (ap (λ (l : ClientLife). l.clock) begun))
+          (noted_local r.clock (r.clock + 1) r.actor (notes.Began (next_op_in r) command) old.shards.entries (noted_in old) noted_now (omega arith)))
 
       refused_grows : s ≡ refused_life r command → new.clock ≡ s.clock → new.order.items ≡ os ++ marks.Actor before.actor ∷ []
           → Grows old new a s (Refused (next_op_in r) command ∷ []) (marks_for a (Refused (next_op_in r) command ∷ []))
       refused_grows refused clock pushed =
           one_grows (Refused (next_op_in r) command) shards (ap events_in refused ∙ sym (append_assoc (events_of r.moments) r.silent (Refused (next_op_in r) command ∷ [])))
           (ap (λ (l : ClientLife). l.actor) refused) (ap (λ (l : ClientLife). l.counts) refused) (rw refused (omega arith)) (rw refused (omega arith)) clock pushed tt refl
+          [] (ap (λ (l : ClientLife). l.moments) refused ∙ sym (append-nil before.moments)) (omega arith) (inl refl)
+          (subst (λ (k : ℕ). AreNoted k old.shards.entries (noted_in old ++ [])) (sym (ap (λ (l : ClientLife). l.clock) refused)) (none_more r.clock old.shards.entries (noted_in old) noted_now))
 
       pub begin_world : BeginsOnce before s command old.clock new.clock os new.order.items → IsWorld new × HasBegun (life_of old) (life_of new) (next_op (present (life_of old)) a) command
       begin_world b = elim b.begins [
@@ -310,6 +304,13 @@ module _ (old : Inside) (a : ℕ) (before : ClientLife) (is : IsWorld old) (low 
       -- for want of memory all stays
       wanting : StaysSo before s old.clock new.clock os new.order.items → Grows old new a s [] []
       wanting o = record {
+        kept = [];
+        moments = ap (λ (l : ClientLife). l.moments) o.stays ∙ sym (append-nil before.moments) ∙ ap (λ (l : ClientLife). l.moments ++ []) same_client;
+        in_turn = refl;
+        fresh = inl refl;
+        held = ap (λ (w : KeptStore). length w.entries) shards;
+        noted = subst (λ (w : KeptStore). AreNoted new.clock w.entries (noted_in old ++ [])) (sym shards)
+            (subst (λ (k : ℕ). AreNoted k old.shards.entries (noted_in old ++ [])) (sym o.clock) (none_more old.clock old.shards.entries (noted_in old) is.noted));
         items = items;
         counts = ap (λ (w : KeptStore). w.counts) shards;
         events = ap events_in o.stays ∙ ap events_in same_client ∙ sym (append-nil (events_in (client_at c old.clients.items a)));
@@ -353,7 +354,8 @@ module _ (old : Inside) (a : ℕ) (before : ClientLife) (is : IsWorld old) (low 
       stop_grows : Grows old new a s (Stopped (op_in r) ∷ []) (marks_for a (Stopped (op_in r) ∷ []))
       stop_grows =
           let stop : IsStop r s = rw o.stops (stop_by r r.silent refl) in
-          one_grows (Stopped (op_in r)) shards stop.events stop.actor stop.counts stop.low stop.high o.clock o.order tt refl
+          one_grows (Stopped (op_in r)) shards stop.events stop.actor stop.counts stop.low stop.high o.clock o.order tt refl stop.kept stop.moments stop.few stop.fresh
+          (stop.noted old.shards.entries (noted_in old) noted_now)
 
       pub stop_stays : IsWorld new
       stop_stays = stays old new a s (Stopped (op_in r) ∷ []) _ is low high stop_grows

@@ -1,17 +1,22 @@
 -- The fields of the world tell its history, which is a run of the world.
-use Rattle.std.specs.Prelude.{◌≡◌, ℕ, ◌<◌, ◌≤◌, ◌^◌, List, length}
-use Rattle.tect_ids.specs.Places.{HasPlaces}
+use Rattle.std.specs.Prelude.{◌≡◌, ℕ, ◌+◌, ◌<◌, ◌≤◌, ◌^◌, List, length}
 use Rattle.store_rules.specs.Store.{opening_store}
+use Rattle.place_kit.specs.declared.entry.Moment.{Moment}
 use Rattle.noted_runs.specs.Events.{own}
 use Rattle.noted_runs.specs.OwnRuns.{RepliesAre, stored_after}
 use Rattle.kept_shards.specs.KeptStore.{clock_at}
 use Rattle.tect_world.specs.declared.world.World.TheInside.{Inside}
 use Rattle.tect_world.specs.Clients.{client_at, events_by, IsClientOf}
 use Rattle.tect_world.specs.Life.{Life}
-use Rattle.tect_world.specs.Order.{in_order, marks_of}
+use Rattle.tect_world.specs.Noted.{moments_by, AreNoted}
+use Rattle.tect_world.specs.Order.{in_order, marks_of, moments_in_order}
 
 abbrev pub life_of : Inside → Life
 life_of w = record { counts = w.shards.counts; history = in_order w.order.items (events_by w.shards.counts w.clients.items) }
+
+-- the moments of all passes, in the order in which they came
+abbrev pub noted_in : Inside → List Moment
+noted_in w = moments_in_order w.order.items (moments_by w.shards.counts w.clients.items)
 
 pub record IsWorld (w : Inside) : Type 0 where
   pub number : length w.clients.items ≡ 65
@@ -23,3 +28,5 @@ pub record IsWorld (w : Inside) : Type 0 where
   pub owns : (a : ℕ) → own a (life_of w).history ≡ events_by w.shards.counts w.clients.items a
   pub replies : RepliesAre opening_store (life_of w).history
   pub store : w.shards.store ≡ stored_after opening_store (life_of w).history
+  pub held : length w.shards.entries ≡ w.shards.counts.names + w.shards.counts.files
+  pub noted : AreNoted w.clock w.shards.entries (noted_in w)

@@ -3,8 +3,13 @@
 #![tactic(auto)]
 
 mod acting;
+mod history;
 mod marks;
 mod world;
 
 pub use actors::Turned;
+pub use merge_runs::Merged;
 pub use world::World;
+
+#[cfg(test)]
+mod tests;

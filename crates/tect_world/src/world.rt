@@ -8,12 +8,15 @@ ghost use Rattle.world_runs.specs.Report.{transactions};
 ghost use Rattle.world_runs.specs.Served.{IsServed};
 ghost use Rattle.tect_world.specs.Life.{Life, present, grown, last_op, next_op};
 ghost use Rattle.tect_world.specs.Steps.{HasBegun, Stepped, RanToEnd, GoesOn};
+ghost use Rattle.tect_world.specs.Told.{IsGathered};
 
 use crate::acting::{begin_client, idle_clients, step_client, stop_client};
+use crate::history::{gather_all, take_passes};
 use crate::marks::{Mark, is_short, push_mark};
 use actors::Turned;
 use clients::Client;
 use kept_shards::KeptShards;
+use merge_runs::Merged;
 use std::alloc::Global;
 use std::marker::Model;
 use tect_ids::{Answer, Command, Counts, DumpLine, NoMemory, OpId};
@@ -212,5 +215,20 @@ impl World {
     {
         self.known();
         self.clients[actor as usize - 1].transactions()
+    }
+
+    /// One history of all that was done, taken out of the places and the passes: the entries of all places and the notes of all
+    /// passes, by their stamps, which is the order in which they came. For want of memory all is lost.
+    pub fn history(self, alloc: Global) -> Result<Merged, NoMemory>
+        ensures { IfOk result (IsGathered self) }
+    {
+        let World {
+            shards,
+            clients,
+            ..
+        } = self;
+        let kepts = shards.into_kepts()?;
+        let passes = take_passes(alloc, clients)?;
+        gather_all(alloc, kepts, passes)
     }
 }

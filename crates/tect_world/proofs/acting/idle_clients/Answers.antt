@@ -1,4 +1,3 @@
-use Rattle.std.proofs.Common.{ap, ◌∙◌}
 use Rattle.tect_world.proofs.Idle.{idle_push}
 use Rattle.tect_world.proofs.acting.idle_clients.Goals as goal
 

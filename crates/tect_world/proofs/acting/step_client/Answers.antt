@@ -1,4 +1,4 @@
-use Rattle.std.proofs.Common.{◌≡◌, ℕ, Bool, [], ◌∷◌, ◌++◌, List, ap, sym, ◌∙◌, subst}
+use Rattle.std.proofs.Common.{◌≡◌, ◌++◌, List, ap, ◌∙◌, subst}
 use Rattle.clients.specs.Lives.{ClientLife, events_in, op_in}
 use Rattle.world_runs.specs.Report.{transactions}
 use Rattle.clients.specs.Steps.{OwnStep}
@@ -6,8 +6,7 @@ use Rattle.kept_shards.specs.KeptStore as kept
 use Rattle.tect_world.specs.declared.marks.Mark.{Mark}
 use Rattle.tect_world.specs.Clients.{raised}
 use Rattle.tect_world.specs.ClientSteps.{act_marks, end_marks}
-use Rattle.actors.specs.declared.turned.Turned.{Turned}
-use Rattle.tect_world.proofs.Marking.{has_act, step_marked}
+use Rattle.tect_world.proofs.Marking.{step_marked}
 use Rattle.tect_world.proofs.OneStep.{same_actor, same_counts}
 use Rattle.tect_world.proofs.Outcomes.{acted_is}
 use Rattle.tect_world.proofs.acting.step_client.Goals as goal

@@ -1,7 +1,5 @@
-use Rattle.std.proofs.Common.{List, [], ◌∷◌, ◌++◌, ap, ◌∙◌, sym, subst}
-use Rattle.std.specs.Prelude.{IfOk}
+use Rattle.std.proofs.Common.{List, [], ◌∷◌, ◌++◌, ap, ◌∙◌}
 use Rattle.store_rules.specs.Dumps.{store_dump}
-use Rattle.store_rules.specs.Store.{Store}
 use Rattle.tect_world.specs.declared.marks.Mark.{Mark}
 use Rattle.tect_world.specs.declared.marks.Mark.TheVariants.{Dump}
 use Rattle.tect_world.proofs.Lives.{dump_stays, dump_grows, few_more, world_store}

@@ -1,6 +1,6 @@
 use Rattle.std.proofs.Common.{is_some, ap, sym, ◌∙◌}
 use Rattle.world_runs.specs.Moments.{Actor}
-use Rattle.tect_world.proofs.Worlds.{own_state_is, own_op, own_count}
+use Rattle.tect_world.proofs.Worlds.{own_state_is}
 use Rattle.tect_world.proofs.world.World.is_running.Goals as goal
 
 pub returns-clause-running : goal.returns-clause-running

@@ -1,6 +1,5 @@
-use Rattle.std.proofs.Common.{is_some, ap, sym, ◌∙◌}
-use Rattle.world_runs.specs.Moments.{Actor}
-use Rattle.tect_world.proofs.Worlds.{own_state_is, own_op, own_count}
+use Rattle.std.proofs.Common.{◌∙◌}
+use Rattle.tect_world.proofs.Worlds.{own_count}
 use Rattle.tect_world.proofs.world.World.transactions.Goals as goal
 
 pub returns-clause-count : goal.returns-clause-count
