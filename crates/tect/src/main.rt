@@ -2,29 +2,42 @@
 //! answers and dumps.
 #![tactic(auto)]
 
-ghost use Rattle.std.specs.Prelude.{◌≡◌, ◌⊎◌, IfErr};
+ghost use Rattle.std.specs.Prelude.{◌≡◌, ◌⊎◌, IfErr, IfOk, drop};
+ghost use Rattle.std.specs.Vec.Iter.{into_iter_items};
 
+use std::alloc::Global;
+use std::env::Args;
 use std::process::ExitCode;
 use std::{env, io};
 use tect_app::{Status, run};
 use tect_edge::{OpenGate, StdSink, StdSource};
+use tect_ids::NoMemory;
 
-/// The words behind the program's own name. They fail as a whole: for want of memory, or as words that are no text.
+/// The words behind the program's own name.
+fn behind_name(alloc: Global, args: Args) -> Result<Vec<String>, NoMemory>
+    ensures { IfOk result (λ words. words.items ≡ drop 1 (into_iter_items args)) }
+{
+    let mut args = args;
+    let _name = args.next();
+    let mut words = Vec::new(alloc);
+    'words: for word in args {
+        words.push(word)?;
+    }
+    Ok(words)
+}
+
+/// The words of the command line. They fail as a whole: for want of memory, or as words that are no text.
 fn words(rt: &HostRuntime) -> Result<Vec<String>, Status>
     ensures { IfErr result (λ status. (status ≡ Status.NoMemory) ⊎ (status ≡ Status.Usage)) }
 {
-    let args = match env::args(rt) {
-        Ok(args) => args,
-        Err(error) if error.kind() == io::ErrorKind::OutOfMemory => return Err(Status::NoMemory),
-        Err(_) => return Err(Status::Usage),
-    };
-    let mut words = Vec::new(rt.alloc());
-    for word in args.skip(1) {
-        if words.push(word).is_err() {
-            return Err(Status::NoMemory);
-        }
+    match env::args(rt) {
+        Ok(args) => match behind_name(rt.alloc(), args) {
+            Ok(words) => Ok(words),
+            Err(NoMemory) => Err(Status::NoMemory),
+        },
+        Err(error) if error.kind() == io::ErrorKind::OutOfMemory => Err(Status::NoMemory),
+        Err(_) => Err(Status::Usage),
     }
-    Ok(words)
 }
 
 /// Words that are no text are answered as no words are.

@@ -2,3 +2,4 @@ pub mod Words
 pub mod Plans
 pub mod Inputs
 pub mod Races
+pub mod Cuts
