@@ -2,8 +2,9 @@
 """Runs the built program on mutated scripts.
 
 Each script is one of cases/ with one to four changes: a flipped bit, a run of bytes cut out, a run doubled, bytes put in, or a
-line doubled. The program runs twice on each; it has to end with status 0, 3 or 8, and with the same output both times. The last
-lines tell how many scripts ended with each status. A script that breaks the rule is kept, and its path is printed.
+line doubled. The program replays each twice; it has to end with status 0, 3 or 8, and with the same output both times. Then it races
+each by 4 workers; that has to end with the same status, and, where it is not 0, with the same output. The last lines tell how many scripts
+ended with each status. A script that breaks the rule is kept, and its path is printed.
 
 Script number I of a seed is always the same, whatever the count of scripts and of processes.
 """
@@ -91,14 +92,19 @@ class Runner:
         with open(self.input, "wb") as file:
             file.write(script)
 
-    def run(self):
+    def run(self, *words):
         """The status and the output; a status below 0 is a signal's number, that of SIGKILL where it took too long."""
-        self.child = os.posix_spawn(self.program, [self.program, "replay"], os.environ, file_actions=self.files)
+        self.child = os.posix_spawn(self.program, [self.program, *words], os.environ, file_actions=self.files)
         signal.alarm(SECONDS)
         _, ended = os.waitpid(self.child, 0)
         signal.alarm(0)
         with open(self.output, "rb") as file:
             return os.waitstatus_to_exitcode(ended), file.read()
+
+
+def is_alike(replayed, raced):
+    """A script that is no plan ends alike in both modes; a race of a plan may tell other answers."""
+    return raced[0] == replayed[0] and (raced[0] == 0 or raced[1] == replayed[1])
 
 
 def try_scripts(job):
@@ -109,13 +115,14 @@ def try_scripts(job):
     for number in numbers:
         script = mutated(scripts, seed, number)
         runner.write(script)
-        first = runner.run()
-        second = runner.run()
+        first = runner.run("replay")
+        second = runner.run("replay")
+        raced = runner.run("race", "--workers", "4")
         statuses[first[0]] += 1
-        if first[0] not in ALLOWED or first != second:
+        if first[0] not in ALLOWED or first != second or not is_alike(first, raced):
             path = os.path.join(tempfile.gettempdir(), f"tect-mutated-{seed}-{number}.script")
             pathlib.Path(path).write_bytes(script)
-            broken.append((number, first[0], second[0], first == second, path))
+            broken.append((number, first[0], second[0], first == second, raced[0], path))
     return statuses, broken
 
 
@@ -143,9 +150,9 @@ def main():
             for some, wrong in pool.imap_unordered(try_scripts, jobs):
                 statuses.update(some)
                 broken.extend(wrong)
-    for number, first, second, same, path in sorted(broken):
+    for number, first, second, same, raced, path in sorted(broken):
         outputs = "same output" if same else "results differ"
-        print(f"script {number}: status {first}, then {second}, {outputs}: {path}")
+        print(f"script {number}: status {first}, then {second}, {outputs}, raced {raced}: {path}")
     for status, count in sorted(statuses.items()):
         print(f"status {status}: {count}")
     print(f"mutated scripts: {words.count - len(broken)} passed, {len(broken)} failed")

@@ -1,5 +1,6 @@
 #!/usr/bin/env python3
-"""Random scripts of many clients on few names, each replayed by the program and by the model of tree_of_scripts.py.
+"""Random scripts of many clients on few names, each replayed, and raced by one worker, by the program and by the model of
+tree_of_scripts.py.
 
 random_scripts.py [SCRIPTS [SEED]] (1,000 and 1 if left out): prints the first script on which they differ, and ends with 1.
 """
@@ -8,7 +9,7 @@ import random
 import subprocess
 import sys
 
-from tree_of_scripts import replay
+from tree_of_scripts import race, replay
 
 PROGRAM = os.path.join(os.path.dirname(os.path.abspath(__file__)), "..", "tect")
 
@@ -53,11 +54,12 @@ def main():
     choose = random.Random(seed)
     for _ in range(count):
         text = script(choose)
-        ran = subprocess.run([PROGRAM, "replay"], input=text.encode(), capture_output=True)
-        if ran.returncode != 0 or ran.stdout.decode() != replay(text):
-            print(text, "status", ran.returncode, ran.stdout.decode(), "the model:", replay(text), sep="\n")
-            sys.exit(1)
-    print(f"{count} scripts: the program and the model agree")
+        for words, wanted in [(["replay"], replay(text)), (["race", "--workers", "1"], race(text))]:
+            ran = subprocess.run([PROGRAM, *words], input=text.encode(), capture_output=True)
+            if ran.returncode != 0 or ran.stdout.decode() != wanted:
+                print(text, f"{' '.join(words)}: status {ran.returncode}", ran.stdout.decode(), "the model:", wanted, sep="\n")
+                sys.exit(1)
+    print(f"{count} scripts, each replayed and raced by one worker: the program and the model agree")
 
 
 main()

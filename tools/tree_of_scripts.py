@@ -1,4 +1,5 @@
-"""A small model of the store in Python, written apart from the program: what a replay of a script writes.
+"""A small model of the store in Python, written apart from the program: what a replay of a script writes, and what a race by one
+worker writes, which does the same in the same order and tells it client by client.
 
 Shards are not modelled: whatever their number, the store is one. A command is a generator that yields once before each of its
 transactions, so that a script may stop it between any two.
@@ -216,6 +217,16 @@ class Replay:
         self.clients = {}
         self.lines = []
 
+    def answer(self, name, client, text):
+        self.tell(name, f"{name} {client.begun} {client.steps} {text}")
+        client.running = None
+
+    def tell(self, name, line):
+        self.lines.append(line)
+
+    def end_part(self):
+        """A dump comes, or the end."""
+
     def begin(self, client, words):
         client.begun += 1
         client.steps = 0
@@ -237,14 +248,14 @@ class Replay:
                 client.steps += 1
                 self.go(client)
             if client.reached is not None:
-                self.lines.append(f"{name} {client.begun} {client.steps} {client.reached}")
-                client.running = None
+                self.answer(name, client, client.reached)
             most -= 1
 
     def line(self, line):
         if line.startswith(("#", "store ")):
             return
         if line == "dump":
+            self.end_part()
             self.lines.extend(self.store.dump())
             return
         name, verb, *rest = line.split(" ")
@@ -257,16 +268,39 @@ class Replay:
             self.step(name, client, -1)
         elif verb == "stop":
             if client.running is not None:
-                self.lines.append(f"{name} {client.begun} {client.steps} stopped")
-                client.running = None
+                self.answer(name, client, "stopped")
         else:
             self.begin(client, [verb, *rest])
             self.step(name, client, -1)
 
 
-def replay(script):
-    """What the program writes for a script that has no fault."""
-    run = Replay()
+class Race(Replay):
+    """By one worker: the answers of a part are told at its end, client by client in the order in which the script first names them."""
+
+    def __init__(self):
+        super().__init__()
+        self.told = {}
+
+    def tell(self, name, line):
+        self.told.setdefault(name, []).append(line)
+
+    def end_part(self):
+        for name in self.clients:
+            self.lines += self.told.pop(name, [])
+
+
+def written(run, script):
     for line in script.splitlines():
         run.line(line)
+    run.end_part()
     return "".join(line + "\n" for line in run.lines + ["end"])
+
+
+def replay(script):
+    """What a replay writes for a script that has no fault."""
+    return written(Replay(), script)
+
+
+def race(script):
+    """What a race by one worker writes for a script that has no fault."""
+    return written(Race(), script)
