@@ -76,7 +76,7 @@ def looks(room, lines, name):
 
 def bytes_of_transaction(room, lines):
     short, long = looks(room, lines, ""), looks(room, lines, "/file")
-    for words, kept in [(("replay",), 2), (("race", "--workers", "4"), 3)]:
+    for words, kept in [(("replay",), 2), (("race", "--workers", "4"), 2)]:
         more = (run(long, *words).memory - run(short, *words).memory) / lines
         yield f"`tect {' '.join(words)}`", f"{more:.0f}", kept, f"{more / kept:.0f}"
 
