@@ -7,8 +7,8 @@ program had threads of its own, and the processor time of the busiest of them, w
 for another. One worker has no thread of its own: its work is the whole less what four workers take beside theirs.
 
 How much a transaction takes is seen by two scripts, of as many looks at a name each, which differ by one transaction of each look: the
-difference of their peaks. It is kept by its shard and by its client, and at the end of a race in the one list of all too. What a dump
-costs, at which all workers end and are started anew, is seen by a script of many dumps.
+difference of their peaks. It is kept by its shard and by its client; the one list of a race borrows it. What a dump costs, at which all
+workers end, is seen by a script of many dumps.
 """
 import pathlib
 import subprocess
