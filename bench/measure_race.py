@@ -2,15 +2,17 @@
 """How long a race's workers take, apart from reading the script and gathering what they did, and how much memory a race takes.
 
 measure_race.py [LINES [TIMES]] (60,000 and 5 if left out): a script of make_race_script.py, 16 clients in directories of their own over 16
-name and 16 file shards, raced by 1, 2 and 4 workers, each TIMES times, the fastest counts. thread_time.c, preloaded, tells how long the
-program had threads of its own, and the processor time of the busiest of them, which is what the workers would take on free processors if none waited
-for another. One worker has no thread of its own: its work is the whole less what four workers take beside theirs.
+name and 16 file shards, raced by 1, 2 and 4 workers in turn, TIMES times each. thread_time.c, preloaded, tells how long the program had
+threads of its own, from the start of the first to the end of the last, and the processor time of the busiest of them, which is what the workers would
+take if none waited for another. A race by one worker starts no thread; so one worker is measured by two, the second of which has nothing to do but one look
+for each of 16 more clients: clients are dealt to workers by their number in turn. The fastest run counts, and the median is shown beside it.
 
 How much a transaction takes is seen by two scripts, of as many looks at a name each, which differ by one transaction of each look: the
 difference of their peaks. It is kept by its shard and by its client; the one list of a race borrows it. What a dump costs, at which all
 workers end, is seen by a script of many dumps.
 """
 import pathlib
+import statistics
 import subprocess
 import sys
 import tempfile
@@ -46,23 +48,42 @@ def entries(script):
     return sum(int(line.split()[2]) + 2 for line in lines if line != "end")
 
 
-def measured(script, shim, times):
-    runs = {count: [run(script, "race", "--workers", str(count), LD_PRELOAD=shim) for _ in range(times)] for count in WORKERS}
-    work = {count: [workers_of(ran) for ran in runs[count]] for count in WORKERS}
-    most = list(zip(runs[WORKERS[-1]], work[WORKERS[-1]]))
-    alone = min(ran.processor for ran in runs[1]) - min(ran.processor - own.all for ran, own in most)
-    work[1] = [Workers(min(ran.seconds for ran in runs[1]) - min(ran.seconds - own.seconds for ran, own in most), alone, alone)]
-    one = Workers(*map(min, zip(*work[1])))
+def beside_idle(room, script):
+    """The same script, with a client that only looks at the root behind the first line of each client, so that every second client is idle."""
+    with open(script) as source:
+        store, *lines = source.read().splitlines(keepends=True)
+    seen, padded = set(), [store]
+    for line in lines:
+        padded.append(line)
+        client = line.split()[0]
+        if client not in seen:
+            seen.add(client)
+            padded.append(f"idle{len(seen)} look /\n")
+    return write(room, "beside-idle", "".join(padded))
+
+
+def measured(room, script, shim, times):
+    raced = {1: (beside_idle(room, script), 2), **{count: (script, count) for count in WORKERS[1:]}}
+    runs = {count: [] for count in WORKERS}
+    for _ in range(times):
+        for count, (lines, workers) in raced.items():
+            runs[count].append(run(lines, "race", "--workers", str(workers), LD_PRELOAD=shim))
+    alone = fastest(times, script, "race", "--workers", "1")
+    first = None
     for count in WORKERS:
-        whole, own = min(ran.seconds for ran in runs[count]), Workers(*map(min, zip(*work[count])))
+        work = [workers_of(ran) for ran in runs[count]]
+        own = Workers(*map(min, zip(*work)))
+        median = statistics.median(ran.seconds for ran in work)
+        first = first or (own, median)
         memory = max(ran.memory for ran in runs[count])
         yield (
             count,
-            f"{whole:.3f} s",
+            f"{alone.seconds if count == 1 else min(ran.seconds for ran in runs[count]):.3f} s",
             f"{own.seconds:.3f} s",
-            f"{own.seconds / one.seconds:.2f}",
+            f"{own.seconds / first[0].seconds:.2f}",
+            f"{median:.3f} s",
+            f"{median / first[1]:.2f}",
             f"{own.busiest:.3f} s",
-            f"{own.busiest / one.busiest:.2f}",
             f"{memory / MEBIBYTE:.0f} MiB",
             f"{memory / entries(script):.0f}",
         )
@@ -96,9 +117,9 @@ def main():
     lines, times = [int(word) for word in sys.argv[1:]] + [60000, 5][len(sys.argv) - 1 :]
     with tempfile.TemporaryDirectory() as room:
         script = make(room, "make_race_script.py", lines)
-        head = "Workers", "Whole time", "The workers", "Of one's", "Processor time of the busiest", "Of one's", "Peak memory", "Of it for an entry, bytes"
+        head = "Workers", "Whole time", "The workers", "Of one's", "Median", "Of one's", "Processor time of the busiest", "Peak memory", "Of it for an entry, bytes"
         print(f"A race of {lines:,} lines, {entries(script):,} entries of history (transactions, begins and ends):\n")
-        print(table(head, *measured(script, preloaded(room), times)))
+        print(table(head, *measured(room, script, preloaded(room), times)))
         print(table(("Mode", "Bytes of a transaction", "Times that it is kept", "Bytes each time"), *bytes_of_transaction(room, lines)))
         print(table(("1,000 dumps, each behind one look", "Time"), *seconds_of_dumps(room, 1000, times)))
 
