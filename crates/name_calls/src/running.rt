@@ -160,7 +160,6 @@ impl Running {
 }
 
 // The program after a reply.
-#[tactic(auto, using(op_names::proofs::Clones::same_program))]
 fn program_after(
     alloc: Global,
     program: &Program,
