@@ -188,6 +188,7 @@ impl Actor {
     }
 
     /// The answer that its command has come to, if it has.
+    #[tactic(auto, using(tect_ids::proofs::Clones::same_answer))]
     pub fn finished(&self) -> Result<Option<Answer>, NoMemory>
         ensures { IfOk result (λ answer. answer ≡ program_answer self.now.state.running) }
     {
@@ -196,7 +197,7 @@ impl Actor {
         };
         match running.answer() {
             None => Ok(None),
-            Some(answer) => Ok(Some(answer.copy(self.alloc)?)),
+            Some(answer) => Ok(Some(answer.clone()?)),
         }
     }
 

@@ -23,7 +23,6 @@ use world_runs::Event;
 /// An actor, with the pass that notes what it does. Contracts see what it noted, and the events of its ops that were refused.
 #[derive(Drop)]
 pub struct Client {
-    alloc: Global,
     counts: Counts,
     actor: Actor,
     pass: Pass,
@@ -72,7 +71,6 @@ impl Client {
         ensures { IfOk result (λ client. client ≡ idle_life actor counts) }
     {
         Ok(Client {
-            alloc,
             counts,
             actor: Actor::start(alloc, actor, counts)?,
             pass: Pass::start(alloc, actor),
@@ -190,7 +188,7 @@ impl Client {
         ensures err { OnErr result (self.new ≡ self.old) }
     {
         self.pass.reserve_begin()?;
-        let noted = command.copy(self.alloc)?;
+        let noted = command.clone()?;
         self.actor.begin(command)?;
         self.transactions = 0;
         let op = self.actor.op();
@@ -212,7 +210,7 @@ impl Client {
         ensures err { OnErr result (self.new ≡ self.old) }
     {
         self.refused.reserve(2)?;
-        let kept = command.copy(self.alloc)?;
+        let kept = command.clone()?;
         self.actor.begin_refused(command);
         self.transactions = 0;
         let op = self.actor.op();

@@ -2,7 +2,6 @@ ghost use Rattle.std.specs.Prelude.{◌≡◌, IfOk};
 ghost use Rattle.op_names.specs.Programs.{phase_answer};
 
 use op_names::Program;
-use std::alloc::Global;
 use std::marker::Model;
 use tect_calls::Fact;
 use tect_ids::{Answer, NoMemory};
@@ -11,7 +10,6 @@ use tect_ids::{Answer, NoMemory};
 /// says that an object was made.
 #[derive(Drop)]
 pub struct Heard {
-    pub(crate) alloc: Global,
     pub(crate) next: Program,
     pub(crate) first: Option<Fact>,
     pub(crate) second: Option<Fact>,
@@ -28,11 +26,12 @@ impl Model for Heard {
 
 impl Heard {
     /// The answer to which the command comes by it, if it does.
+    #[tactic(auto, using(tect_ids::proofs::Clones::same_answer))]
     pub fn answer(&self) -> Result<Option<Answer>, NoMemory>
         ensures { IfOk result (λ answer. answer ≡ phase_answer self.now.next.phase) }
     {
         match self.next.answer() {
-            Some(answer) => Ok(Some(answer.copy(self.alloc)?)),
+            Some(answer) => Ok(Some(answer.clone()?)),
             None => Ok(None),
         }
     }

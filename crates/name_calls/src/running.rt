@@ -43,7 +43,7 @@ impl Running {
     pub fn start(alloc: Global, op: OpId, command: Command) -> Result<Running, NoMemory>
         ensures { IfOk result (λ running. running ≡ started op command) }
     {
-        let program = Program::start(alloc, op, command)?;
+        let program = Program::start(op, command)?;
         let shown = opening_of(&program.phase);
         Ok(Running {
             alloc,
@@ -106,7 +106,6 @@ impl Running {
         let (first, second) = facts_of(alloc, &req, reply)?;
         let next = program_after(alloc, &self.program, place, number, reply)?;
         Ok(Heard {
-            alloc,
             next,
             first,
             second,
@@ -126,7 +125,6 @@ impl Running {
             first,
             second,
             made,
-            ..
         } = heard;
         if made {
             memory.take_serial();
@@ -173,7 +171,7 @@ fn program_after(
       phase = phase_hear place program.now.op number program.now.command program.now.phase reply.now;
     }) }
 {
-    let mut next = program.copy(alloc)?;
+    let mut next = program.clone()?;
     next.hear(alloc, place, number, reply)?;
     Ok(next)
 }

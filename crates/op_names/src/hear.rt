@@ -53,12 +53,12 @@ fn look_heard_of(
 }
 
 /// The reply to a listing.
-fn entries_heard_of(alloc: Global, place: Place, reply: &AnyReply) -> Result<Phase, NoMemory>
+fn entries_heard_of(place: Place, reply: &AnyReply) -> Result<Phase, NoMemory>
     ensures { IfOk result (λ phase. phase ≡ entries_heard place reply.now (as_listing reply.now)) }
 {
     let answer = match reply {
         AnyReply::Name(NameReply::Listing { items, .. }) => Answer::Entries {
-            items: items.copy(alloc)?,
+            items: items.clone()?,
         },
         _ => dir_refusal_of(place, reply),
     };
@@ -148,7 +148,7 @@ fn first_hear_of(
 {
     match command {
         Command::Look { path } => look_heard_of(alloc, place, dir, path, reply),
-        Command::List { .. } => entries_heard_of(alloc, place, reply),
+        Command::List { .. } => entries_heard_of(place, reply),
         Command::Create { path } => match last_key(alloc, dir, path)? {
             Some(key) => {
                 let node = Node::File(FileId(number));

@@ -7,10 +7,10 @@ use std::alloc::Global;
 use tect_ids::{DirId, Key, Name, NoMemory, Path};
 
 /// The directories on the way: all names but the last.
-pub fn way_of(alloc: Global, path: &Path) -> Result<Path, NoMemory>
+pub fn way_of(path: &Path) -> Result<Path, NoMemory>
     ensures { IfOk result (λ way. way ≡ but_last path.now) }
 {
-    let mut way = path.copy(alloc)?.into_vec();
+    let mut way = path.clone()?.into_vec();
     let _ = way.pop();
     Ok(Path::from_vec(way))
 }

@@ -11,7 +11,7 @@ use store_rules::{AnyReply, AnyReq, Replaced};
 use tect_ids::{Answer, Command, DirId, Hold, Key, NoMemory, Node, OpId, Over, Path, Place, ROOT};
 
 /// Where a running command stands.
-#[derive(Drop)]
+#[derive(Clone, Drop)]
 pub enum Phase {
     /// The names in `rest` are still to be looked up, from `dir` on. Without one the command's own first request comes.
     Walk {
@@ -48,7 +48,7 @@ pub enum Phase {
 }
 
 /// A running command.
-#[derive(Drop)]
+#[derive(Clone, Drop)]
 pub struct Program {
     pub op: OpId,
     pub command: Command,
@@ -59,10 +59,10 @@ impl Program {
     ghost use Rattle.op_names.specs.Programs.{started, phase_ask, phase_hear, phase_answer};
 
     /// The program of a command that begins as that op.
-    pub fn start(alloc: Global, op: OpId, command: Command) -> Result<Program, NoMemory>
+    pub fn start(op: OpId, command: Command) -> Result<Program, NoMemory>
         ensures { IfOk result (λ program. program ≡ started op command) }
     {
-        let phase = first_phase_of(alloc, &command)?;
+        let phase = first_phase_of(&command)?;
         Ok(Program { op, command, phase })
     }
 
@@ -112,26 +112,26 @@ impl Program {
 }
 
 /// Where a command begins: one that needs a last name has its answer at once without it.
-fn first_phase_of(alloc: Global, command: &Command) -> Result<Phase, NoMemory>
+fn first_phase_of(command: &Command) -> Result<Phase, NoMemory>
     ensures { IfOk result (λ phase. phase ≡ first_phase command.now) }
 {
     match command {
         Command::Look { path } => Ok(Phase::Walk {
             dir: ROOT,
-            rest: way_of(alloc, path)?,
+            rest: way_of(path)?,
         }),
         Command::List { path } => Ok(Phase::Walk {
             dir: ROOT,
-            rest: path.copy(alloc)?,
+            rest: path.clone()?,
         }),
         Command::Create { path } | Command::Mkdir { path } | Command::Delete { path } => {
-            walk_from_root(alloc, path)
+            walk_from_root(path)
         }
         Command::Rename { from, to } => {
             if to.is_empty() {
                 return Ok(lacks_name());
             }
-            walk_from_root(alloc, from)
+            walk_from_root(from)
         }
         _ => Ok(lacks_name()),
     }
@@ -146,7 +146,7 @@ fn lacks_name() -> Phase
 }
 
 /// The walk of a command that needs the last name of the path.
-fn walk_from_root(alloc: Global, path: &Path) -> Result<Phase, NoMemory>
+fn walk_from_root(path: &Path) -> Result<Phase, NoMemory>
     ensures { IfOk result (λ phase. phase ≡ from_root path.now (but_last path.now)) }
 {
     if path.is_empty() {
@@ -154,6 +154,6 @@ fn walk_from_root(alloc: Global, path: &Path) -> Result<Phase, NoMemory>
     }
     Ok(Phase::Walk {
         dir: ROOT,
-        rest: way_of(alloc, path)?,
+        rest: way_of(path)?,
     })
 }

@@ -1,3 +1,4 @@
 pub mod Pushes
 pub mod Keeping
 pub mod Openings
+pub mod Clones

@@ -65,7 +65,7 @@ pub(crate) fn copy_name_req(alloc: Global, req: &NameReq) -> Result<NameReq, NoM
 }
 
 // The same reply once more.
-pub(crate) fn copy_name_reply(alloc: Global, reply: &NameReply) -> Result<NameReply, NoMemory>
+pub(crate) fn copy_name_reply(reply: &NameReply) -> Result<NameReply, NoMemory>
     ensures same { IfOk result (λ r. r ≡ reply.now) }
     ensures free { holds_names (AnyReply.Name reply.now) ≡ false → IsOk result }
 {
@@ -74,7 +74,7 @@ pub(crate) fn copy_name_reply(alloc: Global, reply: &NameReply) -> Result<NameRe
         NameReply::Found { node } => Ok(NameReply::Found { node }),
         NameReply::Listing { sealed, ref items } => Ok(NameReply::Listing {
             sealed,
-            items: items.copy(alloc)?,
+            items: items.clone()?,
         }),
         NameReply::Made => Ok(NameReply::Made),
         NameReply::Bound { old } => Ok(NameReply::Bound { old }),

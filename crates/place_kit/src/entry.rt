@@ -23,7 +23,7 @@ pub struct Label {
 }
 
 /// What an actor notes of its ops beside its transactions.
-#[derive(Drop)]
+#[derive(Clone, Drop)]
 pub enum Note {
     Began { op: OpId, command: Command },
     Ended { op: OpId, answer: Answer },

@@ -1,7 +1,7 @@
 ghost use Rattle.std.specs.Prelude.{◌≡◌, IfOk};
 
 use crate::copies::{copy_file_reply, copy_file_req, copy_name_reply, copy_name_req};
-use crate::entry::{Entry, Moment, Note};
+use crate::entry::{Entry, Moment};
 use std::alloc::Global;
 use tect_calls::{AnyReply, AnyReq};
 use tect_ids::NoMemory;
@@ -15,11 +15,11 @@ fn copy_req(alloc: Global, req: &AnyReq) -> Result<AnyReq, NoMemory>
     }
 }
 
-fn copy_reply(alloc: Global, reply: &AnyReply) -> Result<AnyReply, NoMemory>
+fn copy_reply(reply: &AnyReply) -> Result<AnyReply, NoMemory>
     ensures { IfOk result (λ r. r ≡ reply.now) }
 {
     match reply {
-        AnyReply::Name(reply) => Ok(AnyReply::Name(copy_name_reply(alloc, reply)?)),
+        AnyReply::Name(reply) => Ok(AnyReply::Name(copy_name_reply(reply)?)),
         AnyReply::File(reply) => Ok(AnyReply::File(copy_file_reply(reply))),
     }
 }
@@ -30,7 +30,7 @@ impl Entry {
         ensures { IfOk result (λ entry. entry ≡ self.now) }
     {
         let req = copy_req(alloc, &self.req)?;
-        let reply = copy_reply(alloc, &self.reply)?;
+        let reply = copy_reply(&self.reply)?;
         Ok(Entry {
             stamp: self.stamp,
             place: self.place,
@@ -43,27 +43,9 @@ impl Entry {
     }
 }
 
-impl Note {
-    /// The same note once more.
-    pub fn copy(&self, alloc: Global) -> Result<Note, NoMemory>
-        ensures { IfOk result (λ note. note ≡ self.now) }
-    {
-        match self {
-            Note::Began { op, command } => Ok(Note::Began {
-                op: *op,
-                command: command.copy(alloc)?,
-            }),
-            Note::Ended { op, answer } => Ok(Note::Ended {
-                op: *op,
-                answer: answer.copy(alloc)?,
-            }),
-            Note::Stopped { op } => Ok(Note::Stopped { op: *op }),
-        }
-    }
-}
-
 impl Moment {
     /// The same moment once more.
+    #[tactic(auto, using(crate::proofs::Clones::same_note))]
     pub fn copy(&self, alloc: Global) -> Result<Moment, NoMemory>
         ensures { IfOk result (λ moment. moment ≡ self.now) }
     {
@@ -72,7 +54,7 @@ impl Moment {
             Moment::Local { stamp, actor, note } => Ok(Moment::Local {
                 stamp: *stamp,
                 actor: *actor,
-                note: note.copy(alloc)?,
+                note: note.clone()?,
             }),
         }
     }

@@ -57,7 +57,7 @@ impl Machine for NameShard {
         reply: &NameReply,
     ) -> Result<(AnyReq, AnyReply), NoMemory> {
         let req = copy_name_req(alloc, req)?;
-        let reply = copy_name_reply(alloc, reply)?;
+        let reply = copy_name_reply(reply)?;
         Ok((AnyReq::Name(req), AnyReply::Name(reply)))
     }
 }

@@ -52,7 +52,8 @@ fn tell(alloc: Global, names: &[Name], racer: &mut Racer, answer: Answer) -> Res
     Ok(())
 }
 
-fn begin_command(alloc: Global, client: &mut Client, command: &Command) -> Result<(), NoMemory>
+#[tactic(auto, using(tect_ids::proofs::Clones::same_command))]
+fn begin_command(client: &mut Client, command: &Command) -> Result<(), NoMemory>
     requires idle { (state_in client.old).running ≡ None }
     requires goes_on { (state_in client.old).stopped ≡ false }
     requires few { (state_in client.old).number + 1 < 2 ^ 31 }
@@ -60,7 +61,7 @@ fn begin_command(alloc: Global, client: &mut Client, command: &Command) -> Resul
     ensures begins { OnOk result (Begins client.old client.new command.now) }
     ensures life { OnOk result (IsLife client.new) }
 {
-    client.begin(command.copy(alloc)?)
+    client.begin(command.clone()?)
 }
 
 fn do_command<C: Commits>(
@@ -80,20 +81,20 @@ fn do_command<C: Commits>(
     ensures fault { IfErr result (IsFaultOf C.counts C.done (C.counts at.old)) }
     ensures counts { C.counts at.new ≡ C.counts at.old }
 {
-    begin_command(alloc, &mut racer.client, command)?;
+    begin_command(&mut racer.client, command)?;
     let answer = run_to_end(at, &mut racer.client)?;
     tell(alloc, names, racer, answer)?;
     Ok(())
 }
 
-fn begin(alloc: Global, racer: &mut Racer, command: &Command) -> Result<(), NoMemory>
+fn begin(racer: &mut Racer, command: &Command) -> Result<(), NoMemory>
     requires idle { (state_in racer.old.client).running ≡ None }
     requires goes_on { (state_in racer.old.client).stopped ≡ false }
     requires few { (state_in racer.old.client).number + 1 < 2 ^ 31 }
     requires served { IsServed command.now }
     ensures { (names : List (List ℕ)) → OnOk result (Plays names (Act.Begin command.now) racer.old racer.new) }
 {
-    begin_command(alloc, &mut racer.client, command)
+    begin_command(&mut racer.client, command)
 }
 
 fn step_on<C: Commits>(
@@ -173,7 +174,7 @@ pub fn play_act<C: Commits>(
 {
     match act {
         Act::Do(command) => do_command(at, alloc, names, racer, command),
-        Act::Begin(command) => Ok(begin(alloc, racer, command)?),
+        Act::Begin(command) => Ok(begin(racer, command)?),
         Act::Step(count) => step_on(at, alloc, names, racer, *count),
         Act::Run => run_on(at, alloc, names, racer),
         Act::Stop => Ok(stop(alloc, names, racer)?),

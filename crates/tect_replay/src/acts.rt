@@ -58,22 +58,17 @@ fn do_command(
     requires can { CanDo ((present world.old).actors actor) (Act.Do command.now) }
     ensures { IfOk result (λ shown. PlaysAct clients.now actor (Act.Do command.now) world.old world.new (shown_lines shown)) }
 {
-    world.begin(actor, command.copy(alloc)?)?;
+    world.begin(actor, command.clone()?)?;
     let answer = world.run(actor)?;
     answered(alloc, clients, world, actor, answer)
 }
 
-fn begin_command(
-    alloc: Global,
-    world: &mut World,
-    actor: u32,
-    command: &Command,
-) -> Result<(), NoMemory>
+fn begin_command(world: &mut World, actor: u32, command: &Command) -> Result<(), NoMemory>
     requires actor { (1 ≤ actor) × (actor ≤ 64) }
     requires can { CanDo ((present world.old).actors actor) (Act.Begin command.now) }
     ensures { (clients : List (List ℕ)) → OnOk result (PlaysAct clients actor (Act.Begin command.now) world.old world.new []) }
 {
-    world.begin(actor, command.copy(alloc)?)
+    world.begin(actor, command.clone()?)
 }
 
 /// At most that many transactions of the actor's command.
@@ -155,7 +150,7 @@ pub fn play_act(
     match act {
         Act::Do(command) => do_command(alloc, clients, world, actor, command),
         Act::Begin(command) => {
-            begin_command(alloc, world, actor, command)?;
+            begin_command(world, actor, command)?;
             Ok(Shown::Nothing)
         }
         Act::Step(count) => step_on(alloc, clients, world, actor, *count),

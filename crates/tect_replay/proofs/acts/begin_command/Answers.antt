@@ -1,5 +1,6 @@
 use Rattle.std.proofs.Common.{subst}
 use Rattle.tect_ids.specs.declared.command.Command.{Command}
+use Rattle.tect_ids.proofs.Clones.{same_command}
 use Rattle.tect_world.specs.Life.{present, next_op}
 use Rattle.tect_world.specs.Steps.{HasBegun}
 use Rattle.tect_replay.proofs.Results.{on_ok}
@@ -12,5 +13,5 @@ returns c = λ clients.
     let new = c.begin.new.self in
     on_ok c.begin.result
     (λ h. begins clients c.args.actor c.args.command.now old new c.requires.can.2.idle c.requires.can.1
-    (subst (λ (d : Command). HasBegun old new (next_op (present old) c.args.actor) d) c.in_ok-copy.ensures h) (kept new c.begin.ensures.run c.begin.ensures.limits))
+    (subst (λ (d : Command). HasBegun old new (next_op (present old) c.args.actor) d) (same_command _ _ c.in_ok-clone.ensures.cases) h) (kept new c.begin.ensures.run c.begin.ensures.limits))
     c.begin.ensures.ok

@@ -1,5 +1,6 @@
 use Rattle.std.proofs.Common.{subst}
 use Rattle.tect_ids.specs.declared.command.Command.{Command}
+use Rattle.tect_ids.proofs.Clones.{same_command}
 use Rattle.tect_world.specs.Life.{present, next_op}
 use Rattle.tect_world.specs.Steps.{HasBegun}
 use Rattle.tect_replay.specs.Plays.{shown_lines}
@@ -12,7 +13,7 @@ run-requires-clause-running c =
     let old = c.args.world.now in
     let mid = c.begin.new.self in
     let h : HasBegun old mid (next_op (present old) c.args.actor) c.args.command.now =
-    subst (λ (d : Command). HasBegun old mid (next_op (present old) c.args.actor) d) c.in_ok-copy.ensures c.in_ok-begin.ensures.ok in
+    subst (λ (d : Command). HasBegun old mid (next_op (present old) c.args.actor) d) (same_command _ _ c.in_ok-clone.ensures.cases) c.in_ok-begin.ensures.ok in
     begun_runs c.args.clients.now c.args.actor c.args.command.now old mid c.requires.can.2.idle c.requires.can.1 h
 
 pub answered-requires-clause-shallow : goal.answered-requires-clause-shallow
@@ -20,7 +21,7 @@ answered-requires-clause-shallow c =
     let old = c.args.world.now in
     let mid = c.begin.new.self in
     let h : HasBegun old mid (next_op (present old) c.args.actor) c.args.command.now =
-    subst (λ (d : Command). HasBegun old mid (next_op (present old) c.args.actor) d) c.in_ok-copy.ensures c.in_ok-begin.ensures.ok in
+    subst (λ (d : Command). HasBegun old mid (next_op (present old) c.args.actor) d) (same_command _ _ c.in_ok-clone.ensures.cases) c.in_ok-begin.ensures.ok in
     ran_shallow_on mid c.run.new.self _ c.in_ok-answer.answer c.in_ok-answer.ensures.ok (begun_shallow c.args.clients.now c.args.actor c.args.command.now old mid c.requires.can.2.idle c.requires.can.1 h c.requires.shallow)
 
 pub returns : goal.returns
@@ -28,7 +29,7 @@ returns c =
     let old = c.args.world.now in
     let mid = c.begin.new.self in
     let h : HasBegun old mid (next_op (present old) c.args.actor) c.args.command.now =
-    subst (λ (d : Command). HasBegun old mid (next_op (present old) c.args.actor) d) c.in_ok-copy.ensures c.in_ok-begin.ensures.ok in
+    subst (λ (d : Command). HasBegun old mid (next_op (present old) c.args.actor) d) (same_command _ _ c.in_ok-clone.ensures.cases) c.in_ok-begin.ensures.ok in
     let new = c.run.new.self in
     if_ok c.answered.result
     (λ shown is. does_all c.args.clients.now c.args.actor c.args.command.now old mid c.requires.can.2.idle c.requires.can.1 h new c.in_ok-answer.answer (shown_lines shown)

@@ -13,7 +13,6 @@ pub invariant_of-self-2 : goal.invariant_of-self-2
 invariant_of-self-2 g c =
     turned_client g.C.Commits.done c.args.at.now c.take_turn.new.at c.self.inside
     (record {
-      alloc = c.self.inside.alloc;
       counts = c.self.inside.counts;
       actor = c.take_turn.new.actor;
       pass = c.take_turn.new.pass;
@@ -25,7 +24,6 @@ invariant_of-self-2 g c =
 pub returns-clause-step : goal.returns-clause-step
 returns-clause-step g c =
     let new : Inside = record {
-      alloc = c.self.inside.alloc;
       counts = c.self.inside.counts;
       actor = c.take_turn.new.actor;
       pass = c.take_turn.new.pass;
