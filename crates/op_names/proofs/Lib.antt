@@ -1,2 +1,1 @@
 pub mod LastNames
-pub mod Clones

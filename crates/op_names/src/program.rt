@@ -11,7 +11,7 @@ use store_rules::{AnyReply, AnyReq, Replaced};
 use tect_ids::{Answer, Command, DirId, Hold, Key, NoMemory, Node, OpId, Over, Path, Place, ROOT};
 
 /// Where a running command stands.
-#[derive(Clone, Drop)]
+#[derive(Drop)]
 pub enum Phase {
     /// The names in `rest` are still to be looked up, from `dir` on. Without one the command's own first request comes.
     Walk {
@@ -48,7 +48,7 @@ pub enum Phase {
 }
 
 /// A running command.
-#[derive(Clone, Drop)]
+#[derive(Drop)]
 pub struct Program {
     pub op: OpId,
     pub command: Command,
