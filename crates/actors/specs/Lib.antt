@@ -1,4 +1,3 @@
 pub mod ActorState
-pub mod Hearing
 pub mod Inside
 pub mod Turns

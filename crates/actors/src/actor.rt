@@ -6,9 +6,8 @@ ghost use Rattle.store_rules.specs.Places.{request_place};
 ghost use Rattle.tect_calls.specs.Knowing.{IsActor};
 ghost use Rattle.world_runs.specs.Moments.{idle_actor, begun, refused, went_on, next_serial, program_ask, program_answer};
 ghost use Rattle.actors.specs.ActorState.{op_of, next_op_of};
-ghost use Rattle.actors.specs.Hearing.{IsOfIts, gone_on};
 
-use name_calls::{Heard, Running};
+use name_calls::Running;
 use std::alloc::Global;
 use std::marker::Model;
 use store_rules::AnyReply;
@@ -130,31 +129,6 @@ impl Actor {
         }
     }
 
-    /// What the reply to its command's request, which was made at that place, makes of the actor. Nothing is changed.
-    pub fn heard(&self, place: Place, reply: &AnyReply) -> Result<Heard, NoMemory>
-        requires asked { IsSome (program_ask self.now.state.serial self.now.state.running) }
-        ensures next { IfOk result (λ heard. (counts : Counts) (req : AnyReq) → place ≡ request_place counts req
-            → gone_on self.now.state heard ≡ went_on counts self.now.state req reply.now) }
-        ensures of_its { IfOk result (IsOfIts self.now.state.running) }
-    {
-        let Some(running) = &self.running else {
-            unreachable!()
-        };
-        running.heard(&self.memory, place, reply)
-    }
-
-    /// Its command goes on by what was heard. Where an object was made, a serial is taken. It takes no memory.
-    pub fn go_on(&mut self, heard: Heard)
-        requires of_its { IsOfIts self.old.state.running heard }
-        requires few { self.old.state.serial + 1 < 2 ^ 32 }
-        ensures { self.new ≡ record self.old { state = gone_on self.old.state heard } }
-    {
-        let Some(running) = &mut self.running else {
-            unreachable!()
-        };
-        running.go_on(&mut self.memory, heard);
-    }
-
     /// Its command goes on at the reply to its request, which was made at that place. Where an object was made, a serial
     /// is taken. For want of memory it stays as it was.
     pub fn advance(&mut self, place: Place, reply: &AnyReply) -> Result<(), NoMemory>
@@ -165,9 +139,10 @@ impl Actor {
         ensures op { op_of self.new ≡ op_of self.old }
         ensures err { OnErr result (self.new ≡ self.old) }
     {
-        let heard = self.heard(place, reply)?;
-        self.go_on(heard);
-        Ok(())
+        let Some(running) = &mut self.running else {
+            unreachable!()
+        };
+        running.hear(&mut self.memory, place, reply)
     }
 
     /// Its command ends at the reply to its request, for want of memory to go on. Where an object was made, a serial is

@@ -5,5 +5,4 @@ mod actor;
 mod turned;
 
 pub use actor::Actor;
-pub use name_calls::Heard;
 pub use turned::Turned;

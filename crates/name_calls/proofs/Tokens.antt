@@ -1,5 +1,5 @@
 -- a running command holds the tokens that its next request needs
-use Rattle.std.proofs.Common.{◌≡◌, ℕ, Bool, true, false, if◌then◌else◌, Option, Some, None, is_some, List, [], ◌∷◌, refl, ap, subst}
+use Rattle.std.proofs.Common.{◌≡◌, ℕ, Bool, true, false, if◌then◌else◌, Option, Some, None, is_some, List, [], ◌∷◌, refl, ◌∙◌, subst}
 use Rattle.std.specs.Prelude.{IfSome}
 use Rattle.tect_ids.specs.declared.ids.DirId.{DirId}
 use Rattle.tect_ids.specs.declared.ids.Hold.{Hold}
@@ -36,7 +36,6 @@ use Rattle.name_calls.specs.declared.shown.Shown.{Shown}
 use Rattle.name_calls.specs.declared.shown.Shown.TheVariants.{Upper, Own, Lost}
 use Rattle.name_calls.specs.Needs.{needed, old_hold}
 use Rattle.name_calls.specs.Carrying.{first, second, carried}
-use Rattle.name_calls.specs.Hearing.{Hearing, IsOf}
 
 -- the next phase has what it needs, of what was held and of what was taught
 
@@ -144,13 +143,13 @@ module _ (op : OpId) (place : Place) (x : AnyReply) where
       subst P asks (phase_carries number c p)
 
 -- the same of the values that the code has
-pub heard_is :
-    (place : Place) (x : AnyReply) (number : ℕ) (q : AnyReq) (program : Program) (h : Hearing)
-    → h.first ≡ first (taught q x) → h.second ≡ second (taught q x)
-    → h.next ≡ record program { phase = phase_hear place program.op number program.command program.phase x }
+pub carries_on :
+    (place : Place) (x : AnyReply) (number : ℕ) (q : AnyReq) (program : Program) (one two : Option Fact) (had : Shown) (next : Program) (shown : Shown)
     → phase_ask program.op number program.command program.phase ≡ Some q
-    → IsOf program h
-heard_is place x number q program h one two goes asks = record {
-  op = ap (λ (p : Program). p.op) goes;
-  tokens = rw (one, two, goes) (carries program.op place x number program.command program.phase q asks);
-}
+    → one ≡ first (taught q x) → two ≡ second (taught q x)
+    → had ≡ needed program.op program.phase
+    → next ≡ record program { phase = phase_hear place program.op number program.command program.phase x }
+    → shown ≡ carried next.phase had one two
+    → shown ≡ needed next.op next.phase
+carries_on place x number q program one two had next shown asks first_is second_is held goes is =
+    is ∙ rw (first_is, second_is, held, goes) (carries program.op place x number program.command program.phase q asks)

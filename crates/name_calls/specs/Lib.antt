@@ -1,4 +1,3 @@
 pub mod Carrying
-pub mod Hearing
 pub mod Needs
 pub mod Serials

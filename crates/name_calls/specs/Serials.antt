@@ -1,11 +1,8 @@
 -- What an actor knows after a reply: an object that was made took a serial.
-use Rattle.std.specs.Prelude.{◌+◌, Bool, if◌then◌else◌}
+use Rattle.std.specs.Prelude.{◌+◌, if◌then◌else◌}
 use Rattle.store_rules.specs.declared.any.AnyReply.{AnyReply}
 use Rattle.store_rules.specs.Views.{is_made}
 use Rattle.tect_calls.specs.Knowing.{Known}
 
-abbrev pub after_making : Known → Bool → Known
-after_making m made = if made then record m { serial = m.serial + 1 } else m
-
 abbrev pub after_reply : Known → AnyReply → Known
-after_reply m x = after_making m (is_made x)
+after_reply m x = if is_made x then record m { serial = m.serial + 1 } else m

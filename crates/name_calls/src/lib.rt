@@ -3,12 +3,10 @@
 #![tactic(auto)]
 
 mod carrying;
-mod heard;
 mod running;
 mod showing;
 mod shown;
 
-pub use heard::Heard;
 pub use running::Running;
 
 #[cfg(test)]

@@ -1,13 +1,10 @@
 ghost use Rattle.std.specs.Prelude.{◌≡◌, ◌+◌, ◌^◌, ◌<◌, IsSome, IfOk, OnOk, OnErr};
 ghost use Rattle.std.specs.Option.{option_copied};
 ghost use Rattle.op_names.specs.Programs.{started, phase_ask, phase_hear, phase_answer};
-ghost use Rattle.store_rules.specs.Views.{is_made};
 ghost use Rattle.tect_calls.specs.Knowing.{next_number};
-ghost use Rattle.name_calls.specs.Hearing.{IsOf};
-ghost use Rattle.name_calls.specs.Serials.{after_making, after_reply};
+ghost use Rattle.name_calls.specs.Serials.{after_reply};
 
 use crate::carrying::{carry, facts_of, opening_of};
-use crate::heard::Heard;
 use crate::showing::show;
 use crate::shown::Shown;
 use op_names::{Phase, Program};
@@ -88,15 +85,21 @@ impl Running {
         self.program.answer()
     }
 
-    /// What the reply to the request that `next` gave makes of the command, where that was made at that place. Nothing is
-    /// changed.
-    pub fn heard(&self, memory: &Memory, place: Place, reply: &AnyReply) -> Result<Heard, NoMemory>
-        requires asked { IsSome (phase_ask self.now.op (next_number memory.now) self.now.command self.now.phase) }
-        ensures next { IfOk result (λ heard. heard.next ≡ record self.now {
-          phase = phase_hear place self.now.op (next_number memory.now) self.now.command self.now.phase reply.now;
+    /// Goes on at the reply to the request that `next` gave, which was made at that place. The actor's serial is taken where
+    /// the reply says that an object was made. For want of memory nothing is changed, the serial neither.
+    pub fn hear(
+        &mut self,
+        memory: &mut Memory,
+        place: Place,
+        reply: &AnyReply,
+    ) -> Result<(), NoMemory>
+        requires asked { IsSome (phase_ask self.old.op (next_number memory.old) self.old.command self.old.phase) }
+        requires serial { memory.old.serial + 1 < 2 ^ 32 }
+        ensures goes_on { OnOk result (self.new ≡ record self.old {
+          phase = phase_hear place self.old.op (next_number memory.old) self.old.command self.old.phase reply.now;
         }) }
-        ensures made { IfOk result (λ heard. heard.made ≡ is_made reply.now) }
-        ensures of_it { IfOk result (IsOf self.now) }
+        ensures memory { OnOk result (memory.new ≡ after_reply memory.old reply.now) }
+        ensures err { OnErr result ((self.new ≡ self.old) × (memory.new ≡ memory.old)) }
     {
         let alloc = self.alloc;
         let number = memory.number_of_next();
@@ -104,76 +107,12 @@ impl Running {
             unreachable!()
         };
         let (first, second) = facts_of(alloc, &req, reply)?;
-        let next = program_after(alloc, &self.program, place, number, reply)?;
-        Ok(Heard {
-            alloc,
-            next,
-            first,
-            second,
-            made: reply.is_made(),
-        })
-    }
-
-    /// Goes on by what was heard. The actor's serial is taken where an object was made. It takes no memory.
-    pub fn go_on(&mut self, memory: &mut Memory, heard: Heard)
-        requires of_it { IsOf self.old heard }
-        requires serial { memory.old.serial + 1 < 2 ^ 32 }
-        ensures next { self.new ≡ heard.next }
-        ensures memory { memory.new ≡ after_making memory.old heard.made }
-    {
-        let Heard {
-            next,
-            first,
-            second,
-            made,
-            ..
-        } = heard;
-        if made {
+        self.program.hear(alloc, place, number, reply)?;
+        if reply.is_made() {
             memory.take_serial();
         }
         let had = mem::replace(&mut self.shown, Shown::Nothing);
-        self.shown = carry(&next.phase, had, first, second);
-        self.program = next;
+        self.shown = carry(&self.program.phase, had, first, second);
+        Ok(())
     }
-
-    /// Goes on at the reply to the request that `next` gave, which was made at that place. It gives the answer where that
-    /// ends the command. The actor's serial is taken where the reply says that an object was made. For want of memory
-    /// nothing is changed, the serial neither.
-    pub fn hear(
-        &mut self,
-        memory: &mut Memory,
-        place: Place,
-        reply: &AnyReply,
-    ) -> Result<Option<Answer>, NoMemory>
-        requires asked { IsSome (phase_ask self.old.op (next_number memory.old) self.old.command self.old.phase) }
-        requires serial { memory.old.serial + 1 < 2 ^ 32 }
-        ensures goes_on { OnOk result (self.new ≡ record self.old {
-          phase = phase_hear place self.old.op (next_number memory.old) self.old.command self.old.phase reply.now;
-        }) }
-        ensures answer { IfOk result (λ answer. answer ≡ phase_answer self.new.phase) }
-        ensures memory { OnOk result (memory.new ≡ after_reply memory.old reply.now) }
-        ensures err { OnErr result ((self.new ≡ self.old) × (memory.new ≡ memory.old)) }
-    {
-        let heard = self.heard(memory, place, reply)?;
-        let answer = heard.answer()?;
-        self.go_on(memory, heard);
-        Ok(answer)
-    }
-}
-
-// The program after a reply.
-fn program_after(
-    alloc: Global,
-    program: &Program,
-    place: Place,
-    number: u64,
-    reply: &AnyReply,
-) -> Result<Program, NoMemory>
-    ensures { IfOk result (λ next. next ≡ record program.now {
-      phase = phase_hear place program.now.op number program.now.command program.now.phase reply.now;
-    }) }
-{
-    let mut next = program.copy(alloc)?;
-    next.hear(alloc, place, number, reply)?;
-    Ok(next)
 }

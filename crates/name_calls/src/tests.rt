@@ -46,8 +46,8 @@ fn told(
     };
     let asked = format!(in alloc; "{:?}", asked.request())?;
     assert_eq!(rt; asked.as_str(), text);
-    let answer = running.hear(memory, Place(0), &reply)?;
-    Ok(answer.is_some())
+    running.hear(memory, Place(0), &reply)?;
+    Ok(running.answer().is_some())
 }
 
 /// Its file is made, the bind is refused, and its hold is released.

@@ -3,7 +3,6 @@
 #![tactic(auto)]
 
 mod ask;
-mod copies;
 mod hear;
 mod paths;
 mod program;
