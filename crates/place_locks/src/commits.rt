@@ -3,8 +3,12 @@ ghost use Rattle.place_kit.specs.Commits.{IsFull};
 ghost use Rattle.place_locks.specs.Commits.{HasCommitted, IsRefusalFor};
 
 use place_kit::{Kept, Label, Machine, Pass, Refused};
-use std::sync::{Mutex, Wait};
+use std::hint::spin_loop;
+use std::sync::{Mutex, MutexGuard, Wait};
 use tect_edge::Gate;
+
+// How often a lock is tried before a thread sleeps for it.
+const SPINS: u32 = 4_000;
 
 // Who commits.
 pub(crate) struct Caller<'a, R: Wait, G: Gate> {
@@ -31,12 +35,24 @@ pub(crate) fn commit_at<M: Machine, R: Wait, G: Gate>(
         return Err(Refused::HistoryFull { place: want.place });
     }
     gate.pass(worker, want.place, false);
-    let mut kept = at.lock(rt);
+    let mut kept = take_lock(rt, at);
     gate.pass(worker, want.place, true);
     let done = commit_as(&mut kept, want, pass, req);
     drop(kept);
     gate.pass(worker, want.place, false);
     done
+}
+
+// Takes the lock. A commit is short, and a sleep in the kernel costs many commits: so it is tried often before it is waited
+// for.
+fn take_lock<'a, T, R: Wait>(rt: &R, at: &'a Mutex<T>) -> MutexGuard<'a, T> {
+    for _ in 0..SPINS {
+        if let Some(kept) = at.try_lock() {
+            return kept;
+        }
+        spin_loop();
+    }
+    at.lock(rt)
 }
 
 // One commit at the machine that is to have that label.
