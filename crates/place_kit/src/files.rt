@@ -49,13 +49,13 @@ impl Machine for FileShard {
         (AnyReq::File(req), AnyReply::File(reply))
     }
 
-    fn widen(
-        alloc: Global,
-        req: &FileReq,
-        reply: &FileReply,
-    ) -> Result<(AnyReq, AnyReply), NoMemory> {
+    fn copy_req(alloc: Global, req: &FileReq) -> Result<AnyReq, NoMemory> {
         let req = copy_file_req(alloc, req)?;
-        let reply = copy_file_reply(reply);
-        Ok((AnyReq::File(req), AnyReply::File(reply)))
+        Ok(AnyReq::File(req))
+    }
+
+    fn copy_reply(alloc: Global, reply: &FileReply) -> Result<AnyReply, NoMemory> {
+        let _alloc = alloc;
+        Ok(AnyReply::File(copy_file_reply(reply)))
     }
 }
