@@ -49,13 +49,12 @@ impl Machine for FileShard {
         (AnyReq::File(req), AnyReply::File(reply))
     }
 
-    fn widen(
-        alloc: Global,
-        req: &FileReq,
-        reply: &FileReply,
-    ) -> Result<(AnyReq, AnyReply), NoMemory> {
+    fn copy_req(alloc: Global, req: &FileReq) -> Result<AnyReq, NoMemory> {
         let req = copy_file_req(alloc, req)?;
-        let reply = copy_file_reply(reply);
-        Ok((AnyReq::File(req), AnyReply::File(reply)))
+        Ok(AnyReq::File(req))
+    }
+
+    fn copy_reply(reply: &FileReply) -> Result<AnyReply, NoMemory> {
+        Ok(AnyReply::File(copy_file_reply(reply)))
     }
 }

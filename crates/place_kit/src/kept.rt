@@ -7,6 +7,7 @@ use crate::entry::{Entry, Label, Moment, Refused};
 use crate::log::Log;
 use crate::machine::Machine;
 use crate::pass::{MOST_BYTES, MOST_MOMENTS, Pass};
+use crate::prepared::Prepared;
 use std::alloc::Global;
 use std::snapshot::Snapshot;
 use tect_ids::{NoMemory, Place};
@@ -142,9 +143,51 @@ impl<M: Machine> Kept<M> {
         ensures err { OnErr result ((self.new ≡ self.old) × (pass.new ≡ pass.old)) }
     {
         let alloc = self.history.allocator();
+        let prepared = Prepared::new(alloc, pass, req)?;
+        let spare = prepared.spare();
+        match self.serve(pass, prepared) {
+            Ok((reply, entry)) => {
+                pass.record(entry);
+                Ok(reply)
+            }
+            Err(NoMemory) => {
+                pass.lower(spare);
+                Err(NoMemory)
+            }
+        }
+    }
+
+    /// The part of a commit for which the machine is needed: does the transaction, and adds its entry to the history, stamped
+    /// above both clocks. The same entry once more is given back beside the reply, for the pass.
+    ///
+    /// It may be refused for want of memory, but not where the history has sure room, and the request takes none and holds no
+    /// name. Then nothing is changed.
+    pub fn serve(
+        &mut self,
+        pass: &Pass,
+        prepared: Prepared<M>,
+    ) -> Result<(M::Reply, Entry), NoMemory>
+        requires ready { prepared.copy ≡ M.wide prepared.req }
+        requires early { pass.now.clock < 2 ^ 63 }
+        ensures label { (self.new.label ≡ self.old.label) × (self.new.base.value ≡ self.old.base.value) }
+        ensures reply { IfOk result (λ r. M.wide_reply r.0 ≡ M.answer self.old.machine (M.wide prepared.req)) }
+        ensures state { OnOk result (self.new.machine ≡ M.after self.old.machine (M.wide prepared.req)) }
+        ensures entry { IfOk result (λ r. r.1 ≡ entry_of self.old.label self.old.clock pass.now (M.wide prepared.req) (M.wide_reply r.0)) }
+        ensures history { IfOk result (λ r. self.new.history.items ≡ self.old.history.items ++ r.1 ∷ []) }
+        ensures clock { OnOk result ((self.new.clock ≡ next_stamp self.old.clock pass.now) × (self.new.clock + 1 < 2 ^ 64)) }
+        ensures spare { OnOk result (0 < self.old.history.spare → self.new.history.spare + 1 ≡ self.old.history.spare) }
+        ensures free { M.is_free self.old.machine (M.wide prepared.req) ≡ true → 0 < self.old.history.spare → IsOk result }
+        ensures err { OnErr result (self.new ≡ self.old) }
+    {
+        let Prepared {
+            req,
+            copy,
+            spare: _,
+        } = prepared;
         let reply = self.machine.reply(&req)?;
-        let (their_req, their_reply) = M::widen(alloc, &req, &reply)?;
-        let Ok(room) = make_room(&mut self.history, pass) else {
+        let their_reply = M::copy_reply(&reply)?;
+        let room = self.history.spare();
+        let Ok(()) = self.history.reserve(1) else {
             return Err(NoMemory);
         };
         is_short(self.history.as_slice());
@@ -152,19 +195,18 @@ impl<M: Machine> Kept<M> {
         let answer = match self.machine.step(&req) {
             Ok(answer) => answer,
             Err(NoMemory) => {
-                give_room(&mut self.history, pass, room);
+                self.history.lower(room);
                 return Err(NoMemory);
             }
         };
         let place = self.label.place;
         let (our_req, our_reply) = M::own(req, reply);
         let ours = pass.entry(stamp, place, our_req, our_reply);
-        let theirs = pass.entry(stamp, place, their_req, their_reply);
+        let theirs = pass.entry(stamp, place, copy, their_reply);
         self.history.push(ours);
         self.clock = stamp;
         self.count += 1;
-        pass.record(theirs);
-        Ok(answer)
+        Ok((answer, theirs))
     }
 }
 
@@ -173,35 +215,4 @@ fn is_short(history: &[Entry])
     ensures { length history.now < 2 ^ 59 }
 {
     let _len = history.len();
-}
-
-// Room for one entry at both, and how much was sure before.
-fn make_room(history: &mut Log<Entry>, pass: &mut Pass) -> Result<(usize, usize), NoMemory>
-    ensures both { OnOk result ((0 < history.new.spare) × (0 < spare_of pass.new)) }
-    ensures before { IfOk result (λ r. (r.0 ≡ history.old.spare) × (r.1 ≡ spare_of pass.old) × (r.0 ≤ history.new.spare) × (r.1 ≤ spare_of pass.new)) }
-    ensures items { (history.new.items ≡ history.old.items) × (pass.new.moments.items ≡ pass.old.moments.items) }
-    ensures same { (pass.new.actor ≡ pass.old.actor) × (pass.new.clock ≡ pass.old.clock) × (pass.new.steps ≡ pass.old.steps)
-        × (pass.new.bytes ≡ pass.old.bytes) × (pass.new.running ≡ pass.old.running) }
-    ensures enough { 0 < history.old.spare → 0 < spare_of pass.old → IsOk result × (history.new ≡ history.old) × (pass.new ≡ pass.old) }
-    ensures err { OnErr result ((history.new ≡ history.old) × (pass.new ≡ pass.old)) }
-{
-    let before = (history.spare(), pass.spare());
-    history.reserve(1)?;
-    if pass.reserve(1).is_err() {
-        history.lower(before.0);
-        return Err(NoMemory);
-    }
-    Ok(before)
-}
-
-// Lets the room go again.
-fn give_room(history: &mut Log<Entry>, pass: &mut Pass, before: (usize, usize))
-    requires { (before.0 ≤ history.old.spare) × (before.1 ≤ spare_of pass.old) }
-    ensures history { history.new ≡ record { items = history.old.items; spare = before.0 } }
-    ensures moments { (pass.new.moments.items ≡ pass.old.moments.items) × (spare_of pass.new ≡ before.1) }
-    ensures same { (pass.new.actor ≡ pass.old.actor) × (pass.new.clock ≡ pass.old.clock) × (pass.new.steps ≡ pass.old.steps)
-        × (pass.new.bytes ≡ pass.old.bytes) × (pass.new.running ≡ pass.old.running) }
-{
-    history.lower(before.0);
-    pass.lower(before.1);
 }

@@ -12,6 +12,7 @@ mod moment_copies;
 mod names;
 mod opening;
 mod pass;
+mod prepared;
 mod reply_bytes;
 
 pub use any::AnyKept;
@@ -19,6 +20,7 @@ pub use entry::{Entry, Label, Moment, Note, Refused};
 pub use kept::Kept;
 pub use machine::Machine;
 pub use pass::{MOST_BYTES, MOST_MOMENTS, Pass};
+pub use prepared::Prepared;
 
 #[cfg(test)]
 mod tests;

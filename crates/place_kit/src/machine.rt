@@ -49,12 +49,13 @@ pub trait Machine: Drop {
     fn own(req: Self::Req, reply: Self::Reply) -> (AnyReq, AnyReply)
         ensures { (result.0 ≡ wide req) × (result.1 ≡ wide_reply reply) };
 
-    /// The request and its reply once more, as all places know them.
-    fn widen(
-        alloc: Global,
-        req: &Self::Req,
-        reply: &Self::Reply,
-    ) -> Result<(AnyReq, AnyReply), NoMemory>
-        ensures ok { IfOk result (λ p. (p.0 ≡ wide req.now) × (p.1 ≡ wide_reply reply.now)) }
-        ensures free { (s : Self) → is_free s (wide req.now) ≡ true → wide_reply reply.now ≡ answer s (wide req.now) → IsOk result };
+    /// The request once more, as all places know it.
+    fn copy_req(alloc: Global, req: &Self::Req) -> Result<AnyReq, NoMemory>
+        ensures same { IfOk result (λ r. r ≡ wide req.now) }
+        ensures free { (s : Self) → is_free s (wide req.now) ≡ true → IsOk result };
+
+    /// The reply once more, as all places know it.
+    fn copy_reply(reply: &Self::Reply) -> Result<AnyReply, NoMemory>
+        ensures same { IfOk result (λ r. r ≡ wide_reply reply.now) }
+        ensures free { (s : Self) (q : AnyReq) → is_free s q ≡ true → wide_reply reply.now ≡ answer s q → IsOk result };
 }

@@ -51,14 +51,14 @@ impl Machine for NameShard {
         (AnyReq::Name(req), AnyReply::Name(reply))
     }
 
-    fn widen(
-        alloc: Global,
-        req: &NameReq,
-        reply: &NameReply,
-    ) -> Result<(AnyReq, AnyReply), NoMemory> {
+    fn copy_req(alloc: Global, req: &NameReq) -> Result<AnyReq, NoMemory> {
         let req = copy_name_req(alloc, req)?;
+        Ok(AnyReq::Name(req))
+    }
+
+    fn copy_reply(reply: &NameReply) -> Result<AnyReply, NoMemory> {
         let reply = copy_name_reply(reply)?;
-        Ok((AnyReq::Name(req), AnyReply::Name(reply)))
+        Ok(AnyReply::Name(reply))
     }
 }
 

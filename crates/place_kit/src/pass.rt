@@ -184,8 +184,8 @@ impl Pass {
         self.reserve(2)
     }
 
-    // Lets sure room go.
-    pub(crate) fn lower(&mut self, spare: usize)
+    /// Lets sure room go, and leaves as much as that. It takes no memory.
+    pub fn lower(&mut self, spare: usize)
         requires { spare ≤ spare_of self.old }
         ensures moments { (self.new.moments.items ≡ self.old.moments.items) × (spare_of self.new ≡ spare) }
         ensures same { (self.new.actor ≡ self.old.actor) × (self.new.clock ≡ self.old.clock) × (self.new.steps ≡ self.old.steps)
@@ -309,8 +309,9 @@ impl Pass {
         }
     }
 
-    // Adds the entry of a transaction. There is room for it, beside what is put aside.
-    pub(crate) fn record(&mut self, entry: Entry)
+    /// Adds the entry of a transaction, the next step of the pass's actor, stamped above the clock. There is room for it, beside
+    /// what is put aside. It takes no memory.
+    pub fn record(&mut self, entry: Entry)
         requires room { 0 < spare_of self.old }
         requires few { used self.old < MOST_MOMENTS }
         requires light { self.old.bytes < MOST_BYTES }

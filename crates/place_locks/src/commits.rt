@@ -1,13 +1,22 @@
-ghost use Rattle.std.specs.Prelude.{◌≡◌, ◌↔◌, IfOk, IfErr, OnErr};
-ghost use Rattle.place_kit.specs.Commits.{IsFull};
+ghost use Rattle.std.specs.Prelude.{◌≡◌, ◌↔◌, ◌<◌, ◌^◌, IfOk, IfErr, OnErr};
+ghost use Rattle.place_kit.specs.Commits.{IsFull, used};
 ghost use Rattle.place_locks.specs.Commits.{HasCommitted, IsRefusalFor};
+ghost use Rattle.place_locks.specs.Serving.{IsNext};
 
-use place_kit::{Kept, Label, Machine, Pass, Refused};
-use std::sync::{Mutex, Wait};
+use place_kit::{Entry, Kept, Label, MOST_BYTES, MOST_MOMENTS, Machine, Pass, Prepared, Refused};
+use std::alloc::Global;
+use std::hint::spin_loop;
+use std::sync::{Mutex, MutexGuard, Wait};
 use tect_edge::Gate;
+use tect_ids::NoMemory;
+
+// How often a lock is tried before a thread sleeps for it.
+const SPINS: u32 = 4_000;
 
 // Who commits.
+#[derive(Drop)]
 pub(crate) struct Caller<'a, R: Wait, G: Gate> {
+    pub(crate) alloc: Global,
     pub(crate) rt: &'a R,
     pub(crate) worker: u32,
     pub(crate) gate: &'a G,
@@ -26,34 +35,105 @@ pub(crate) fn commit_at<M: Machine, R: Wait, G: Gate>(
     ensures refused { IfErr result (IsRefusalFor want) }
     ensures err { OnErr result (pass.new ≡ pass.old) }
 {
-    let Caller { rt, worker, gate } = caller;
     if pass.is_full() {
         return Err(Refused::HistoryFull { place: want.place });
     }
-    gate.pass(worker, want.place, false);
-    let mut kept = at.lock(rt);
-    gate.pass(worker, want.place, true);
-    let done = commit_as(&mut kept, want, pass, req);
-    drop(kept);
-    gate.pass(worker, want.place, false);
-    done
+    commit_with_room(caller, at, want, pass, req)
 }
 
-// One commit at the machine that is to have that label.
-fn commit_as<M: Machine>(
-    kept: &mut Kept<M>,
+// One commit of a pass that is not full. The lock is held only for what needs the machine.
+fn commit_with_room<M: Machine, R: Wait, G: Gate>(
+    caller: Caller<'_, R, G>,
+    at: &Mutex<Kept<M>>,
     want: Label,
     pass: &mut Pass,
     req: M::Req,
 ) -> Result<M::Reply, Refused>
+    requires few { used pass.old < MOST_MOMENTS }
+    requires light { pass.old.bytes < MOST_BYTES }
+    requires early { pass.old.clock < 2 ^ 63 }
     ensures done { IfOk result (λ reply. HasCommitted pass.old pass.new want.place (M.wide req) (M.wide_reply reply)) }
-    ensures full { (result ≡ Err (Refused.HistoryFull want.place)) ↔ ((kept.old.label ≡ want) × IsFull pass.old) }
+    ensures room { ¬ (result ≡ Err (Refused.HistoryFull want.place)) }
     ensures refused { IfErr result (IsRefusalFor want) }
-    ensures err { OnErr result ((pass.new ≡ pass.old) × (kept.new ≡ kept.old)) }
+    ensures err { OnErr result (pass.new ≡ pass.old) }
+{
+    let Ok(prepared) = Prepared::new(caller.alloc, pass, req) else {
+        return Err(Refused::NoMemory);
+    };
+    let spare = prepared.spare();
+    match serve_at(caller, at, want, pass, prepared) {
+        Ok((reply, entry)) => {
+            pass.record(entry);
+            Ok(reply)
+        }
+        Err(refused) => {
+            pass.lower(spare);
+            Err(refused)
+        }
+    }
+}
+
+// What needs the machine behind the lock.
+fn serve_at<M: Machine, R: Wait, G: Gate>(
+    caller: Caller<'_, R, G>,
+    at: &Mutex<Kept<M>>,
+    want: Label,
+    pass: &Pass,
+    prepared: Prepared<M>,
+) -> Result<(M::Reply, Entry), Refused>
+    requires ready { prepared.copy ≡ M.wide prepared.req }
+    requires early { pass.now.clock < 2 ^ 63 }
+    ensures next { IfOk result (λ r. IsNext pass.now want.place (M.wide prepared.req) (M.wide_reply r.0) r.1) }
+    ensures room { ¬ (result ≡ Err (Refused.HistoryFull want.place)) }
+    ensures refused { IfErr result (IsRefusalFor want) }
+{
+    let Caller {
+        alloc: _,
+        rt,
+        worker,
+        gate,
+    } = caller;
+    gate.pass(worker, want.place, false);
+    let mut kept = take_lock(rt, at);
+    gate.pass(worker, want.place, true);
+    let served = serve_as(&mut kept, want, pass, prepared);
+    drop(kept);
+    gate.pass(worker, want.place, false);
+    served
+}
+
+// Takes the lock. A commit is short, and a sleep in the kernel costs many commits: so it is tried often before it is waited
+// for.
+fn take_lock<'a, T, R: Wait>(rt: &R, at: &'a Mutex<T>) -> MutexGuard<'a, T> {
+    for _ in 0..SPINS {
+        if let Some(kept) = at.try_lock() {
+            return kept;
+        }
+        spin_loop();
+    }
+    at.lock(rt)
+}
+
+// What needs the machine, which is to have that label.
+fn serve_as<M: Machine>(
+    kept: &mut Kept<M>,
+    want: Label,
+    pass: &Pass,
+    prepared: Prepared<M>,
+) -> Result<(M::Reply, Entry), Refused>
+    requires ready { prepared.copy ≡ M.wide prepared.req }
+    requires early { pass.now.clock < 2 ^ 63 }
+    ensures next { IfOk result (λ r. IsNext pass.now want.place (M.wide prepared.req) (M.wide_reply r.0) r.1) }
+    ensures room { ¬ (result ≡ Err (Refused.HistoryFull want.place)) }
+    ensures refused { IfErr result (IsRefusalFor want) }
+    ensures err { OnErr result (kept.new ≡ kept.old) }
 {
     let found = kept.label();
     if found != want {
         return Err(Refused::Astray { want, found });
     }
-    kept.commit(pass, req)
+    match kept.serve(pass, prepared) {
+        Ok(served) => Ok(served),
+        Err(NoMemory) => Err(Refused::NoMemory),
+    }
 }

@@ -58,8 +58,8 @@ impl Places {
         })
     }
 
-    /// Does the request at its place, under the one lock of that place, for which it may wait. The gate is told before the
-    /// lock is taken, while it is kept, and after it was given back.
+    /// Does the request at its place, under the one lock of that place, for which it may wait. What needs no machine is done
+    /// without the lock. The gate is told before the lock is taken, while it is kept, and after it was given back.
     ///
     /// The pass grows by one entry, whose stamp is its new clock. It is refused as full exactly where the pass is full;
     /// then no lock is taken, and the gate is not told. It is astray where the label found behind the lock is not the
@@ -79,7 +79,12 @@ impl Places {
     {
         let place = place(asked.request(), &self.counts);
         let want = label_at(&self.counts, place);
-        let caller = Caller { rt, worker, gate };
+        let caller = Caller {
+            alloc: self.alloc,
+            rt,
+            worker,
+            gate,
+        };
         match asked.into_request() {
             AnyReq::Name(req) => {
                 let at = &self.names[place.0 as usize];
