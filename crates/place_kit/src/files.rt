@@ -45,8 +45,14 @@ impl Machine for FileShard {
         FileShard::step(self, req)
     }
 
-    fn own(req: FileReq, reply: FileReply) -> (AnyReq, AnyReply) {
-        (AnyReq::File(req), AnyReply::File(reply))
+    // Each request of a file shard may change it.
+    fn only_reads(req: &FileReq) -> bool {
+        let _req = req;
+        false
+    }
+
+    fn own(req: FileReq) -> AnyReq {
+        AnyReq::File(req)
     }
 
     fn copy_req(alloc: Global, req: &FileReq) -> Result<AnyReq, NoMemory> {

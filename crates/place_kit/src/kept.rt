@@ -185,6 +185,7 @@ impl<M: Machine> Kept<M> {
             spare: _,
         } = prepared;
         let reply = self.machine.reply(&req)?;
+        let our_reply = M::copy_reply(&reply)?;
         let their_reply = M::copy_reply(&reply)?;
         let room = self.history.spare();
         let Ok(()) = self.history.reserve(1) else {
@@ -192,22 +193,32 @@ impl<M: Machine> Kept<M> {
         };
         is_short(self.history.as_slice());
         let stamp = self.clock.max(pass.clock) + 1;
-        let answer = match self.machine.step(&req) {
-            Ok(answer) => answer,
-            Err(NoMemory) => {
-                self.history.lower(room);
-                return Err(NoMemory);
-            }
+        let Ok(()) = change(&mut self.machine, &req) else {
+            self.history.lower(room);
+            return Err(NoMemory);
         };
         let place = self.label.place;
-        let (our_req, our_reply) = M::own(req, reply);
+        let our_req = M::own(req);
         let ours = pass.entry(stamp, place, our_req, our_reply);
         let theirs = pass.entry(stamp, place, copy, their_reply);
         self.history.push(ours);
         self.clock = stamp;
         self.count += 1;
-        Ok((answer, theirs))
+        Ok((reply, theirs))
     }
+}
+
+// Does the request, unless it only reads.
+fn change<M: Machine>(machine: &mut M, req: &M::Req) -> Result<(), NoMemory>
+    ensures ok { OnOk result (machine.new ≡ M.after machine.old (M.wide req.now)) }
+    ensures err { OnErr result (machine.new ≡ machine.old) }
+    ensures free { M.is_free machine.old (M.wide req.now) ≡ true → IsOk result }
+{
+    if M::only_reads(req) {
+        return Ok(());
+    }
+    let _reply = machine.step(req)?;
+    Ok(())
 }
 
 // A history is short, since its entries take room.

@@ -45,9 +45,13 @@ pub trait Machine: Drop {
         ensures err { OnErr result (self.new ≡ self.old) }
         ensures free { is_free self.old (wide req.now) ≡ true → IsOk result };
 
-    /// The request and its reply themselves, as all places know them. It takes no memory.
-    fn own(req: Self::Req, reply: Self::Reply) -> (AnyReq, AnyReply)
-        ensures { (result.0 ≡ wide req) × (result.1 ≡ wide_reply reply) };
+    /// Whether the request only reads, so that `step` changes nothing. It takes no memory.
+    fn only_reads(req: &Self::Req) -> bool
+        ensures { (s : Self) → result ≡ true → after s (wide req.now) ≡ s };
+
+    /// The request itself, as all places know it. It takes no memory.
+    fn own(req: Self::Req) -> AnyReq
+        ensures { result ≡ wide req };
 
     /// The request once more, as all places know it.
     fn copy_req(alloc: Global, req: &Self::Req) -> Result<AnyReq, NoMemory>

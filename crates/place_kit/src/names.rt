@@ -47,8 +47,15 @@ impl Machine for NameShard {
         NameShard::step(self, req)
     }
 
-    fn own(req: NameReq, reply: NameReply) -> (AnyReq, AnyReply) {
-        (AnyReq::Name(req), AnyReply::Name(reply))
+    fn only_reads(req: &NameReq) -> bool {
+        matches!(
+            req,
+            NameReq::CheckDir { .. } | NameReq::Look { .. } | NameReq::List { .. }
+        )
+    }
+
+    fn own(req: NameReq) -> AnyReq {
+        AnyReq::Name(req)
     }
 
     fn copy_req(alloc: Global, req: &NameReq) -> Result<AnyReq, NoMemory> {
