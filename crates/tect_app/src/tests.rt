@@ -38,7 +38,7 @@ const ROW: &[u8] = b"store 1 1 1 3 3\nc1 create /a\nc1 look /a\n";
 #[test]
 fn statuses_and_texts(rt: HostRuntime) -> Result<(), Fail> {
     let row: &[u8] = b"c1 1 2 ok file 4294967297\nc1 2 1 ok file 4294967297\nend\n";
-    let cases: [(&[&str], &[u8], &[u64], &[u64], u8, &[u8]); 12] = [
+    let cases: [(&[&str], &[u8], &[u64], &[u64], u8, &[u8]); 13] = [
         (&["replay"], ROW, &[], &[], 0, row),
         (
             &["replay"],
@@ -100,6 +100,7 @@ fn statuses_and_texts(rt: HostRuntime) -> Result<(), Fail> {
             b"usage: tect replay, race, make or judge\n",
         ),
         (&["race"], ROW, &[], &[1], 5, b""),
+        (&["race", "--workers", "2"], ROW, &[], &[1], 5, b""),
     ];
     for (words, input, takes, puts, status, output) in cases {
         let (found, text) = outcome(&rt, rt.alloc(), words, input, takes, puts)?;
@@ -205,6 +206,29 @@ fn a_race_by_two_workers(rt: HostRuntime) -> Result<(), Fail> {
     )?;
     assert_eq!(rt; status, 0);
     assert_eq!(rt; text.as_slice(), output);
+    Ok(())
+}
+
+/// A script in which one client looks at the root so often.
+fn looks(alloc: Global, count: u32) -> Result<Vec<u8>, AllocError> {
+    let mut script = Vec::from_slice(alloc, b"store 1 1 1 3 3\n")?;
+    for _look in 0..count {
+        script.extend_from_slice(b"c1 look /\n")?;
+    }
+    Ok(script)
+}
+
+#[test]
+fn a_report_of_a_race_is_cut(rt: HostRuntime) -> Result<(), Fail> {
+    // The report is longer than one piece, and the sink fails at the second.
+    let words = ["race", "--workers", "2"];
+    let input = looks(rt.alloc(), 5000)?;
+    let (status, whole) = outcome(&rt, rt.alloc(), &words, &input, &[], &[])?;
+    assert_eq!(rt; status, 0);
+    let (status, cut) = outcome(&rt, rt.alloc(), &words, &input, &[], &[2])?;
+    assert_eq!(rt; status, 5);
+    assert!(rt; whole.starts_with(&cut));
+    assert!(rt; 65_536 <= cut.len() && cut.len() < whole.len());
     Ok(())
 }
 

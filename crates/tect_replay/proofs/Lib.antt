@@ -5,5 +5,6 @@ pub mod Played
 pub mod Going
 pub mod Stepping
 pub mod Texts
+pub mod Pieces
 pub mod ReportTexts
 pub mod Reached

@@ -1,3 +1,4 @@
 pub mod Output
+pub mod Pieces
 pub mod Replays
 pub mod Plays
