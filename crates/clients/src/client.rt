@@ -42,6 +42,14 @@ impl Model for Client {
     ghost invariant = { IsClient };
 }
 
+/// The same command once more.
+#[tactic(auto, using(tect_ids::proofs::Clones::same_command))]
+fn again(command: &Command) -> Result<Command, NoMemory>
+    ensures { IfOk result (λ same. same ≡ command.now) }
+{
+    Ok(command.clone()?)
+}
+
 /// Adds an event for which there is room. It takes no memory.
 fn push_event(events: &mut Vec<Event>, event: Event)
     requires { vec_len events.old < vec_capacity events.old }
@@ -188,7 +196,7 @@ impl Client {
         ensures err { OnErr result (self.new ≡ self.old) }
     {
         self.pass.reserve_begin()?;
-        let noted = command.clone()?;
+        let noted = again(&command)?;
         self.actor.begin(command)?;
         self.transactions = 0;
         let op = self.actor.op();
@@ -210,7 +218,7 @@ impl Client {
         ensures err { OnErr result (self.new ≡ self.old) }
     {
         self.refused.reserve(2)?;
-        let kept = command.clone()?;
+        let kept = again(&command)?;
         self.actor.begin_refused(command);
         self.transactions = 0;
         let op = self.actor.op();

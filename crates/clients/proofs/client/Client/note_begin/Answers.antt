@@ -1,6 +1,5 @@
 use Rattle.std.proofs.Common.{◌∙◌, sym, refl}
 use Rattle.std.specs.Prelude.{IsOk}
-use Rattle.tect_ids.proofs.Clones.{same_command}
 use Rattle.place_kit.specs.Commits.{IsFullForBegin}
 use Rattle.clients.proofs.Closings.{at_ok, ok_no_err, refuses_here, same_full, begun_client}
 use Rattle.clients.proofs.client.Client.note_begin.Goals as goal
@@ -20,6 +19,6 @@ invariant_of-self-2 c =
     begun_client c.self.inside
     (record { counts = c.self.inside.counts; actor = c.begin.new.self; pass = c.note.new.self; refused = c.self.inside.refused; transactions = 0 })
     c.reserve_begin.new.self c.args.command c.in_ok-noted.noted c.args.self.now c.self.invariant c.self.view_is c.requires.idle c.requires.goes_on c.requires.few c.requires.served c.requires.room
-    (same_command _ _ c.in_ok-noted.ensures.cases) c.in_ok-reserve_begin.ensures.moments c.in_ok-reserve_begin.ensures.same.4 c.in_ok-reserve_begin.ensures.same.1 c.in_ok-reserve_begin.ensures.same.0
+    c.in_ok-noted.ensures c.in_ok-reserve_begin.ensures.moments c.in_ok-reserve_begin.ensures.same.4 c.in_ok-reserve_begin.ensures.same.1 c.in_ok-reserve_begin.ensures.same.0
     c.in_ok-begin.ensures.ok c.op-op.result c.op-op.ensures.op (at_ok c.note.result ok c.note.ensures.moments) (at_ok c.note.result ok c.note.ensures.clock)
     (at_ok c.note.result ok c.note.ensures.same).0 (at_ok c.note.result ok c.note.ensures.running) refl refl refl

@@ -2,7 +2,6 @@ use Rattle.std.proofs.Common.{◌≡◌, ◌∙◌, ◌<◌, ap, refl, arith, Li
 use Rattle.std.specs.Prelude.{vec_len, vec_capacity}
 use Rattle.tect_ids.specs.declared.ids.OpId.{OpId}
 use Rattle.tect_ids.specs.declared.command.Command.{Command}
-use Rattle.tect_ids.proofs.Clones.{same_command}
 use Rattle.world_runs.specs.declared.event.Event.{Event}
 use Rattle.world_runs.specs.declared.event.Event.TheVariants.{Refused}
 use Rattle.actors.specs.ActorState.{next_op_of, op_of}
@@ -17,7 +16,7 @@ invariant_of-self-2 c =
     let items : c.push_event.new.events.items ≡ a.refused.items ++ Refused (next_op_of a.actor) c.args.command ∷ [] =
     c.push_event.ensures.items ∙ ap (λ (es : List Event). es ++ Refused c.op-op.result c.in_ok-kept.kept ∷ []) c.in_ok-reserve.ensures.items
     ∙ ap (λ (o : OpId). a.refused.items ++ Refused o c.in_ok-kept.kept ∷ []) (c.op-op.ensures.op ∙ ap op_of c.begin_refused.ensures)
-    ∙ ap (λ (d : Command). a.refused.items ++ Refused (next_op_of a.actor) d ∷ []) (same_command _ _ c.in_ok-kept.ensures.cases) in
+    ∙ ap (λ (d : Command). a.refused.items ++ Refused (next_op_of a.actor) d ∷ []) c.in_ok-kept.ensures in
     let space : vec_len c.push_event.new.events < vec_capacity c.push_event.new.events = omega (arith, c.in_ok-reserve.ensures.ok, c.in_ok-reserve.ensures.capacity, c.in_ok-reserve.ensures.len, c.push_event.ensures.len, c.push_event.ensures.room) in
     refused_client a
     (record { counts = a.counts; actor = c.begin_refused.new.self; pass = a.pass; refused = c.push_event.new.events; transactions = 0 })
