@@ -124,6 +124,7 @@ fn serve_as<M: Machine>(
     requires ready { prepared.copy ≡ M.wide prepared.req }
     requires early { pass.now.clock < 2 ^ 63 }
     ensures next { IfOk result (λ r. IsNext pass.now want.place (M.wide prepared.req) (M.wide_reply r.0) r.1) }
+    ensures astray { ¬ (kept.old.label ≡ want) → result ≡ Err (Refused.Astray want kept.old.label) }
     ensures room { ¬ (result ≡ Err (Refused.HistoryFull want.place)) }
     ensures refused { IfErr result (IsRefusalFor want) }
     ensures err { OnErr result (kept.new ≡ kept.old) }
