@@ -1,11 +1,15 @@
 -- What is written in pieces.
-use Rattle.std.proofs.Common.{◌≡◌, ℕ, List, ◌++◌, Option, sym, ap, ◌∙◌, append_assoc, subst}
+use Rattle.std.proofs.Common.{◌≡◌, ℕ, List, [], ◌++◌, Option, sym, ap, ◌∙◌, append_assoc, subst}
 use Rattle.std.specs.Io.KnownBytes.{Appends}
-use Rattle.std.proofs.KnownBytes.{Appends-trans}
+use Rattle.std.proofs.KnownBytes.{Appends-nil, Appends-trans}
 use Rattle.tect_edge.specs.Prefixes.{AppendsProperPrefix}
 use Rattle.tect_replay.specs.Output.{AppendsPrefix}
 use Rattle.tect_replay.specs.Pieces.{AppendsAllBut}
 use Rattle.tect_replay.proofs.Texts.{prefix_then, proper_then}
+
+-- nothing is written yet
+pub all_waits : (known : Option (List ℕ)) (bytes rest : List ℕ) → rest ≡ bytes → AppendsAllBut known known bytes rest
+all_waits known bytes rest same = ([], same, Appends-nil known)
 
 -- what waited and came behind it is the end of all that came
 joined : (front waiting first next : List ℕ) → front ++ waiting ≡ first → front ++ (waiting ++ next) ≡ first ++ next
