@@ -2,6 +2,7 @@ ghost use Rattle.std.specs.Prelude.{◌≡◌, IfOk, vec_len};
 ghost use Rattle.tect_ids.specs.Places.{HasPlaces};
 
 use crate::labels::label_at;
+use crossbeam_utils::CachePadded;
 use file_shard::FileShard;
 use name_shard::NameShard;
 use place_kit::Kept;
@@ -13,7 +14,7 @@ use tect_ids::{Counts, NoMemory, Place};
 pub(crate) fn name_places(
     alloc: Global,
     counts: &Counts,
-) -> Result<Vec<Mutex<Kept<NameShard>>>, NoMemory>
+) -> Result<Vec<CachePadded<Mutex<Kept<NameShard>>>>, NoMemory>
     requires { HasPlaces counts.now }
     ensures { IfOk result (λ names. vec_len names ≡ counts.now.names) }
 {
@@ -21,7 +22,7 @@ pub(crate) fn name_places(
     for number in 0..counts.names {
         let label = label_at(counts, Place(number));
         let kept = Kept::open_names(alloc, label.place, label.rooted)?;
-        names.push(Mutex::new(kept))?;
+        names.push(CachePadded::new(Mutex::new(kept)))?;
     }
     Ok(names)
 }
@@ -30,14 +31,14 @@ pub(crate) fn name_places(
 pub(crate) fn file_places(
     alloc: Global,
     counts: &Counts,
-) -> Result<Vec<Mutex<Kept<FileShard>>>, NoMemory>
+) -> Result<Vec<CachePadded<Mutex<Kept<FileShard>>>>, NoMemory>
     requires { HasPlaces counts.now }
     ensures { IfOk result (λ files. vec_len files ≡ counts.now.files) }
 {
     let mut files = Vec::new(alloc);
     for number in 0..counts.files {
         let kept = Kept::open_files(alloc, Place(counts.names + number));
-        files.push(Mutex::new(kept))?;
+        files.push(CachePadded::new(Mutex::new(kept)))?;
     }
     Ok(files)
 }

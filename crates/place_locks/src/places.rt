@@ -9,6 +9,7 @@ use crate::commits::{Caller, commit_at};
 use crate::labels::label_at;
 use crate::opening::{file_places, name_places};
 use crate::taking::{take_files, take_names};
+use crossbeam_utils::CachePadded;
 use file_shard::FileShard;
 use name_shard::NameShard;
 use place_kit::{AnyKept, Kept, Pass, Refused};
@@ -26,8 +27,9 @@ use tect_ids::{Counts, NoMemory};
 pub struct Places {
     alloc: Global,
     counts: Counts,
-    names: Vec<Mutex<Kept<NameShard>>>,
-    files: Vec<Mutex<Kept<FileShard>>>,
+    // Each lock with its shard has cache lines of its own, so that a commit there slows no commit at another shard.
+    names: Vec<CachePadded<Mutex<Kept<NameShard>>>>,
+    files: Vec<CachePadded<Mutex<Kept<FileShard>>>>,
 }
 
 impl Model for Places {
@@ -87,14 +89,14 @@ impl Places {
         };
         match asked.into_request() {
             AnyReq::Name(req) => {
-                let at = &self.names[place.0 as usize];
+                let at = &*self.names[place.0 as usize];
                 match commit_at(caller, at, want, pass, req) {
                     Ok(reply) => Ok(AnyReply::Name(reply)),
                     Err(refused) => Err(refused),
                 }
             }
             AnyReq::File(req) => {
-                let at = &self.files[(place.0 - self.counts.names) as usize];
+                let at = &*self.files[(place.0 - self.counts.names) as usize];
                 match commit_at(caller, at, want, pass, req) {
                     Ok(reply) => Ok(AnyReply::File(reply)),
                     Err(refused) => Err(refused),

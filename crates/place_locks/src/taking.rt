@@ -3,6 +3,7 @@ ghost use Rattle.tect_ids.specs.Places.{HasPlaces};
 ghost use Rattle.place_locks.specs.Started.{AreStarted, IsLoss, StandFirst, label_at};
 
 use crate::labels::label_at;
+use crossbeam_utils::CachePadded;
 use file_shard::FileShard;
 use name_shard::NameShard;
 use place_kit::{AnyKept, Kept, Machine, Refused};
@@ -12,7 +13,7 @@ use tect_ids::{Counts, Place};
 // The name shards, which stand at the first places.
 pub(crate) fn take_names(
     counts: &Counts,
-    names: Vec<Mutex<Kept<NameShard>>>,
+    names: Vec<CachePadded<Mutex<Kept<NameShard>>>>,
     kepts: &mut Vec<AnyKept>,
 ) -> Result<(), Refused>
     requires places { HasPlaces counts.now }
@@ -31,7 +32,7 @@ pub(crate) fn take_names(
 // The file shards, which stand behind the name shards.
 pub(crate) fn take_files(
     counts: &Counts,
-    files: Vec<Mutex<Kept<FileShard>>>,
+    files: Vec<CachePadded<Mutex<Kept<FileShard>>>>,
     kepts: &mut Vec<AnyKept>,
 ) -> Result<(), Refused>
     requires places { HasPlaces counts.now }
@@ -50,7 +51,7 @@ pub(crate) fn take_files(
 // What is behind a lock, which is to have the label of the place with that number.
 fn take_out<M: Machine>(
     counts: &Counts,
-    at: Mutex<Kept<M>>,
+    at: CachePadded<Mutex<Kept<M>>>,
     number: u32,
 ) -> Result<Kept<M>, Refused>
     requires places { HasPlaces counts.now }
@@ -58,7 +59,7 @@ fn take_out<M: Machine>(
     ensures label { IfOk result (λ kept. kept.label ≡ label_at counts.now number) }
     ensures lost { IfErr result (IsLoss counts.now) }
 {
-    let kept = at.into_inner();
+    let kept = at.into_inner().into_inner();
     let want = label_at(counts, Place(number));
     let found = kept.label();
     if found != want {
