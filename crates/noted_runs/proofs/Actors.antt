@@ -8,9 +8,9 @@ use Rattle.world_runs.specs.declared.event.Event.TheVariants.{Began, Refused, Ac
 use Rattle.store_rules.specs.Store.{Store, store_step}
 use Rattle.world_runs.specs.Moments.{Actor, Moment, May, opening, after, after_all, moment}
 use Rattle.world_runs.specs.Races.{is_own}
-use Rattle.noted_runs.specs.Events.{own}
-use Rattle.noted_runs.specs.Limits.{actor_in}
-use Rattle.noted_runs.specs.OwnRuns.{OwnMay, OwnRun, own_after, own_state, RepliesAre, stored_after}
+use Rattle.world_runs.specs.Events.{own}
+use Rattle.world_runs.specs.Limits.{actor_in}
+use Rattle.world_runs.specs.OwnRuns.{OwnMay, OwnRun, own_after, own_state, RepliesAre, stored_after}
 
 pub same_number : (a : ℕ) → eqb a a ≡ true
 same_number a = grind (arith, num_eq_cases)

@@ -7,14 +7,14 @@ use Rattle.tect_ids.specs.declared.ids.Counts.{Counts}
 use Rattle.tect_ids.specs.declared.ids.OpId.{OpId}
 use Rattle.tect_ids.specs.declared.answer.Answer.{Answer}
 use Rattle.tect_ids.specs.declared.answer.Answer.TheVariants as answers
-use Rattle.place_kit.specs.ReplyBytes.{reply_bytes}
+use Rattle.store_rules.specs.ReplyBytes.{reply_bytes}
 use Rattle.world_runs.specs.declared.event.Event.{Event}
 use Rattle.world_runs.specs.declared.event.Event.TheVariants.{Began, Refused, Acted, Ended, Stopped, Failed, Dumped}
 use Rattle.world_runs.specs.Moments.{Actor, Moment, opening, moment}
 use Rattle.world_runs.specs.Races.{is_own}
-use Rattle.noted_runs.specs.Events.{own}
-use Rattle.noted_runs.specs.Limits.{event_cost, event_bytes, used, kept_bytes, EndsFull, KeepsRoom, KeepsLimitsAfter, OwnLimits, actor_in}
-use Rattle.noted_runs.specs.OwnRuns.{own_after, own_state}
+use Rattle.world_runs.specs.Events.{own}
+use Rattle.world_runs.specs.Limits.{event_cost, event_bytes, used, kept_bytes, EndsFull, KeepsRoom, KeepsLimitsAfter, OwnLimits, actor_in}
+use Rattle.world_runs.specs.OwnRuns.{own_after, own_state}
 use Rattle.noted_runs.specs.Laws.{OwnLimitsMakeLimits}
 use Rattle.noted_runs.proofs.Actors.{own_of_actor, after_actors, moment-append, own-append}
 use Rattle.noted_runs.proofs.Owns.{counts_stay}

@@ -4,9 +4,9 @@ use Rattle.tect_ids.specs.declared.ids.Counts.{Counts}
 use Rattle.world_runs.specs.declared.event.Event.{Event}
 use Rattle.world_runs.specs.Moments.{Actor, Moment, opening, after, after_all, RunFrom}
 use Rattle.world_runs.specs.Races.{is_own}
-use Rattle.noted_runs.specs.Events.{own}
-use Rattle.noted_runs.specs.Limits.{actor_in}
-use Rattle.noted_runs.specs.OwnRuns.{OwnMay, OwnRun, own_after, own_state, RepliesAre, stored_after}
+use Rattle.world_runs.specs.Events.{own}
+use Rattle.world_runs.specs.Limits.{actor_in}
+use Rattle.world_runs.specs.OwnRuns.{OwnMay, OwnRun, own_after, own_state, RepliesAre, stored_after}
 use Rattle.noted_runs.specs.Laws.{OwnRunsMakeRun, RunIsOwnRuns, ActorsAreTheirOwn}
 use Rattle.noted_runs.proofs.Actors.{own_of_actor, actor_of_own, after_actors, after_counts, after_store, may_from, own_from, replies-append, replies-front, replies-rest, stored_after-append}
 

@@ -14,19 +14,21 @@ use Rattle.tect_ids.specs.Keys.{op_eq}
 use Rattle.tect_ids.proofs.KeyTests.{op_eq_cases}
 use Rattle.store_rules.specs.Dumps.{store_dump}
 use Rattle.store_rules.specs.Store.{Store, opening_store}
-use Rattle.place_kit.specs.declared.entry.Moment.{Moment}
-use Rattle.place_kit.specs.declared.entry.Moment.TheVariants.{Act, Local}
-use Rattle.place_kit.specs.declared.entry.Note.TheVariants as notes
+use Rattle.entry_words.specs.declared.entry.Moment.{Moment}
+use Rattle.entry_words.specs.declared.entry.Moment.TheVariants.{Act, Local}
+use Rattle.entry_words.specs.declared.entry.Note.TheVariants as notes
 use Rattle.world_runs.specs.declared.event.Event.{Event}
 use Rattle.world_runs.specs.declared.event.Event.TheVariants.{Began, Refused, Acted, Ended, Stopped, Failed, Dumped}
 use Rattle.world_runs.specs.Moments.{Moment as Instant, moment}
 use Rattle.world_runs.specs.Races.{concerns, is_own, own_lines, lines_from, part_lines, race_report_after}
 use Rattle.world_runs.specs.Report.{answer_line, client_name, is_act_of, lines_at, transactions}
-use Rattle.noted_runs.specs.Events.{end_event, event_of, events_of, own}
-use Rattle.noted_runs.specs.Laws.{IsOwnNote, IsSilent, WovenReports}
-use Rattle.noted_runs.specs.OwnRuns.{stored_after}
-use Rattle.noted_runs.specs.Reports.{by_client, own_part, part_report, parts_report}
-use Rattle.noted_runs.specs.Woven.{Cut, is_early, is_late, woven}
+use Rattle.world_runs.specs.Events.{end_event, event_of, events_of, own}
+use Rattle.world_runs.specs.Events.{IsOwnNote}
+use Rattle.world_runs.specs.Woven.{IsSilent}
+use Rattle.noted_runs.specs.Laws.{WovenReports}
+use Rattle.world_runs.specs.OwnRuns.{stored_after}
+use Rattle.world_runs.specs.PartReports.{by_client, own_part, part_report, parts_report}
+use Rattle.world_runs.specs.Woven.{Cut, is_early, is_late, woven}
 use Rattle.noted_runs.proofs.Actors.{one_number, own-append, moment-append, same_number, stored_after-append}
 use Rattle.noted_runs.proofs.Limits.{own_sum}
 use Rattle.noted_runs.proofs.Owns.{store_is_after}

@@ -9,12 +9,13 @@ use Rattle.tect_ids.proofs.KeyTests.{op_eq_cases}
 use Rattle.store_rules.specs.declared.any.AnyReq.{AnyReq}
 use Rattle.store_rules.specs.declared.any.AnyReply.{AnyReply}
 use Rattle.store_rules.specs.Places.{request_place}
-use Rattle.op_names.specs.declared.program.Phase.TheVariants.{End}
-use Rattle.op_names.specs.declared.program.Program.{Program}
-use Rattle.op_names.specs.Programs.{object_number, phase_ask, phase_hear, started}
+use Rattle.program_rules.specs.declared.program.Phase.TheVariants.{End}
+use Rattle.program_rules.specs.declared.program.Program.{Program}
+use Rattle.program_rules.specs.Programs.{object_number, phase_ask, phase_hear, started}
 use Rattle.world_runs.specs.declared.event.Event.{Event}
 use Rattle.world_runs.specs.declared.event.Event.TheVariants.{Began, Refused, Acted, Ended, Stopped, Failed, Dumped}
-use Rattle.world_runs.specs.Moments.{Moment, Actor, May, after, program_of, running, program_ask, program_answer, begun, refused, no_room, went_on, heard}
+use Rattle.program_rules.specs.Lacks.{no_room}
+use Rattle.world_runs.specs.Moments.{Moment, Actor, May, after, program_of, running, program_ask, program_answer, begun, refused, went_on, heard}
 use Rattle.world_runs.specs.Headline.{begun_by}
 use Rattle.sound_runs.proofs.MomentsKeep.{RunsAs, runs_as}
 use Rattle.tree_runs.proofs.Histories.{numbers_grow}

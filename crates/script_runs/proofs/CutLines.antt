@@ -18,8 +18,8 @@ use Rattle.sound_runs.specs.Pasts.{ghost_after, ghosts_after}
 use Rattle.sound_runs.proofs.MomentsKeep.{event_sound, opening_all_sound}
 use Rattle.sound_runs.proofs.RunsKeep.{run_keeps}
 use Rattle.tree_runs.proofs.Histories.{after_all-append, run-front, run-rest, run-append}
-use Rattle.script_runs.specs.Standing.{busy_at}
-use Rattle.script_runs.specs.Smooth.{EndsAtOnce}
+use Rattle.world_runs.specs.Standing.{busy_at}
+use Rattle.world_runs.specs.Smooth.{EndsAtOnce}
 use Rattle.script_runs.specs.RunningOut.{RefusesAsFull}
 use Rattle.script_runs.specs.Laws.{EachCutLineCanBeRunOut}
 use Rattle.script_runs.proofs.Moves.{Keeps, acts_move, begin_moves}

@@ -13,7 +13,7 @@ use Rattle.world_runs.specs.Follows.{Acts, EndsAfter, IsBeginOf, BeginsAndEnds, 
 use Rattle.store_world.specs.Worlds.{opening_ghost}
 use Rattle.sound_runs.proofs.MomentsKeep.{opening_all_sound}
 use Rattle.tree_runs.proofs.Histories.{run-front, run-rest, none_fails-front, none_fails-rest, begin_is}
-use Rattle.script_runs.specs.Standing.{busy_at}
+use Rattle.world_runs.specs.Standing.{busy_at}
 use Rattle.script_runs.specs.Laws.{ScriptFixesRun, ScriptWithoutStepsFixesRun}
 use Rattle.script_runs.proofs.SameEnds.{ends_answer, answers_same, acts_same, acts_not_ends}
 use Rattle.script_runs.proofs.Settles.{IsSettled, Settles, follows_settled, settled_without_steps}

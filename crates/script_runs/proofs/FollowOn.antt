@@ -16,7 +16,7 @@ use Rattle.sound_runs.specs.Pasts.{ghosts_after}
 use Rattle.sound_runs.proofs.MomentsKeep.{opening_all_sound}
 use Rattle.sound_runs.proofs.RunsKeep.{run_keeps}
 use Rattle.tree_runs.proofs.Histories.{after_all-append, run-front, run-rest}
-use Rattle.script_runs.specs.Standing.{busy_at}
+use Rattle.world_runs.specs.Standing.{busy_at}
 use Rattle.script_runs.specs.Laws.{RunFollowsOn, Stands, StandsByTurn}
 use Rattle.script_runs.proofs.Moves.{changed}
 use Rattle.script_runs.proofs.Lines.{IsDone, line_does, busy_after, turn_stands}

@@ -4,7 +4,7 @@ use Rattle.tect_ids.specs.declared.ids.OpId.{OpId}
 use Rattle.tect_ids.specs.declared.command.Command.{Command}
 use Rattle.tect_ids.specs.declared.script.Act.{Act}
 use Rattle.tect_ids.specs.declared.script.Act.TheVariants as acts
-use Rattle.op_names.specs.declared.program.Program.{Program}
+use Rattle.program_rules.specs.declared.program.Program.{Program}
 use Rattle.world_runs.specs.declared.event.Event.{Event}
 use Rattle.world_runs.specs.declared.event.Event.TheVariants.{Stopped}
 use Rattle.world_runs.specs.Moments.{Actor, Moment, after, after_all, RunFrom}
@@ -15,7 +15,7 @@ use Rattle.sound_runs.specs.Known.{AllSound, Knows}
 use Rattle.sound_runs.specs.Pasts.{world_of}
 use Rattle.sound_runs.proofs.RunsKeep.{knows_of}
 use Rattle.store_world.specs.Worlds.{Ghost}
-use Rattle.script_runs.specs.Standing.{op_of, busy_at, AtTurn}
+use Rattle.world_runs.specs.Standing.{op_of, busy_at, AtTurn}
 use Rattle.script_runs.proofs.Moves.{changed, Moves, Keeps, none_moves, moves_on, acts_move, ends_move, begin_moves, stopped_moves}
 
 -- ---- the op that an actor is busy with

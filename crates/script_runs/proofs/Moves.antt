@@ -7,13 +7,13 @@ use Rattle.tect_ids.proofs.KeyTests.{num_eq_cases}
 use Rattle.store_rules.specs.declared.any.AnyReq.{AnyReq}
 use Rattle.store_rules.specs.declared.any.AnyReply.{AnyReply}
 use Rattle.store_rules.specs.Store.{Store, store_step}
-use Rattle.op_names.specs.declared.program.Program.{Program}
+use Rattle.program_rules.specs.declared.program.Program.{Program}
 use Rattle.world_runs.specs.declared.event.Event.{Event}
 use Rattle.world_runs.specs.declared.event.Event.TheVariants.{Began, Refused, Acted, Ended, Stopped, Failed, Dumped}
 use Rattle.world_runs.specs.Moments.{Actor, Moment, May, after, after_all, with_actor, heard, went_on, begun, refused}
 use Rattle.world_runs.specs.Follows.{Acts, IsEndOf, IsBeginOf, EndsAfter}
 use Rattle.tree_runs.proofs.Histories.{after_all-append}
-use Rattle.script_runs.specs.Standing.{op_of, busy_at}
+use Rattle.world_runs.specs.Standing.{op_of, busy_at}
 
 -- one value has changed
 pub changed : {X : Type 0} (P : X → Type 0) (others : ℕ → X) (a : ℕ) (x : X) (b : ℕ) → (b ≡ a → P x) → (b ≢ a → P (others b)) → P (if eqb b a then x else others b)

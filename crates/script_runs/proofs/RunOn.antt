@@ -6,7 +6,7 @@ use Rattle.tect_ids.specs.declared.script.Act.{Act}
 use Rattle.tect_ids.specs.declared.script.Act.TheVariants as acts
 use Rattle.tect_ids.specs.declared.script.Line.{Line}
 use Rattle.tect_ids.specs.declared.script.Line.TheVariants as lines
-use Rattle.op_names.specs.Programs.{started}
+use Rattle.program_rules.specs.Programs.{started}
 use Rattle.world_runs.specs.declared.event.Event.{Event}
 use Rattle.world_runs.specs.declared.event.Event.TheVariants.{Began, Ended, Stopped, Dumped}
 use Rattle.world_runs.specs.Served.{IsServed}
@@ -21,8 +21,8 @@ use Rattle.sound_runs.proofs.MomentsKeep.{event_sound, opening_all_sound}
 use Rattle.sound_runs.proofs.RunsKeep.{run_keeps, front_runs, run_all_sound}
 use Rattle.tree_runs.proofs.Histories.{run-front, run-append, none_fails-append, acts_none_fail}
 use Rattle.tree_runs.proofs.Ends.{CanEnd}
-use Rattle.script_runs.specs.Standing.{op_of, busy_at, AtTurn}
-use Rattle.script_runs.specs.Smooth.{EndsAtOnce}
+use Rattle.world_runs.specs.Standing.{op_of, busy_at, AtTurn}
+use Rattle.world_runs.specs.Smooth.{EndsAtOnce}
 use Rattle.script_runs.specs.Laws.{EachScriptCanBeRunOn}
 use Rattle.script_runs.proofs.Moves.{changed_there}
 use Rattle.script_runs.proofs.Lines.{IsBusy, busy_is, IsDone, line_does, busy_after}

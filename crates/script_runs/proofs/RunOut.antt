@@ -9,13 +9,14 @@ use Rattle.tect_ids.specs.declared.script.Act.{Act}
 use Rattle.tect_ids.specs.declared.script.Act.TheVariants as acts
 use Rattle.tect_ids.specs.declared.script.Line.{Line}
 use Rattle.tect_ids.specs.declared.script.Line.TheVariants as lines
-use Rattle.op_names.specs.declared.program.Phase.TheVariants.{End}
-use Rattle.op_names.specs.declared.program.Program.{Program}
-use Rattle.op_names.specs.Programs.{started}
+use Rattle.program_rules.specs.declared.program.Phase.TheVariants.{End}
+use Rattle.program_rules.specs.declared.program.Program.{Program}
+use Rattle.program_rules.specs.Programs.{started}
 use Rattle.world_runs.specs.declared.event.Event.{Event}
 use Rattle.world_runs.specs.declared.event.Event.TheVariants.{Began, Refused, Acted, Ended, Stopped, Failed, Dumped}
 use Rattle.world_runs.specs.Served.{IsServed}
-use Rattle.world_runs.specs.Moments.{Moment, May, CanBegin, no_room, opening, after, after_all, RunFrom, IsWorldRun, moment, running, answered, program_of, begun, refused}
+use Rattle.program_rules.specs.Lacks.{no_room}
+use Rattle.world_runs.specs.Moments.{Moment, May, CanBegin, opening, after, after_all, RunFrom, IsWorldRun, moment, running, answered, program_of, begun, refused}
 use Rattle.world_runs.specs.Follows.{IsEndOf, IsBeginOf, DoesLine, Busy, FollowsFrom}
 use Rattle.world_runs.specs.Turns.{ClientTurn, Turns, all_idle, with_turn, turn_after, turns_after, TakesAct, InTurnFrom}
 use Rattle.world_runs.specs.Turns as turns
@@ -25,8 +26,8 @@ use Rattle.sound_runs.specs.Pasts.{ghosts, ghosts_after}
 use Rattle.sound_runs.proofs.MomentsKeep.{opening_all_sound}
 use Rattle.sound_runs.proofs.RunsKeep.{run_keeps, run_all_sound}
 use Rattle.tree_runs.proofs.Histories.{run-append}
-use Rattle.script_runs.specs.Standing.{op_of, busy_at, AtTurn}
-use Rattle.script_runs.specs.Smooth.{EndsAtOnce}
+use Rattle.world_runs.specs.Standing.{op_of, busy_at, AtTurn}
+use Rattle.world_runs.specs.Smooth.{EndsAtOnce}
 use Rattle.script_runs.specs.RunningOut.{RefusesAsFull}
 use Rattle.script_runs.specs.Laws.{EachScriptCanBeRunOut}
 use Rattle.script_runs.proofs.Moves.{changed_there}

@@ -17,8 +17,8 @@ use Rattle.sound_runs.specs.Known.{AllSound}
 use Rattle.sound_runs.specs.Pasts.{ghosts_after}
 use Rattle.sound_runs.proofs.RunsKeep.{run_keeps}
 use Rattle.tree_runs.proofs.Histories.{after_all-append, run-front, run-rest}
-use Rattle.script_runs.specs.Standing.{busy_at}
-use Rattle.script_runs.specs.Smooth.{EndIsNext, EndsAtOnce, StepsOn, AllStepOn, IsNoStep, NoneSteps}
+use Rattle.world_runs.specs.Standing.{busy_at}
+use Rattle.world_runs.specs.Smooth.{EndIsNext, EndsAtOnce, StepsOn, AllStepOn, IsNoStep, NoneSteps}
 use Rattle.script_runs.proofs.Moves.{changed, Keeps, end_moves}
 use Rattle.script_runs.proofs.Lines.{busy_is, IsDone, keeps_done, line_does, busy_after}
 use Rattle.script_runs.proofs.AtOnce.{at_once-rest}

@@ -12,14 +12,15 @@ use Rattle.store_rules.specs.declared.any.AnyReq.{AnyReq}
 use Rattle.store_rules.specs.declared.any.AnyReply.{AnyReply}
 use Rattle.store_rules.specs.Places.{request_place}
 use Rattle.store_rules.specs.Store.{store_reply}
-use Rattle.op_names.specs.declared.program.Phase.{Phase}
-use Rattle.op_names.specs.declared.program.Phase.TheVariants.{End}
-use Rattle.op_names.specs.declared.program.Program.{Program}
-use Rattle.op_names.specs.Programs.{root, object_number, own_hold, phase_ask, phase_hear, first_phase}
+use Rattle.program_rules.specs.declared.program.Phase.{Phase}
+use Rattle.program_rules.specs.declared.program.Phase.TheVariants.{End}
+use Rattle.program_rules.specs.declared.program.Program.{Program}
+use Rattle.program_rules.specs.Programs.{root, object_number, own_hold, phase_ask, phase_hear, first_phase}
 use Rattle.world_runs.specs.declared.event.Event.{Event}
 use Rattle.world_runs.specs.declared.event.Event.TheVariants.{Began, Refused, Acted, Ended, Stopped, Failed, Dumped}
 use Rattle.world_runs.specs.Served.{IsServed}
-use Rattle.world_runs.specs.Moments.{Actor, Moment, CanBegin, May, no_room, after, went_on, next_serial, running, asked, program_of, program_ask, opening, with_actor}
+use Rattle.program_rules.specs.Lacks.{no_room}
+use Rattle.world_runs.specs.Moments.{Actor, Moment, CanBegin, May, after, went_on, next_serial, running, asked, program_of, program_ask, opening, with_actor}
 use Rattle.store_world.specs.Worlds.{World, Ghost, next, ghost_next, opening_ghost}
 use Rattle.store_world.specs.Later.{actor_of, Later, Within, by_actor}
 use Rattle.store_world.specs.Requests.{Needs, Kept, touched_by}

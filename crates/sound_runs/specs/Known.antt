@@ -9,11 +9,11 @@ use Rattle.tect_ids.specs.declared.key.Key.{Key}
 use Rattle.tect_ids.specs.declared.answer.Answer.{Answer}
 use Rattle.tect_ids.specs.declared.answer.Answer.TheVariants as answers
 use Rattle.store_rules.specs.Names.{key_in}
-use Rattle.op_names.specs.declared.program.Phase.{Phase}
-use Rattle.op_names.specs.declared.program.Phase.TheVariants.{Walk, Bind, Grant, Swap, Release, End}
-use Rattle.op_names.specs.declared.program.Program.{Program}
-use Rattle.op_names.specs.Programs.{root, object_number, own_hold, new_path}
-use Rattle.op_names.specs.Paths.{last_name}
+use Rattle.program_rules.specs.declared.program.Phase.{Phase}
+use Rattle.program_rules.specs.declared.program.Phase.TheVariants.{Walk, Bind, Grant, Swap, Release, End}
+use Rattle.program_rules.specs.declared.program.Program.{Program}
+use Rattle.program_rules.specs.Programs.{root, object_number, own_hold, new_path}
+use Rattle.program_rules.specs.Paths.{last_name}
 use Rattle.world_runs.specs.Served.{IsServed}
 use Rattle.world_runs.specs.Moments.{Actor, Moment}
 use Rattle.store_world.specs.Worlds.{World, Ghost}

@@ -8,7 +8,7 @@ use Rattle.tect_ids.proofs.KeyTests.{num_eq_cases, op_eq_cases}
 use Rattle.store_rules.specs.declared.any.AnyReq.{AnyReq}
 use Rattle.store_rules.specs.declared.any.AnyReply.{AnyReply}
 use Rattle.store_rules.specs.Store.{store_reply}
-use Rattle.op_names.specs.declared.program.Program.{Program}
+use Rattle.program_rules.specs.declared.program.Program.{Program}
 use Rattle.world_runs.specs.declared.event.Event.TheVariants.{Acted}
 use Rattle.world_runs.specs.Moments.{Actor, Moment, IsWorldRun, after, running, answered, program_of, program_answer, went_on}
 use Rattle.sound_runs.proofs.RunsKeep.{running_goes_on, running_is_last_begun}

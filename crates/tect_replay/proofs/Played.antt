@@ -18,17 +18,17 @@ use Rattle.tect_ids.proofs.KeyTests.{num_eq_cases}
 use Rattle.world_runs.specs.declared.event.Event.{Event}
 use Rattle.world_runs.specs.declared.event.Event.TheVariants.{Began, Refused, Acted, Ended, Stopped, Failed, Dumped}
 use Rattle.world_runs.specs.Moments.{Actor, IsWorldRun, RunFrom, Moment, opening, after, asked, answered}
-use Rattle.noted_runs.specs.Limits.{KeepsLimits}
+use Rattle.world_runs.specs.Limits.{KeepsLimits}
 use Rattle.world_runs.specs.Follows.{Acts, IsBeginOf, IsEndOf, RunsToEnd}
 use Rattle.world_runs.specs.Report.{answer_line, report_after}
 use Rattle.sound_runs.proofs.RunsKeep.{running_is_last_begun}
 use Rattle.tree_runs.proofs.Histories.{run-rest}
-use Rattle.script_runs.specs.Standing.{busy_at, op_of}
-use Rattle.script_runs.specs.Smooth.{EndIsNext, EndsAtOnce}
+use Rattle.world_runs.specs.Standing.{busy_at, op_of}
+use Rattle.world_runs.specs.Smooth.{EndIsNext, EndsAtOnce}
 use Rattle.script_runs.proofs.AtOnce.{not_both}
 use Rattle.tect_world.specs.Life.{Life, present, grown, last_op, next_op}
 use Rattle.tect_world.specs.Steps.{EndsWith, HasBegun, RanToEnd}
-use Rattle.script_runs.specs.Playable.{IsShallow}
+use Rattle.world_runs.specs.Playable.{IsShallow}
 use Rattle.tect_replay.specs.Plays.{AllShallow, IsKeptRun, StepsUpTo, PlaysAct, PlaysLine}
 use Rattle.tect_replay.proofs.Results.{some_of}
 use Rattle.tect_replay.proofs.Shallow.{shallow-append}

@@ -10,12 +10,12 @@ use Rattle.world_runs.specs.declared.event.Event.{Event}
 use Rattle.world_runs.specs.declared.event.Event.TheVariants.{Began, Refused, Acted, Ended, Stopped, Failed, Dumped}
 use Rattle.world_runs.specs.Moments.{Moment, IsWorldRun, after_all, answered}
 use Rattle.world_runs.specs.Follows.{Acts}
-use Rattle.script_runs.specs.Smooth.{EndsAtOnce}
+use Rattle.world_runs.specs.Smooth.{EndsAtOnce}
 use Rattle.tect_world.specs.Life.{Life, present, grown, last_op, actor_asks, transaction, ending, step_answer}
 use Rattle.actors.specs.declared.turned.Turned.TheVariants.{Going, Done}
 use Rattle.actors.specs.Turns.{turned_by}
 use Rattle.tect_world.specs.Steps.{EndsWith, FailsWith, Stepped}
-use Rattle.noted_runs.specs.Limits.{KeepsLimits}
+use Rattle.world_runs.specs.Limits.{KeepsLimits}
 use Rattle.tect_replay.specs.Plays.{StepsUpTo}
 use Rattle.script_runs.proofs.AtOnce.{at_once-append}
 use Rattle.tect_replay.proofs.Going.{going_on}

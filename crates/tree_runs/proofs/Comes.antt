@@ -35,10 +35,10 @@ use Rattle.tree_model.specs.declared.step.Refusal.{Refusal}
 use Rattle.tree_model.specs.declared.step.TreeReply.{TreeReply}
 use Rattle.tree_model.specs.declared.step.TreeReply.TheVariants.{Ok, Refused}
 use Rattle.tree_model.specs.Tree.{Tree, tree_reply, tree_next}
-use Rattle.op_names.specs.declared.program.Phase.{Phase}
-use Rattle.op_names.specs.declared.program.Phase.TheVariants.{Walk, Bind, Release, End}
-use Rattle.op_names.specs.declared.program.Program.{Program}
-use Rattle.op_names.specs.Programs.{object_number, own_hold, phase_ask, phase_hear, phase_answer, release_ask, then_release, bound_heard, looked, refusal}
+use Rattle.program_rules.specs.declared.program.Phase.{Phase}
+use Rattle.program_rules.specs.declared.program.Phase.TheVariants.{Walk, Bind, Release, End}
+use Rattle.program_rules.specs.declared.program.Program.{Program}
+use Rattle.program_rules.specs.Programs.{object_number, own_hold, phase_ask, phase_hear, phase_answer, release_ask, then_release, bound_heard, looked, refusal}
 use Rattle.world_runs.specs.declared.event.Event.{Event}
 use Rattle.world_runs.specs.declared.event.Event.TheVariants.{Began, Refused as declined, Acted, Ended, Stopped, Failed, Dumped}
 use Rattle.world_runs.specs.Moments.{Moment, May, after, after_all, RunFrom, running, asked, answered, next_serial}

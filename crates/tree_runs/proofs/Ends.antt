@@ -25,10 +25,10 @@ use Rattle.store_rules.specs.Views.{is_made, as_parent, as_found, as_listing, as
 use Rattle.store_rules.specs.Names.{key_in}
 use Rattle.store_rules.specs.Store.{store_reply}
 use Rattle.tree_model.specs.Tree.{Tree}
-use Rattle.op_names.specs.declared.program.Phase.{Phase}
-use Rattle.op_names.specs.declared.program.Phase.TheVariants.{Walk, Bind, Grant, Swap, Release, End}
-use Rattle.op_names.specs.Paths.{last_name, but_last}
-use Rattle.op_names.specs.Programs.{object_number, own_hold, new_path, phase_ask, phase_hear, phase_answer, first_phase, from_root, grant_ask, refusal, walked, looked, look_heard, checked, entries_heard, unbound_heard, source_heard, then_release, bound_heard, swapped_heard}
+use Rattle.program_rules.specs.declared.program.Phase.{Phase}
+use Rattle.program_rules.specs.declared.program.Phase.TheVariants.{Walk, Bind, Grant, Swap, Release, End}
+use Rattle.program_rules.specs.Paths.{last_name, but_last}
+use Rattle.program_rules.specs.Programs.{object_number, own_hold, new_path, phase_ask, phase_hear, phase_answer, first_phase, from_root, grant_ask, refusal, walked, looked, look_heard, checked, entries_heard, unbound_heard, source_heard, then_release, bound_heard, swapped_heard}
 use Rattle.world_runs.specs.Served.{IsServed}
 use Rattle.world_runs.specs.declared.event.Event.{Event}
 use Rattle.world_runs.specs.declared.event.Event.TheVariants.{Acted, Ended}

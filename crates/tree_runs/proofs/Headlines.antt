@@ -14,15 +14,16 @@ use Rattle.store_rules.specs.declared.any.AnyReply.{AnyReply}
 use Rattle.store_rules.specs.Places.{request_place}
 use Rattle.store_rules.specs.Store.{store_reply}
 use Rattle.tree_model.specs.Tree.{Tree, opening_tree}
-use Rattle.op_names.specs.declared.program.Phase.{Phase}
-use Rattle.op_names.specs.declared.program.Phase.TheVariants.{Walk, Bind, Grant, Swap, Release, End}
-use Rattle.op_names.specs.declared.program.Program.{Program}
-use Rattle.op_names.specs.Paths.{but_last}
-use Rattle.op_names.specs.Programs.{root, way, object_number, phase_ask, phase_hear, phase_answer, first_phase, from_root}
+use Rattle.program_rules.specs.declared.program.Phase.{Phase}
+use Rattle.program_rules.specs.declared.program.Phase.TheVariants.{Walk, Bind, Grant, Swap, Release, End}
+use Rattle.program_rules.specs.declared.program.Program.{Program}
+use Rattle.program_rules.specs.Paths.{but_last}
+use Rattle.program_rules.specs.Programs.{root, way, object_number, phase_ask, phase_hear, phase_answer, first_phase, from_root}
 use Rattle.world_runs.specs.Served.{IsServed}
 use Rattle.world_runs.specs.declared.event.Event.{Event}
 use Rattle.world_runs.specs.declared.event.Event.TheVariants.{Began, Refused, Acted, Ended, Stopped, Failed, Dumped}
-use Rattle.world_runs.specs.Moments.{Actor, Moment, opening, May, CanBegin, no_room, after, after_all, RunFrom, IsWorldRun, asked, program_answer, program_of, heard, with_actor}
+use Rattle.program_rules.specs.Lacks.{no_room}
+use Rattle.world_runs.specs.Moments.{Actor, Moment, opening, May, CanBegin, after, after_all, RunFrom, IsWorldRun, asked, program_answer, program_of, heard, with_actor}
 use Rattle.world_runs.specs.TreeSteps.{Told, told_of, tree_steps, tree_step, says, tree_after, IsTreeRun}
 use Rattle.world_runs.specs.Points.{of_op, Walked, LacksName}
 use Rattle.world_runs.specs.Headline.{begun_by, or_later, command_of, refuses, was_refused, Explains, HadNoRoom, Headline}

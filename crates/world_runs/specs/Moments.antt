@@ -4,16 +4,16 @@ use Rattle.tect_ids.specs.declared.ids.Counts.{Counts}
 use Rattle.tect_ids.specs.declared.ids.OpId.{OpId}
 use Rattle.tect_ids.specs.declared.command.Command.{Command}
 use Rattle.tect_ids.specs.declared.answer.Answer.{Answer}
-use Rattle.tect_ids.specs.declared.answer.Answer.TheVariants as answers
 use Rattle.tect_ids.specs.Keys.{op_eq}
 use Rattle.store_rules.specs.declared.any.AnyReq.{AnyReq}
 use Rattle.store_rules.specs.declared.any.AnyReply.{AnyReply}
 use Rattle.store_rules.specs.Places.{request_place}
 use Rattle.store_rules.specs.Store.{Store, opening_store, store_reply, store_step}
 use Rattle.store_rules.specs.Views.{is_made}
-use Rattle.op_names.specs.declared.program.Phase.TheVariants.{End}
-use Rattle.op_names.specs.declared.program.Program.{Program}
-use Rattle.op_names.specs.Programs.{object_number, phase_ask, phase_hear, phase_answer, started}
+use Rattle.program_rules.specs.declared.program.Phase.TheVariants.{End}
+use Rattle.program_rules.specs.declared.program.Program.{Program}
+use Rattle.program_rules.specs.Lacks.{no_room, IsLack}
+use Rattle.program_rules.specs.Programs.{object_number, phase_ask, phase_hear, phase_answer, started}
 use Rattle.world_runs.specs.declared.event.Event.{Event}
 use Rattle.world_runs.specs.declared.event.Event.TheVariants.{Began, Refused, Acted, Ended, Stopped, Failed, Dumped}
 use Rattle.world_runs.specs.Served.{IsServed}
@@ -72,16 +72,6 @@ pub record CanBegin (a : Actor) (op : OpId) : Type 0 where
   pub next : op.number ≡ a.number + 1
   pub few : op.number < 2 ^ 31
   pub is_actor : (1 ≤ op.actor) × (op.actor ≤ 65)
-
--- the answer of an op whose actor had no room to note its begin: no place is numbered 256
-abbrev pub no_room : Answer
-no_room = answers.HistoryFull (record { 0 = 256 })
-
--- the answer of a command that ends for want of memory, or of room in its actor's own history
-abbrev pub IsLack : Answer → Type 0
-IsLack answers.NoMemory = Unit {0}
-IsLack (answers.HistoryFull p) = Unit {0}
-IsLack _ = ⊥
 
 -- What may happen at a moment. Memory may be wanting at any, and room in an actor's own history.
 abbrev pub May : Moment → Event → Type 0
