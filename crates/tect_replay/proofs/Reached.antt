@@ -18,7 +18,7 @@ use Rattle.world_runs.specs.declared.event.Event.{Event}
 use Rattle.world_runs.specs.declared.event.Event.TheVariants.{Began, Refused, Acted, Ended, Stopped, Failed, Dumped}
 use Rattle.world_runs.specs.Served.{IsServed}
 use Rattle.program_rules.specs.Lacks.{IsLack}
-use Rattle.world_runs.specs.Moments.{Moment, after, opening, moment, RunFrom, IsWorldRun}
+use Rattle.world_runs.specs.Moments.{WorldState, after, opening, moment, RunFrom, IsWorldRun}
 use Rattle.world_runs.specs.Follows.{Follows, FollowsFrom}
 use Rattle.world_runs.specs.Turns.{Turns, ClientTurn, Idle, Busy as IsBusy, Gone, TakesAct, turn_after, with_turn, all_idle, turns_after, InTurn, InTurnFrom}
 use Rattle.world_runs.specs.Report.{lines_at, report_after}
@@ -74,7 +74,7 @@ none_odd_after counts clients before (e ∷ es) run rest =
     let next : moment counts (before ++ e ∷ []) ≡ after (moment counts before) e = after_all-append (opening counts) before (e ∷ []) in
     all-append IsNotOdd (lines_at counts clients before e) (report_after counts clients (before ++ e ∷ []) es)
     (event_not_odd counts clients before e run first)
-    (none_odd_after counts clients (before ++ e ∷ []) es (run-append (opening counts) before (e ∷ []) run first) (subst (λ (m : Moment). RunFrom m es) (sym next) rest.1))
+    (none_odd_after counts clients (before ++ e ∷ []) es (run-append (opening counts) before (e ∷ []) run first) (subst (λ (m : WorldState). RunFrom m es) (sym next) rest.1))
 
 -- ---- what is claimed of a history
 

@@ -25,7 +25,7 @@ pub record Actor : Type 0 where
   pub stopped : Bool
   pub running : Option Program
 
-pub record Moment : Type 0 where
+pub record WorldState : Type 0 where
   pub counts : Counts
   pub store : Store
   pub actors : ℕ → Actor
@@ -34,11 +34,11 @@ abbrev pub idle_actor : Actor
 idle_actor = record { number = 0; serial = 1; stopped = false; running = None }
 
 -- before anything was done: the root alone, and idle actors
-abbrev pub opening : Counts → Moment
+abbrev pub opening : Counts → WorldState
 opening counts = record { counts = counts; store = opening_store; actors = λ a. idle_actor }
 
 -- the moment with that actor in this state
-abbrev pub with_actor : Moment → ℕ → Actor → Moment
+abbrev pub with_actor : WorldState → ℕ → Actor → WorldState
 with_actor m a state = record m { actors = λ b. if eqb b a then state else m.actors b }
 
 -- the program that runs as that op
@@ -46,7 +46,7 @@ abbrev pub program_of : Option Program → OpId → Option Program
 program_of None op = None
 program_of (Some p) op = if op_eq p.op op then Some p else None
 
-abbrev pub running : Moment → OpId → Option Program
+abbrev pub running : WorldState → OpId → Option Program
 running m op = program_of (m.actors op.actor).running op
 
 -- the request that the op makes next
@@ -54,7 +54,7 @@ abbrev pub program_ask : ℕ → Option Program → Option AnyReq
 program_ask serial None = None
 program_ask serial (Some p) = phase_ask p.op (object_number p.op.actor serial) p.command p.phase
 
-abbrev pub asked : Moment → OpId → Option AnyReq
+abbrev pub asked : WorldState → OpId → Option AnyReq
 asked m op = program_ask (m.actors op.actor).serial (running m op)
 
 -- the answer that the op has come to
@@ -62,7 +62,7 @@ abbrev pub program_answer : Option Program → Option Answer
 program_answer None = None
 program_answer (Some p) = phase_answer p.phase
 
-abbrev pub answered : Moment → OpId → Option Answer
+abbrev pub answered : WorldState → OpId → Option Answer
 answered m op = program_answer (running m op)
 
 -- the op is the actor's next, and the actor is idle
@@ -74,7 +74,7 @@ pub record CanBegin (a : Actor) (op : OpId) : Type 0 where
   pub is_actor : (1 ≤ op.actor) × (op.actor ≤ 65)
 
 -- What may happen at a moment. Memory may be wanting at any, and room in an actor's own history.
-abbrev pub May : Moment → Event → Type 0
+abbrev pub May : WorldState → Event → Type 0
 May m (Began op c) = CanBegin (m.actors op.actor) op × IsServed c
 May m (Refused op c) = CanBegin (m.actors op.actor) op × IsServed c
 May m (Acted op q x) = (asked m op ≡ Some q) × (x ≡ store_reply m.store q)
@@ -104,7 +104,7 @@ abbrev pub went_on : Counts → Actor → AnyReq → AnyReply → Actor
 went_on counts a q x = record a { serial = next_serial a.serial x; running = heard counts a.serial q x a.running }
 
 -- the moment after an event
-abbrev pub after : Moment → Event → Moment
+abbrev pub after : WorldState → Event → WorldState
 after m (Began op c) = with_actor m op.actor (begun (m.actors op.actor) op c)
 after m (Refused op c) = with_actor m op.actor (refused (m.actors op.actor) op c)
 after m (Acted op q x) = with_actor (record m { store = store_step m.store q }) op.actor (went_on m.counts (m.actors op.actor) q x)
@@ -113,12 +113,12 @@ after m (Stopped op) = with_actor m op.actor (record (m.actors op.actor) { runni
 after m (Failed op a) = with_actor m op.actor (record (m.actors op.actor) { running = None })
 after m Dumped = m
 
-abbrev pub after_all : Moment → List Event → Moment
+abbrev pub after_all : WorldState → List Event → WorldState
 after_all m [] = m
 after_all m (e ∷ es) = after_all (after m e) es
 
 -- each event may happen at the moment after those before it
-abbrev pub RunFrom : Moment → List Event → Type 0
+abbrev pub RunFrom : WorldState → List Event → Type 0
 RunFrom m [] = Unit {0}
 RunFrom m (e ∷ es) = May m e × RunFrom (after m e) es
 
@@ -127,9 +127,9 @@ abbrev pub IsWorldRun : Counts → List Event → Type 0
 IsWorldRun counts events = RunFrom (opening counts) events
 
 -- the moment after a history
-abbrev pub moment : Counts → List Event → Moment
+abbrev pub moment : Counts → List Event → WorldState
 moment counts events = after_all (opening counts) events
 
 -- so it is at each moment of a history, the first and the last among them
-abbrev pub AtEachMoment : (Moment → Type 0) → Counts → List Event → Type 0
+abbrev pub AtEachMoment : (WorldState → Type 0) → Counts → List Event → Type 0
 AtEachMoment P counts events = (n : ℕ) → P (moment counts (take n events))

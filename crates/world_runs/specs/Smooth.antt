@@ -9,7 +9,7 @@ use Rattle.tect_ids.specs.declared.script.Line.{Line}
 use Rattle.tect_ids.specs.declared.script.Line.TheVariants as lines
 use Rattle.world_runs.specs.declared.event.Event.{Event}
 use Rattle.world_runs.specs.declared.event.Event.TheVariants.{Acted}
-use Rattle.world_runs.specs.Moments.{Moment, opening, answered, after, IsWorldRun}
+use Rattle.world_runs.specs.Moments.{WorldState, opening, answered, after, IsWorldRun}
 use Rattle.world_runs.specs.Follows.{IsEndOf, NoneFails}
 
 -- the op's end comes first
@@ -19,12 +19,12 @@ EndIsNext op (e ∷ es) = IsEndOf op e
 
 -- Of an event, at the moment after it: where it was a transaction, and its op has come to its answer by it, the op's end is
 -- next.
-abbrev pub IsPrompt : Moment → Event → List Event → Type 0
+abbrev pub IsPrompt : WorldState → Event → List Event → Type 0
 IsPrompt m (Acted op q x) es = (a : Answer) → answered m op ≡ Some a → EndIsNext op es
 IsPrompt m _ es = Unit {0}
 
 -- so it is of each event, from that moment on
-abbrev pub EndsAtOnce : Moment → List Event → Type 0
+abbrev pub EndsAtOnce : WorldState → List Event → Type 0
 EndsAtOnce m [] = Unit {0}
 EndsAtOnce m (e ∷ es) = IsPrompt (after m e) e es × EndsAtOnce (after m e) es
 

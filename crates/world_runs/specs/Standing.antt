@@ -2,7 +2,7 @@
 use Rattle.std.specs.Prelude.{◌≡◌, false, Option, Some, None}
 use Rattle.tect_ids.specs.declared.ids.OpId.{OpId}
 use Rattle.program_rules.specs.declared.program.Program.{Program}
-use Rattle.world_runs.specs.Moments.{Actor, Moment}
+use Rattle.world_runs.specs.Moments.{Actor, WorldState}
 use Rattle.world_runs.specs.Follows.{Busy}
 use Rattle.world_runs.specs.Turns.{ClientTurn}
 use Rattle.world_runs.specs.Turns as turns
@@ -13,7 +13,7 @@ op_of None = None
 op_of (Some p) = Some p.op
 
 -- the ops that are busy at the moment, by actor
-abbrev pub busy_at : Moment → Busy
+abbrev pub busy_at : WorldState → Busy
 busy_at m actor = op_of (m.actors actor).running
 
 -- what its turn tells of an actor: whether it may go on, and whether its command has ended
