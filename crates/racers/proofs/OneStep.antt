@@ -24,8 +24,8 @@ use Rattle.world_runs.specs.declared.event.Event.TheVariants.{Ended, Acted}
 use Rattle.program_rules.specs.Lacks.{no_room}
 use Rattle.world_runs.specs.Moments.{Actor, program_ask, heard, went_on}
 use Rattle.world_runs.specs.Events.{end_event}
-use Rattle.run_bounds.specs.Bounds.{is_look}
-use Rattle.run_bounds.proofs.PhasesLeft.{looks_left, others_left, looks_asked, others_asked, one_if, Falls, phase_falls}
+use Rattle.run_claims.specs.Bounds.{is_look}
+use Rattle.run_claims.proofs.PhasesLeft.{looks_left, others_left, looks_asked, others_asked, one_if, Falls, phase_falls}
 use Rattle.actors.specs.declared.turned.Turned.TheVariants.{Going, Done}
 use Rattle.actors.specs.Turns.{turned_by}
 use Rattle.clients.specs.Lives.{ClientLife, state_in, op_in, IsLife}

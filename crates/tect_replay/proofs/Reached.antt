@@ -23,8 +23,9 @@ use Rattle.world_runs.specs.Follows.{Follows, FollowsFrom}
 use Rattle.world_runs.specs.Turns.{Turns, ClientTurn, Idle, Busy as IsBusy, Gone, TakesAct, turn_after, with_turn, all_idle, turns_after, InTurn, InTurnFrom}
 use Rattle.world_runs.specs.Report.{lines_at, report_after}
 use Rattle.sound_runs.proofs.RunsKeep.{no_run_answers_odd}
-use Rattle.tree_runs.proofs.Scripts.{session_reported}
-use Rattle.tree_runs.proofs.Histories.{after_all-append, run-append, report-append}
+use Rattle.session_runs.proofs.Scripts.{session_reported}
+use Rattle.world_runs.proofs.Histories.{run-append, report-append}
+use Rattle.world_runs.proofs.Actors.{after_all-append}
 use Rattle.run_claims.proofs.Claims.{every_run_is_claimed}
 use Rattle.world_runs.specs.Standing.{busy_at, AtTurn}
 use Rattle.world_runs.specs.Smooth.{EndsAtOnce, StepsOn, AllStepOn}
