@@ -7,7 +7,7 @@ ghost use Rattle.tect_calls.specs.Knowing.{IsActor};
 ghost use Rattle.world_runs.specs.Moments.{idle_actor, begun, refused, went_on, next_serial, program_ask, program_answer};
 ghost use Rattle.actors.specs.ActorState.{op_of, next_op_of};
 
-use name_calls::Running;
+use op_names::Running;
 use std::alloc::Global;
 use std::marker::Model;
 use store_rules::AnyReply;

@@ -9,17 +9,17 @@ use Rattle.tect_ids.specs.declared.answer.Answer.TheVariants as answers
 use Rattle.store_rules.specs.declared.any.AnyReq.{AnyReq}
 use Rattle.store_rules.specs.declared.any.AnyReply.{AnyReply}
 use Rattle.store_rules.specs.Places.{request_place}
-use Rattle.op_names.specs.declared.program.Program.{Program}
-use Rattle.op_names.specs.Programs.{object_number}
-use Rattle.place_kit.specs.declared.entry.Entry.{Entry}
-use Rattle.place_kit.specs.declared.entry.Refused.{Refused}
-use Rattle.place_kit.specs.declared.entry.Refused.TheVariants as refusals
+use Rattle.program_rules.specs.declared.program.Program.{Program}
+use Rattle.program_rules.specs.Programs.{object_number}
+use Rattle.entry_words.specs.declared.entry.Entry.{Entry}
+use Rattle.entry_words.specs.declared.entry.Refused.{Refused}
+use Rattle.entry_words.specs.declared.entry.Refused.TheVariants as refusals
 use Rattle.world_runs.specs.declared.event.Event.{Event}
 use Rattle.world_runs.specs.declared.event.Event.TheVariants.{Ended}
 use Rattle.world_runs.specs.Follows.{Acts, IsEndOf, EndsAfter}
 use Rattle.world_runs.specs.Moments.{Actor, idle_actor, program_ask, heard, went_on}
-use Rattle.noted_runs.specs.Events.{end_event}
-use Rattle.noted_runs.specs.OwnRuns.{own_state, own_after}
+use Rattle.world_runs.specs.Events.{end_event}
+use Rattle.world_runs.specs.OwnRuns.{own_state, own_after}
 use Rattle.noted_runs.proofs.Actors.{own_state-append}
 use Rattle.actors.specs.declared.turned.Turned.{Turned}
 use Rattle.actors.specs.declared.turned.Turned.TheVariants.{Going, Done}

@@ -1,4 +1,3 @@
-pub mod Phases
 pub mod Growing
 pub mod Weights
 pub mod Stages

@@ -6,14 +6,14 @@ use Rattle.tect_ids.specs.Places.{HasPlaces}
 use Rattle.tect_calls.specs.Knowing.{IsActor}
 use Rattle.tect_ids.specs.declared.ids.OpId.{OpId}
 use Rattle.place_kit.specs.declared.pass.Pass.{Pass}
-use Rattle.place_kit.specs.Moments.{running_in}
+use Rattle.entry_words.specs.Moments.{running_in}
 use Rattle.world_runs.specs.declared.event.Event.{Event}
 use Rattle.world_runs.specs.Moments.{Actor, idle_actor}
 use Rattle.world_runs.specs.Report.{transactions}
-use Rattle.noted_runs.specs.Events.{event_of, own}
-use Rattle.noted_runs.specs.Limits.{OwnLimits}
-use Rattle.noted_runs.specs.OwnRuns.{OwnRun, own_state}
-use Rattle.noted_runs.specs.Laws.{IsSilent}
+use Rattle.world_runs.specs.Events.{event_of, own}
+use Rattle.world_runs.specs.Limits.{OwnLimits}
+use Rattle.world_runs.specs.OwnRuns.{OwnRun, own_state}
+use Rattle.world_runs.specs.Woven.{IsSilent}
 use Rattle.actors.specs.ActorState.{op_of}
 use Rattle.clients.specs.declared.client.Client.TheInside.{Inside}
 use Rattle.clients.specs.Lives.{events_in, state_in, op_in, IsLife}

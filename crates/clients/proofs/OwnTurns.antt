@@ -8,20 +8,20 @@ use Rattle.tect_ids.specs.declared.answer.Answer.{Answer}
 use Rattle.store_rules.specs.declared.any.AnyReq.{AnyReq}
 use Rattle.store_rules.specs.declared.any.AnyReply.{AnyReply}
 use Rattle.store_rules.specs.Places.{request_place}
-use Rattle.place_kit.specs.declared.entry.Entry.{Entry}
-use Rattle.place_kit.specs.declared.entry.Moment.TheVariants.{Act, Local}
-use Rattle.place_kit.specs.declared.entry.Note.TheVariants as notes
-use Rattle.place_kit.specs.declared.entry.Refused.{Refused}
-use Rattle.place_kit.specs.declared.entry.Refused.TheVariants as refusals
+use Rattle.entry_words.specs.declared.entry.Entry.{Entry}
+use Rattle.entry_words.specs.declared.entry.Moment.TheVariants.{Act, Local}
+use Rattle.entry_words.specs.declared.entry.Note.TheVariants as notes
+use Rattle.entry_words.specs.declared.entry.Refused.{Refused}
+use Rattle.entry_words.specs.declared.entry.Refused.TheVariants as refusals
 use Rattle.place_kit.specs.declared.pass.Pass.{Pass}
 use Rattle.place_kit.specs.Commits as passes
-use Rattle.place_kit.specs.Moments.{trail_of}
+use Rattle.entry_words.specs.Moments.{trail_of}
 use Rattle.place_kit.proofs.Pushes.{steps_count-len}
 use Rattle.world_runs.specs.declared.event.Event.{Event}
 use Rattle.world_runs.specs.declared.event.Event.TheVariants.{Acted}
 use Rattle.world_runs.specs.Moments.{Actor, program_ask, idle_actor}
-use Rattle.noted_runs.specs.Events.{end_event}
-use Rattle.noted_runs.specs.OwnRuns.{own_state}
+use Rattle.world_runs.specs.Events.{end_event}
+use Rattle.world_runs.specs.OwnRuns.{own_state}
 use Rattle.actors.specs.ActorState.{ActorState, op_of}
 use Rattle.actors.specs.Turns.{turned_by}
 use Rattle.clients.specs.declared.turns.Turn.{Turn}

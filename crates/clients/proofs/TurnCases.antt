@@ -6,21 +6,21 @@ use Rattle.tect_ids.specs.declared.answer.Answer.{Answer}
 use Rattle.tect_ids.specs.declared.answer.Answer.TheVariants as answers
 use Rattle.store_rules.specs.declared.any.AnyReq.{AnyReq}
 use Rattle.store_rules.specs.declared.any.AnyReply.{AnyReply}
-use Rattle.op_names.specs.declared.program.Program.{Program}
-use Rattle.op_names.specs.Programs.{object_number}
-use Rattle.place_kit.specs.declared.entry.Entry.{Entry}
-use Rattle.place_kit.specs.declared.entry.Note.TheVariants.{Ended}
-use Rattle.place_kit.specs.declared.entry.Refused.{Refused}
+use Rattle.program_rules.specs.declared.program.Program.{Program}
+use Rattle.program_rules.specs.Programs.{object_number}
+use Rattle.entry_words.specs.declared.entry.Entry.{Entry}
+use Rattle.entry_words.specs.declared.entry.Note.TheVariants.{Ended}
+use Rattle.entry_words.specs.declared.entry.Refused.{Refused}
 use Rattle.place_kit.specs.declared.pass.Pass.{Pass}
 use Rattle.place_kit.specs.Commits.{IsFull}
 use Rattle.world_runs.specs.Moments.{program_ask, program_answer, went_on}
 use Rattle.actors.specs.ActorState.{ActorState, op_of}
 use Rattle.clients.specs.declared.turns.Turn.{Turn}
 use Rattle.clients.specs.Commits.{entry_at, Committed, NotedEnd}
-use Rattle.clients.specs.Phases.{RunsSmoothly}
+use Rattle.program_rules.specs.Asking.{RunsSmoothly}
 use Rattle.clients.specs.Steps.{Unasked, Did, Denied, EndsSo}
 use Rattle.clients.specs.Turns.{ended, Settles, SettlesSo, Tries, TookTurn}
-use Rattle.clients.proofs.Phases.{smooth_goes}
+use Rattle.program_rules.proofs.Phases.{smooth_goes}
 
 did_so : (a : ActorState) (q : AnyReq) (x : AnyReply) (answer : Option Answer) → SettlesSo a answer → EndsSo a.state (Did q x) answer
 did_so a q x None so = so

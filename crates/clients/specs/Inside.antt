@@ -9,10 +9,11 @@ use Rattle.place_kit.specs.Commits.{IsFullForBegin}
 use Rattle.world_runs.specs.declared.event.Event.{Event}
 use Rattle.world_runs.specs.Moments.{idle_actor}
 use Rattle.world_runs.specs.Report.{transactions}
-use Rattle.noted_runs.specs.Events.{own}
-use Rattle.noted_runs.specs.OwnRuns.{OwnRun}
-use Rattle.noted_runs.specs.Limits.{OwnLimits}
-use Rattle.noted_runs.specs.Laws.{IsPlaced, IsSilent}
+use Rattle.world_runs.specs.Events.{own}
+use Rattle.world_runs.specs.OwnRuns.{OwnRun}
+use Rattle.world_runs.specs.Limits.{OwnLimits}
+use Rattle.world_runs.specs.Events.{IsPlaced}
+use Rattle.world_runs.specs.Woven.{IsSilent}
 use Rattle.actors.specs.ActorState.{op_of}
 use Rattle.clients.specs.declared.client.Client.TheInside.{Inside}
 use Rattle.clients.specs.Lives.{ClientLife, events_in, state_in, op_in}

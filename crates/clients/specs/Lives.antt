@@ -6,17 +6,18 @@ use Rattle.tect_ids.specs.declared.ids.OpId.{OpId}
 use Rattle.tect_ids.specs.declared.command.Command.{Command}
 use Rattle.tect_ids.specs.Places.{HasPlaces}
 use Rattle.tect_calls.specs.Knowing.{IsActor}
-use Rattle.place_kit.specs.declared.entry.Moment.{Moment}
-use Rattle.place_kit.specs.declared.entry.Moment.TheVariants.{Local}
-use Rattle.place_kit.specs.declared.entry.Note.TheVariants as notes
-use Rattle.place_kit.specs.Moments.{rises, all_of_actor, all_notes_of, running_in}
+use Rattle.entry_words.specs.declared.entry.Moment.{Moment}
+use Rattle.entry_words.specs.declared.entry.Moment.TheVariants.{Local}
+use Rattle.entry_words.specs.declared.entry.Note.TheVariants as notes
+use Rattle.entry_words.specs.Moments.{rises, all_of_actor, all_notes_of, running_in}
 use Rattle.world_runs.specs.declared.event.Event.{Event}
 use Rattle.world_runs.specs.declared.event.Event.TheVariants.{Refused, Stopped}
 use Rattle.world_runs.specs.Moments.{Actor, idle_actor}
-use Rattle.noted_runs.specs.Events.{events_of, own}
-use Rattle.noted_runs.specs.OwnRuns.{OwnRun, own_state}
-use Rattle.noted_runs.specs.Limits.{IsFullForBegin, OwnLimits}
-use Rattle.noted_runs.specs.Laws.{IsPlaced, IsSilent}
+use Rattle.world_runs.specs.Events.{events_of, own}
+use Rattle.world_runs.specs.OwnRuns.{OwnRun, own_state}
+use Rattle.world_runs.specs.Limits.{IsFullForBegin, OwnLimits}
+use Rattle.world_runs.specs.Events.{IsPlaced}
+use Rattle.world_runs.specs.Woven.{IsSilent}
 use Rattle.clients.specs.Phases.{RunsIn}
 
 pub record ClientLife : Type 0 where

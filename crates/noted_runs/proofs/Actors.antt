@@ -6,11 +6,11 @@ use Rattle.tect_ids.proofs.KeyTests.{num_eq_cases}
 use Rattle.world_runs.specs.declared.event.Event.{Event}
 use Rattle.world_runs.specs.declared.event.Event.TheVariants.{Began, Refused, Acted, Ended, Stopped, Failed, Dumped}
 use Rattle.store_rules.specs.Store.{Store, store_step}
-use Rattle.world_runs.specs.Moments.{Actor, Moment, May, opening, after, after_all, moment}
+use Rattle.world_runs.specs.Moments.{Actor, WorldState, May, opening, after, after_all, moment}
 use Rattle.world_runs.specs.Races.{is_own}
-use Rattle.noted_runs.specs.Events.{own}
-use Rattle.noted_runs.specs.Limits.{actor_in}
-use Rattle.noted_runs.specs.OwnRuns.{OwnMay, OwnRun, own_after, own_state, RepliesAre, stored_after}
+use Rattle.world_runs.specs.Events.{own}
+use Rattle.world_runs.specs.Limits.{actor_in}
+use Rattle.world_runs.specs.OwnRuns.{OwnMay, OwnRun, own_after, own_state, RepliesAre, stored_after}
 
 pub same_number : (a : ℕ) → eqb a a ≡ true
 same_number a = grind (arith, num_eq_cases)
@@ -62,7 +62,7 @@ picked actors next a b =
       | false ↦ λ h. let e : eqb b a ≡ false = flipped b a ∙ h in rw e refl
     ] refl
 
-pub after_actors : (m : Moment) (e : Event) (a : ℕ) → (after m e).actors a ≡ (if is_own a e then own_after m.counts (m.actors a) e else m.actors a)
+pub after_actors : (m : WorldState) (e : Event) (a : ℕ) → (after m e).actors a ≡ (if is_own a e then own_after m.counts (m.actors a) e else m.actors a)
 after_actors m (Began op c) a = picked m.actors (λ s. own_after m.counts s (Began op c)) a op.actor
 after_actors m (Refused op c) a = picked m.actors (λ s. own_after m.counts s (Refused op c)) a op.actor
 after_actors m (Acted op q x) a = picked m.actors (λ s. own_after m.counts s (Acted op q x)) a op.actor
@@ -71,7 +71,7 @@ after_actors m (Stopped op) a = picked m.actors (λ s. own_after m.counts s (Sto
 after_actors m (Failed op x) a = picked m.actors (λ s. own_after m.counts s (Failed op x)) a op.actor
 after_actors m Dumped a = refl
 
-pub after_counts : (m : Moment) (e : Event) → (after m e).counts ≡ m.counts
+pub after_counts : (m : WorldState) (e : Event) → (after m e).counts ≡ m.counts
 after_counts m (Began op c) = refl
 after_counts m (Refused op c) = refl
 after_counts m (Acted op q x) = refl
@@ -80,7 +80,7 @@ after_counts m (Stopped op) = refl
 after_counts m (Failed op x) = refl
 after_counts m Dumped = refl
 
-pub after_store : (m : Moment) (e : Event) → (after m e).store ≡ stored_after m.store (e ∷ [])
+pub after_store : (m : WorldState) (e : Event) → (after m e).store ≡ stored_after m.store (e ∷ [])
 after_store m (Began op c) = refl
 after_store m (Refused op c) = refl
 after_store m (Acted op q x) = refl
@@ -90,7 +90,7 @@ after_store m (Failed op x) = refl
 after_store m Dumped = refl
 
 -- what may happen is what its actor may do, with the store's reply
-pub may_from : (m : Moment) (e : Event) → OwnMay (m.actors (actor_in e)) e → RepliesAre m.store (e ∷ []) → May m e
+pub may_from : (m : WorldState) (e : Event) → OwnMay (m.actors (actor_in e)) e → RepliesAre m.store (e ∷ []) → May m e
 may_from m (Began op c) h r = h
 may_from m (Refused op c) h r = h
 may_from m (Acted op q x) h r = (h, r.0)
@@ -99,7 +99,7 @@ may_from m (Stopped op) h r = h
 may_from m (Failed op x) h r = h
 may_from m Dumped h r = tt
 
-pub own_from : (m : Moment) (e : Event) → May m e → OwnMay (m.actors (actor_in e)) e × RepliesAre m.store (e ∷ [])
+pub own_from : (m : WorldState) (e : Event) → May m e → OwnMay (m.actors (actor_in e)) e × RepliesAre m.store (e ∷ [])
 own_from m (Began op c) h = (h, tt)
 own_from m (Refused op c) h = (h, tt)
 own_from m (Acted op q x) h = (h.0, (h.1, tt))
@@ -110,7 +110,7 @@ own_from m Dumped h = (tt, tt)
 
 -- ---- one list of events after another
 
-pub after_all-append : (m : Moment) (es fs : List Event) → after_all m (es ++ fs) ≡ after_all (after_all m es) fs
+pub after_all-append : (m : WorldState) (es fs : List Event) → after_all m (es ++ fs) ≡ after_all (after_all m es) fs
 after_all-append m [] fs = refl
 after_all-append m (e ∷ es) fs = after_all-append (after m e) es fs
 

@@ -7,14 +7,14 @@ use Rattle.tect_ids.specs.declared.ids.Counts.{Counts}
 use Rattle.tect_ids.specs.declared.ids.OpId.{OpId}
 use Rattle.tect_ids.specs.declared.answer.Answer.{Answer}
 use Rattle.tect_ids.specs.declared.answer.Answer.TheVariants as answers
-use Rattle.place_kit.specs.ReplyBytes.{reply_bytes}
+use Rattle.store_rules.specs.ReplyBytes.{reply_bytes}
 use Rattle.world_runs.specs.declared.event.Event.{Event}
 use Rattle.world_runs.specs.declared.event.Event.TheVariants.{Began, Refused, Acted, Ended, Stopped, Failed, Dumped}
-use Rattle.world_runs.specs.Moments.{Actor, Moment, opening, moment}
+use Rattle.world_runs.specs.Moments.{Actor, WorldState, opening, moment}
 use Rattle.world_runs.specs.Races.{is_own}
-use Rattle.noted_runs.specs.Events.{own}
-use Rattle.noted_runs.specs.Limits.{event_cost, event_bytes, used, kept_bytes, EndsFull, KeepsRoom, KeepsLimitsAfter, OwnLimits, actor_in}
-use Rattle.noted_runs.specs.OwnRuns.{own_after, own_state}
+use Rattle.world_runs.specs.Events.{own}
+use Rattle.world_runs.specs.Limits.{event_cost, event_bytes, used, kept_bytes, EndsFull, KeepsRoom, KeepsLimitsAfter, OwnLimits, actor_in}
+use Rattle.world_runs.specs.OwnRuns.{own_after, own_state}
 use Rattle.noted_runs.specs.Laws.{OwnLimitsMakeLimits}
 use Rattle.noted_runs.proofs.Actors.{own_of_actor, after_actors, moment-append, own-append}
 use Rattle.noted_runs.proofs.Owns.{counts_stay}
@@ -117,9 +117,9 @@ rest_limits counts before s e es false l = subst (λ (fs : List Event). OwnLimit
 pub state_more : (counts : Counts) (before : List Event) (e : Event) (a : ℕ)
     → (moment counts (before ++ e ∷ [])).actors a ≡ (if is_own a e then own_after counts ((moment counts before).actors a) e else (moment counts before).actors a)
 state_more counts before e a =
-    let m : Moment = moment counts before in
+    let m : WorldState = moment counts before in
     let same : m.counts ≡ counts = counts_stay (opening counts) before in
-    ap (λ (n : Moment). n.actors a) (moment-append counts before (e ∷ [])) ∙ after_actors m e a ∙ ap (λ (c : Counts). if is_own a e then own_after c (m.actors a) e else m.actors a) same
+    ap (λ (n : WorldState). n.actors a) (moment-append counts before (e ∷ [])) ∙ after_actors m e a ∙ ap (λ (c : Counts). if is_own a e then own_after c (m.actors a) e else m.actors a) same
 
 rest_keep : (counts : Counts) (before : List Event) (e : Event) (es : List Event) → AreOwnLimits counts before (e ∷ es) → AreOwnLimits counts (before ++ e ∷ []) es
 rest_keep counts before e es limits a =

@@ -21,24 +21,26 @@ use Rattle.store_shards.specs.Shards.{AreWhole, Parts, opening_parts, parts_step
 use Rattle.store_shards.proofs.Parts.{opening_whole, request_shard, same_reply, step_whole}
 use Rattle.place_kit.specs.declared.any.AnyKept.{AnyKept}
 use Rattle.place_kit.specs.declared.any.AnyKept.TheVariants as kepts
-use Rattle.place_kit.specs.declared.entry.Entry.{Entry}
-use Rattle.place_kit.specs.declared.entry.Label.{Label}
-use Rattle.place_kit.specs.declared.entry.Moment.{Moment}
-use Rattle.place_kit.specs.declared.entry.Moment.TheVariants.{Act, Local}
-use Rattle.place_kit.specs.declared.entry.Note.{Note}
-use Rattle.place_kit.specs.declared.entry.Note.TheVariants as notes
+use Rattle.entry_words.specs.declared.entry.Entry.{Entry}
+use Rattle.entry_words.specs.declared.entry.Label.{Label}
+use Rattle.entry_words.specs.declared.entry.Moment.{Moment}
+use Rattle.entry_words.specs.declared.entry.Moment.TheVariants.{Act, Local}
+use Rattle.entry_words.specs.declared.entry.Note.{Note}
+use Rattle.entry_words.specs.declared.entry.Note.TheVariants as notes
 use Rattle.place_kit.specs.Kept.{history_of, label_of, place_of}
 use Rattle.place_kit.specs.Machines.{name_after, name_replies, name_opening, file_after, file_replies}
-use Rattle.place_kit.specs.Moments.{is_at}
+use Rattle.entry_words.specs.Moments.{is_at}
 use Rattle.place_kit.specs.Replay.{IsLegal}
-use Rattle.place_kit.specs.Started.{AreStarted, has_names, started_label}
+use Rattle.entry_words.specs.Labels.{label_at}
+use Rattle.place_kit.specs.Started.{AreStarted, has_names}
 use Rattle.tect_ids.specs.declared.answer.Answer.{Answer}
 use Rattle.tect_ids.specs.declared.answer.Answer.TheVariants as answers
 use Rattle.tect_ids.specs.declared.ids.OpId.{OpId}
 use Rattle.world_runs.specs.declared.event.Event.{Event}
-use Rattle.noted_runs.specs.Events.{end_event, event_of, events_of}
-use Rattle.noted_runs.specs.Laws.{IsPlaced, PlacesReply}
-use Rattle.noted_runs.specs.OwnRuns.{RepliesAre}
+use Rattle.world_runs.specs.Events.{end_event, event_of, events_of}
+use Rattle.world_runs.specs.Events.{IsPlaced}
+use Rattle.noted_runs.specs.Laws.{PlacesReply}
+use Rattle.world_runs.specs.OwnRuns.{RepliesAre}
 use Rattle.noted_runs.proofs.Actors.{flipped, one_number, other_number, same_number}
 
 -- ---- what a shard does, as a store in which nothing else stands
@@ -106,7 +108,7 @@ module _ (c : Counts) (has : HasPlaces c) (n : ℕ) where
       let names : no_names ≡ (if eqb n (place_number c layers.Names 1) then root_names else no_names) = sym (ap (λ b. if b then root_names else no_names) (other_number n (place_number c layers.Names 1) there)) in
       λ i. record { names = names i; files = opened i }
 
-  kept_replies : (k : AnyKept) → label_of k ≡ started_label c n → has_names k ≡ nat_lt n c.names → AreAt c n (map Act (history_of k))
+  kept_replies : (k : AnyKept) → label_of k ≡ label_at c n → has_names k ≡ nat_lt n c.names → AreAt c n (map Act (history_of k))
       → RepliesAre (opening_parts c the_place) (events_of (map Act (history_of k)))
   kept_replies (kepts.Name k) label names at =
       let low : n < c.names = ltb-true n c.names (sym names) in
@@ -179,7 +181,7 @@ place_replies c ks ms has started histories placed p low =
     let there : p.0 < length ks = omega (arith, started.number) in
     let item : (k : AnyKept) × (slice_get ks p.0 ≡ Some k) = item_at ks p.0 there in
     let k : AnyKept = item.0 in
-    let label : label_of k ≡ started_label c p.0 = started.labels p.0 k item.1 in
+    let label : label_of k ≡ label_at c p.0 = started.labels p.0 k item.1 in
     let at_k : filter (is_at (place_of k)) ms ≡ map Act (history_of k) =
     subst (λ (x : AnyKept). filter (is_at (place_of x)) ms ≡ map Act (history_of x)) (get_or_from_slice_get ks p.0 k k item.1) (histories p.0 k there) in
     let at_p : filter (is_at p.0) ms ≡ map Act (history_of k) = subst (λ (l : Label). filter (is_at l.place.0) ms ≡ map Act (history_of k)) label at_k in

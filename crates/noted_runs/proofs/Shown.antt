@@ -14,19 +14,21 @@ use Rattle.tect_ids.specs.Keys.{op_eq}
 use Rattle.tect_ids.proofs.KeyTests.{op_eq_cases}
 use Rattle.store_rules.specs.Dumps.{store_dump}
 use Rattle.store_rules.specs.Store.{Store, opening_store}
-use Rattle.place_kit.specs.declared.entry.Moment.{Moment}
-use Rattle.place_kit.specs.declared.entry.Moment.TheVariants.{Act, Local}
-use Rattle.place_kit.specs.declared.entry.Note.TheVariants as notes
+use Rattle.entry_words.specs.declared.entry.Moment.{Moment}
+use Rattle.entry_words.specs.declared.entry.Moment.TheVariants.{Act, Local}
+use Rattle.entry_words.specs.declared.entry.Note.TheVariants as notes
 use Rattle.world_runs.specs.declared.event.Event.{Event}
 use Rattle.world_runs.specs.declared.event.Event.TheVariants.{Began, Refused, Acted, Ended, Stopped, Failed, Dumped}
-use Rattle.world_runs.specs.Moments.{Moment as Instant, moment}
+use Rattle.world_runs.specs.Moments.{WorldState, moment}
 use Rattle.world_runs.specs.Races.{concerns, is_own, own_lines, lines_from, part_lines, race_report_after}
 use Rattle.world_runs.specs.Report.{answer_line, client_name, is_act_of, lines_at, transactions}
-use Rattle.noted_runs.specs.Events.{end_event, event_of, events_of, own}
-use Rattle.noted_runs.specs.Laws.{IsOwnNote, IsSilent, WovenReports}
-use Rattle.noted_runs.specs.OwnRuns.{stored_after}
-use Rattle.noted_runs.specs.Reports.{by_client, own_part, part_report, parts_report}
-use Rattle.noted_runs.specs.Woven.{Cut, is_early, is_late, woven}
+use Rattle.world_runs.specs.Events.{end_event, event_of, events_of, own}
+use Rattle.world_runs.specs.Events.{IsOwnNote}
+use Rattle.world_runs.specs.Woven.{IsSilent}
+use Rattle.noted_runs.specs.Laws.{WovenReports}
+use Rattle.world_runs.specs.OwnRuns.{stored_after}
+use Rattle.world_runs.specs.PartReports.{by_client, own_part, part_report, parts_report}
+use Rattle.world_runs.specs.Woven.{Cut, is_early, is_late, woven}
 use Rattle.noted_runs.proofs.Actors.{one_number, own-append, moment-append, same_number, stored_after-append}
 use Rattle.noted_runs.proofs.Limits.{own_sum}
 use Rattle.noted_runs.proofs.Owns.{store_is_after}
@@ -202,7 +204,7 @@ module _ (counts : Counts) (clients : List (List ℕ)) where
       → (moment counts (history ++ (events_of ms ++ silent))).store ≡ stored_after store (events_of ms)
   part_store history store ms silent at quiet =
       let part : List Event = events_of ms ++ silent in
-      ap (λ (m : Instant). m.store) (moment-append counts history part) ∙ store_is_after (moment counts history) part ∙ ap (λ s. stored_after s part) at
+      ap (λ (m : WorldState). m.store) (moment-append counts history part) ∙ store_is_after (moment counts history) part ∙ ap (λ s. stored_after s part) at
       ∙ stored_after-append store (events_of ms) silent ∙ (silent_replies (stored_after store (events_of ms)) silent quiet).1
 
   own_more : (history : List Event) (before : List Event) (a : ℕ) (ms : List Moment) (silent : List Event) → own a history ≡ before → AllByRecursion IsOwnNote ms → AllByRecursion IsSilent silent
@@ -227,7 +229,7 @@ module _ (counts : Counts) (clients : List (List ℕ)) where
       let own_early : AllByRecursion IsOwnNote early = keeps IsOwnNote (is_early c.stamp) ms are in
       let store_then : (moment counts (history ++ part)).store ≡ stored_after store (events_of early) = part_store history store early c.silent at quiet.0.0 in
       let store_behind : (moment counts behind).store ≡ stored_after store (events_of early) =
-      ap (λ (m : Instant). m.store) (moment-append counts (history ++ part) (Dumped ∷ [])) ∙ store_then in
+      ap (λ (m : WorldState). m.store) (moment-append counts (history ++ part) (Dumped ∷ [])) ∙ store_then in
       let rest : race_report_after counts clients behind [] (woven cs last late)
       ≡ parts_report counts clients (λ actor. before actor ++ own_part actor early c.silent) (stored_after store (events_of early)) cs last late =
       reports_by cs last late behind (λ actor. before actor ++ own_part actor early c.silent) (stored_after store (events_of early))

@@ -1,6 +1,6 @@
-ghost use Rattle.std.specs.Prelude.{◌≡◌, IfOk, OnErr, Some, None, is_some};
-ghost use Rattle.op_names.specs.Paths.{last_name};
-ghost use Rattle.op_names.specs.Programs.{refusal, dir_refusal, looked, look_heard, entries_heard, made_heard, unbound_heard, source_heard, first_hear, then_release, bound_heard, swapped_heard, phase_hear, hear_at, own_hold};
+ghost use Rattle.std.specs.Prelude.{◌≡◌, IfOk, OnOk, OnErr, Some, None, is_some};
+ghost use Rattle.program_rules.specs.Paths.{last_name};
+ghost use Rattle.program_rules.specs.Programs.{refusal, dir_refusal, looked, look_heard, entries_heard, made_heard, unbound_heard, source_heard, first_hear, then_release, bound_heard, swapped_heard, phase_hear, hear_at, own_hold};
 ghost use Rattle.op_names.specs.Walking.{walk_end, walk_heard};
 ghost use Rattle.tect_ids.specs.Keys.{name_eq};
 ghost use Rattle.store_rules.specs.Names.{key_in};
@@ -8,8 +8,8 @@ ghost use Rattle.store_rules.specs.Views.{as_found, as_bound, as_unbound, as_swa
 
 use crate::ask::hold_of;
 use crate::paths::{key_at, last_key, without_first};
-use crate::program::Phase;
 use crate::refusals::{dir_refusal_of, refusal_of};
+use program_rules::{Phase, Program};
 use std::alloc::Global;
 use std::mem;
 use store_rules::{AnyReply, NameReply, Replaced};
@@ -279,7 +279,7 @@ fn walk_ends(
 
 /// The phase after the reply to the request of a phase. For want of memory the phase stays as it was; else it is used
 /// up.
-pub fn next_phase(
+fn next_phase(
     alloc: Global,
     place: Place,
     op: OpId,
@@ -340,4 +340,29 @@ fn walk_heard_of(
             _ => walk_ends(alloc, place, dir, name, reply),
         },
     }
+}
+
+/// The program goes on at the reply to its request, which was made at that place. For want of memory it stays as it was.
+pub fn hear(
+    program: &mut Program,
+    alloc: Global,
+    place: Place,
+    number: u64,
+    reply: &AnyReply,
+) -> Result<(), NoMemory>
+    ensures ok { OnOk result (program.new ≡ record program.old {
+      phase = phase_hear place program.old.op number program.old.command program.old.phase reply.now;
+    }) }
+    ensures err { OnErr result (program.new ≡ program.old) }
+{
+    program.phase = next_phase(
+        alloc,
+        place,
+        program.op,
+        number,
+        &program.command,
+        &mut program.phase,
+        reply,
+    )?;
+    Ok(())
 }

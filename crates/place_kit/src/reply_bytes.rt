@@ -1,6 +1,6 @@
 ghost use Rattle.std.specs.Prelude.{◌≡◌, ◌<◌, ◌^◌};
 ghost use Rattle.std.specs.List.{sum_by};
-ghost use Rattle.place_kit.specs.ReplyBytes.{reply_bytes, item_bytes};
+ghost use Rattle.store_rules.specs.ReplyBytes.{reply_bytes, item_bytes};
 
 use store_rules::NameReply;
 use tect_calls::AnyReply;

@@ -7,17 +7,18 @@ use Rattle.tect_ids.specs.declared.ids.Counts.{Counts}
 use Rattle.tect_ids.specs.declared.ids.OpId.{OpId}
 use Rattle.tect_ids.specs.declared.script.Line.{Line}
 use Rattle.tect_ids.specs.declared.script.ReportLine.{ReportLine}
-use Rattle.place_kit.specs.declared.entry.Moment.{Moment}
-use Rattle.place_kit.specs.declared.entry.Moment.TheVariants.{Act, Local}
-use Rattle.place_kit.specs.declared.entry.Note.TheVariants as notes
-use Rattle.place_kit.specs.Moments.{all_notes_of, all_of_actor}
+use Rattle.entry_words.specs.declared.entry.Moment.{Moment}
+use Rattle.entry_words.specs.declared.entry.Moment.TheVariants.{Act, Local}
+use Rattle.entry_words.specs.declared.entry.Note.TheVariants as notes
+use Rattle.entry_words.specs.Moments.{all_notes_of, all_of_actor}
 use Rattle.world_runs.specs.declared.event.Event.{Event}
 use Rattle.world_runs.specs.Moments.{idle_actor}
 use Rattle.world_runs.specs.Races.{line_concerns}
-use Rattle.noted_runs.specs.ClientLines.{DoesLines}
-use Rattle.noted_runs.specs.Laws.{IsOwnNote, IsPlaced, IsSilent}
-use Rattle.noted_runs.specs.Limits.{OwnLimits}
-use Rattle.noted_runs.specs.OwnRuns.{OwnRun}
+use Rattle.world_runs.specs.ClientLines.{DoesLines}
+use Rattle.world_runs.specs.Events.{IsOwnNote, IsPlaced}
+use Rattle.world_runs.specs.Woven.{IsSilent}
+use Rattle.world_runs.specs.Limits.{OwnLimits}
+use Rattle.world_runs.specs.OwnRuns.{OwnRun}
 use Rattle.merge_runs.proofs.Order.{both}
 use Rattle.race_runs.specs.Gathered.{answers_last, answers_now, part_of, rest_of}
 use Rattle.race_runs.specs.Stories.{Part, Story, IsStory, Timely, Answers, AllSilent, all_events, all_moments, with_dumps}

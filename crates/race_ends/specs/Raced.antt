@@ -4,13 +4,13 @@ use Rattle.std.specs.List.{Contains, flat_map}
 use Rattle.tect_ids.specs.declared.script.Plan.{Plan}
 use Rattle.tect_ids.specs.declared.script.ReportLine.{ReportLine}
 use Rattle.place_kit.specs.declared.any.AnyKept.{AnyKept}
-use Rattle.place_kit.specs.declared.entry.Moment.{Moment}
+use Rattle.entry_words.specs.declared.entry.Moment.{Moment}
 use Rattle.place_kit.specs.declared.pass.Pass.{Pass}
 use Rattle.place_kit.specs.Started.{AreStarted}
 use Rattle.world_runs.specs.declared.event.Event.{Event}
 use Rattle.world_runs.specs.Races.{FollowsByClient, race_report}
-use Rattle.noted_runs.specs.Laws.{AreSilent}
-use Rattle.noted_runs.specs.Woven.{Cut, woven}
+use Rattle.world_runs.specs.Woven.{AreSilent}
+use Rattle.world_runs.specs.Woven.{Cut, woven}
 use Rattle.run_claims.specs.Claims.{IsHistory}
 use Rattle.merge_runs.specs.Merged.{HaveDifferentActors, IsInOrder, RestrictsToTrails, RestrictsToHistories, moments_of}
 

@@ -2,13 +2,11 @@ ghost use Rattle.std.specs.Prelude.{IfOk};
 ghost use Rattle.std.specs.List.{AllZip};
 ghost use Rattle.race_ends.specs.Passes.{IsPassOf};
 
+use entry_words::CLOCK_LIMIT;
 use place_kit::Pass;
 use racers::Racer;
 use std::alloc::Global;
 use tect_ids::NoMemory;
-
-// The first clock at which a pass takes nothing more.
-const CLOCK_LIMIT: u64 = 1 << 63;
 
 /// The clients' passes, in their order. Where a clock has come to its limit there is no memory.
 pub(crate) fn take_passes(alloc: Global, racers: Vec<Racer>) -> Result<Vec<Pass>, NoMemory>

@@ -9,20 +9,21 @@ use Rattle.tect_ids.specs.declared.answer.Answer.{Answer}
 use Rattle.store_rules.specs.declared.any.AnyReq.{AnyReq}
 use Rattle.store_rules.specs.declared.any.AnyReply.{AnyReply}
 use Rattle.store_rules.specs.Places.{request_place}
-use Rattle.op_names.specs.declared.program.Phase.{Phase}
-use Rattle.op_names.specs.declared.program.Phase.TheVariants.{End}
-use Rattle.op_names.specs.declared.program.Program.{Program}
-use Rattle.op_names.specs.Programs.{object_number, phase_ask, phase_hear}
-use Rattle.place_kit.specs.declared.entry.Entry.{Entry}
-use Rattle.place_kit.specs.declared.entry.Moment.{Moment}
-use Rattle.place_kit.specs.declared.entry.Moment.TheVariants.{Act, Local}
-use Rattle.place_kit.specs.declared.entry.Note.TheVariants as notes
-use Rattle.place_kit.specs.declared.entry.Refused.{Refused}
-use Rattle.place_kit.specs.Moments.{rises, running_in}
+use Rattle.program_rules.specs.declared.program.Phase.{Phase}
+use Rattle.program_rules.specs.declared.program.Phase.TheVariants.{End}
+use Rattle.program_rules.specs.declared.program.Program.{Program}
+use Rattle.program_rules.specs.Programs.{object_number, phase_ask, phase_hear}
+use Rattle.entry_words.specs.declared.entry.Entry.{Entry}
+use Rattle.entry_words.specs.declared.entry.Moment.{Moment}
+use Rattle.entry_words.specs.declared.entry.Moment.TheVariants.{Act, Local}
+use Rattle.entry_words.specs.declared.entry.Note.TheVariants as notes
+use Rattle.entry_words.specs.declared.entry.Refused.{Refused}
+use Rattle.entry_words.specs.Moments.{rises, running_in}
 use Rattle.world_runs.specs.declared.event.Event.{Event}
 use Rattle.world_runs.specs.declared.event.Event.TheVariants.{Ended, Acted}
-use Rattle.world_runs.specs.Moments.{Actor, no_room, program_ask, heard, went_on}
-use Rattle.noted_runs.specs.Events.{end_event}
+use Rattle.program_rules.specs.Lacks.{no_room}
+use Rattle.world_runs.specs.Moments.{Actor, program_ask, heard, went_on}
+use Rattle.world_runs.specs.Events.{end_event}
 use Rattle.run_bounds.specs.Bounds.{is_look}
 use Rattle.run_bounds.proofs.PhasesLeft.{looks_left, others_left, looks_asked, others_asked, one_if, Falls, phase_falls}
 use Rattle.actors.specs.declared.turned.Turned.TheVariants.{Going, Done}

@@ -3,7 +3,7 @@ ghost use Rattle.tect_edge.specs.Counts.{Rose};
 ghost use Rattle.tect_app.specs.Modes.{SpellsNone, SpellsRace};
 ghost use Rattle.tect_app.specs.Headline.{InMode, IsReadWithin, IsReported, IsUsage, IsRefused, IsReadFault, IsCut, IsCutOff, IsStarved, IsSplitEnd};
 ghost use Rattle.tect_app.specs.Statuses.{IsReportStatus};
-ghost use Rattle.script_runs.specs.Playable.{IsPlayable};
+ghost use Rattle.world_runs.specs.Playable.{IsPlayable};
 ghost use Rattle.tect_replay.specs.Replays.{IsReplayed, IsCutReplay};
 
 use crate::input::{InputFault, read_plan};

@@ -1,13 +1,10 @@
-ghost use Rattle.std.specs.Prelude.{◌≡◌, IfOk, IsTrue};
-ghost use Rattle.tect_calls.specs.Machines.{is_of_layer};
+ghost use Rattle.std.specs.Prelude.{◌≡◌, IfOk};
 
 use crate::{
-    AnyMachine, AnyReply, AnyReq, Asked, Fact, Granted, Made, Memory, Spent, file_grant,
-    file_make_file, file_release, learn, name_bind, name_check_dir, name_grant, name_list,
-    name_look, name_make_dir, name_release, name_swap, name_unbind, place,
+    AnyReply, AnyReq, Asked, Fact, Granted, Made, Memory, Spent, file_grant, file_make_file,
+    file_release, learn, name_bind, name_check_dir, name_grant, name_list, name_look,
+    name_make_dir, name_release, name_swap, name_unbind, place,
 };
-use file_shard::FileShard;
-use name_shard::NameShard;
 use std::alloc::Global;
 use std::process::Abort;
 use std::test::Fail;
@@ -197,49 +194,6 @@ fn a_request_goes_to_the_shard_of_its_object(rt: HostRuntime) -> Result<(), Fail
     });
     assert!(rt; place(&release, &COUNTS) == Place(4));
     Ok(())
-}
-
-fn is_told(
-    rt: &impl Abort,
-    alloc: Global,
-    machine: &mut AnyMachine,
-    req: &AnyReq,
-    text: &str,
-) -> Result<(), Fail>
-    requires { IsTrue (is_of_layer machine.old req.now) }
-{
-    let reply = machine.step(req)?;
-    let reply = format!(in alloc; "{reply:?}")?;
-    assert_eq!(rt; reply.as_str(), text);
-    Ok(())
-}
-
-#[test]
-fn a_name_shard_answers_its_requests(rt: HostRuntime) -> Result<(), Fail> {
-    let alloc = rt.alloc();
-    let mut names = AnyMachine::Name(NameShard::new(alloc, true)?);
-    let look = AnyReq::Name(NameReq::Look { key: key(alloc)? });
-    is_told(&rt, alloc, &mut names, &look, "Name(NoName)")?;
-    assert_eq!(rt; names.dump()?.len(), 1);
-    Ok(())
-}
-
-#[test]
-fn a_file_shard_answers_its_requests(rt: HostRuntime) -> Result<(), Fail> {
-    let alloc = rt.alloc();
-    let mut files = AnyMachine::File(FileShard::new(alloc));
-    assert_eq!(rt; files.dump()?.len(), 0);
-    let release = AnyReq::File(FileReq::Release {
-        file: NOTES,
-        hold: HOLD,
-    });
-    is_told(
-        &rt,
-        alloc,
-        &mut files,
-        &release,
-        "File(Released { was: false })",
-    )
 }
 
 #[test]

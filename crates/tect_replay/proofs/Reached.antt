@@ -17,7 +17,8 @@ use Rattle.store_rules.specs.Dumps.{store_dump}
 use Rattle.world_runs.specs.declared.event.Event.{Event}
 use Rattle.world_runs.specs.declared.event.Event.TheVariants.{Began, Refused, Acted, Ended, Stopped, Failed, Dumped}
 use Rattle.world_runs.specs.Served.{IsServed}
-use Rattle.world_runs.specs.Moments.{Moment, after, opening, moment, RunFrom, IsWorldRun, IsLack}
+use Rattle.program_rules.specs.Lacks.{IsLack}
+use Rattle.world_runs.specs.Moments.{WorldState, after, opening, moment, RunFrom, IsWorldRun}
 use Rattle.world_runs.specs.Follows.{Follows, FollowsFrom}
 use Rattle.world_runs.specs.Turns.{Turns, ClientTurn, Idle, Busy as IsBusy, Gone, TakesAct, turn_after, with_turn, all_idle, turns_after, InTurn, InTurnFrom}
 use Rattle.world_runs.specs.Report.{lines_at, report_after}
@@ -25,19 +26,19 @@ use Rattle.sound_runs.proofs.RunsKeep.{no_run_answers_odd}
 use Rattle.tree_runs.proofs.Scripts.{session_reported}
 use Rattle.tree_runs.proofs.Histories.{after_all-append, run-append, report-append}
 use Rattle.run_claims.proofs.Claims.{every_run_is_claimed}
-use Rattle.script_runs.specs.Standing.{busy_at, AtTurn}
-use Rattle.script_runs.specs.Smooth.{EndsAtOnce, StepsOn, AllStepOn}
+use Rattle.world_runs.specs.Standing.{busy_at, AtTurn}
+use Rattle.world_runs.specs.Smooth.{EndsAtOnce, StepsOn, AllStepOn}
 use Rattle.script_runs.proofs.AtOnce.{at_once-append}
 use Rattle.script_runs.proofs.FollowOn.{run_follows_on, stands_by_turn}
 use Rattle.script_runs.specs.RunningOut.{RefusesAsFull}
 use Rattle.script_runs.proofs.RunOut.{each_script_can_be_run_out}
-use Rattle.noted_runs.specs.Limits.{KeepsLimits, KeepsLimitsAfter, EndsFull, used}
+use Rattle.world_runs.specs.Limits.{KeepsLimits, KeepsLimitsAfter, EndsFull, used}
 use Rattle.std.specs.Prelude.{nat_le}
 use Rattle.std.proofs.lemmas.Bool.Decides.{nat_tests}
 use Rattle.script_runs.proofs.Fixed.{script_fixes_run}
 use Rattle.tect_world.specs.Life.{Life, present}
 use Rattle.tect_replay.specs.Output.{lines_text, end_text, plan_report, AppendsPrefix}
-use Rattle.script_runs.specs.Playable.{IsWithin, IsPlayable}
+use Rattle.world_runs.specs.Playable.{IsWithin, IsPlayable}
 use Rattle.tect_replay.specs.Replays.{IsNotOdd, IsHistoryOf, IsCutReplay}
 use Rattle.tect_replay.specs.Plays.{AllShallow, CanStart, CanDo, CanPlay, PlaysLine}
 use Rattle.tect_replay.proofs.Shallow.{shallow-append}
@@ -73,7 +74,7 @@ none_odd_after counts clients before (e ∷ es) run rest =
     let next : moment counts (before ++ e ∷ []) ≡ after (moment counts before) e = after_all-append (opening counts) before (e ∷ []) in
     all-append IsNotOdd (lines_at counts clients before e) (report_after counts clients (before ++ e ∷ []) es)
     (event_not_odd counts clients before e run first)
-    (none_odd_after counts clients (before ++ e ∷ []) es (run-append (opening counts) before (e ∷ []) run first) (subst (λ (m : Moment). RunFrom m es) (sym next) rest.1))
+    (none_odd_after counts clients (before ++ e ∷ []) es (run-append (opening counts) before (e ∷ []) run first) (subst (λ (m : WorldState). RunFrom m es) (sym next) rest.1))
 
 -- ---- what is claimed of a history
 

@@ -15,7 +15,7 @@ use Rattle.world_runs.specs.Moments.{opening}
 use Rattle.world_runs.specs.Follows.{Follows, NoneFails}
 use Rattle.tree_runs.specs.Session.{IsPlayed, session_lines, session_script}
 use Rattle.run_claims.specs.Claims.{IsHistory}
-use Rattle.script_runs.specs.Smooth.{EndsAtOnce, IsSmoothRun}
+use Rattle.world_runs.specs.Smooth.{EndsAtOnce, IsSmoothRun}
 use Rattle.tect_replay.specs.Output.{plan_report, output_text}
 
 -- the line does not say that a reply was odd

@@ -1,7 +1,7 @@
 ghost use Rattle.std.specs.Prelude.{◌≡◌, ℕ, ◌+◌, ◌^◌, ◌<◌, ◌≤◌, [], ◌∷◌, ◌++◌, List, OnOk, OnErr, IfOk, IsSome, IsNone, IsTrue, is_some, false};
 ghost use Rattle.tect_ids.specs.Places.{HasPlaces};
 ghost use Rattle.store_rules.specs.Dumps.{store_dump};
-ghost use Rattle.noted_runs.specs.Limits.{KeepsLimits};
+ghost use Rattle.world_runs.specs.Limits.{KeepsLimits};
 ghost use Rattle.world_runs.specs.declared.event.Event.TheVariants as events;
 ghost use Rattle.world_runs.specs.Moments.{IsWorldRun};
 ghost use Rattle.world_runs.specs.Report.{transactions};

@@ -23,8 +23,8 @@ use Rattle.tree_model.specs.declared.step.Refusal.TheVariants as refusal
 use Rattle.tree_model.specs.declared.step.TreeReply.{TreeReply}
 use Rattle.tree_model.specs.declared.step.TreeReply.TheVariants.{Ok, Refused}
 use Rattle.tree_model.specs.Tree.{tree_reply, opening_tree}
-use Rattle.op_names.specs.Paths.{last_name}
-use Rattle.op_names.specs.Programs.{root, way}
+use Rattle.program_rules.specs.Paths.{last_name}
+use Rattle.program_rules.specs.Programs.{root, way}
 use Rattle.world_runs.specs.TreeSteps.{Told, tree_after}
 
 -- the steps of one op

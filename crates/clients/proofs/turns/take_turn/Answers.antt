@@ -1,5 +1,5 @@
 use Rattle.std.proofs.Common.{◌∙◌, sym, ap, subst, refl}
-use Rattle.place_kit.specs.declared.entry.Note.TheVariants.{Ended}
+use Rattle.entry_words.specs.declared.entry.Note.TheVariants.{Ended}
 use Rattle.tect_ids.specs.declared.answer.Answer.TheVariants as answers
 use Rattle.actors.specs.ActorState.{ActorState, op_of}
 use Rattle.clients.specs.Commits.{NotedEnd}

@@ -1,6 +1,6 @@
 use Rattle.std.proofs.Common.{◌≡◌, ◌≤◌, ◌*◌, take}
 use Rattle.std.specs.List.{sum_by}
-use Rattle.place_kit.specs.ReplyBytes.{item_bytes}
+use Rattle.store_rules.specs.ReplyBytes.{item_bytes}
 use Rattle.place_kit.proofs.reply_bytes.list_bytes.Given as goal
 
 abbrev pub invariant-loop-item : goal.invariant-loop-item
