@@ -35,10 +35,13 @@ def show_rows(below):
     rows = {}
     for name in sorted(below, key=lambda name: len(below[name])):
         rows[name] = 1 + max([rows[low] for low in below[name]], default=0)
-    for number in range(max(rows.values()), 0, -1):
-        names = sorted(name for name in below if rows[name] == number)
-        code, laws = [[name for name in names if (name in used) == wanted] for wanted in (True, False)]
-        print(f"{number:2}  {'  '.join(code):51}{'  '.join(laws)}".rstrip())
+    code, laws = [
+        {row: "  ".join(sorted(name for name in below if rows[name] == row and (name in used) == wanted)) for row in rows.values()}
+        for wanted in (True, False)
+    ]
+    width = max(map(len, code.values())) + 2
+    for row in sorted(code, reverse=True):
+        print(f"{row:2}  {code[row]:{width}}{laws[row]}".rstrip())
 
 
 def show_chains(below):
