@@ -17,7 +17,7 @@ use Rattle.world_runs.specs.Follows.{Acts, IsEndOf, EndsAfter}
 use Rattle.world_runs.specs.Moments.{Actor, idle_actor, went_on}
 use Rattle.world_runs.specs.Events.{end_event}
 use Rattle.world_runs.specs.OwnRuns.{own_state, own_after}
-use Rattle.noted_runs.proofs.Actors.{own_state-append}
+use Rattle.world_runs.proofs.Actors.{own_state-append}
 use Rattle.clients.specs.declared.turned.Turned.{Turned}
 use Rattle.clients.specs.declared.turned.Turned.TheVariants.{Going, Done}
 use Rattle.clients.specs.Turns.{turned_by}

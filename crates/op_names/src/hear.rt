@@ -18,6 +18,7 @@ use tect_ids::{
 };
 
 /// What a request came to: the reply, the place where it was made, and the number that an object made by it has.
+#[derive(Drop)]
 pub struct Heard<'a> {
     pub reply: &'a AnyReply,
     pub place: Place,
