@@ -13,7 +13,7 @@ ghost use Rattle.tect_world.specs.Told.{IsGathered};
 use crate::acting::{begin_client, idle_clients, step_client, stop_client};
 use crate::history::{WorldHistory, gather_all, take_passes};
 use crate::marks::{Mark, is_short, push_mark};
-use actors::Turned;
+use clients::Turned;
 use clients::Client;
 use kept_shards::KeptShards;
 use std::alloc::Global;

@@ -1,4 +1,4 @@
--- the turn of an actor with its pass, as a step of its client's life
+-- the step of an actor with its pass, as a step of its client's life
 use Rattle.std.proofs.Common.{◌≡◌, ℕ, ◌+◌, inl, inr, Option, Some, None, IsSome, List, [], ◌∷◌, ◌++◌, length, refl, sym, ap, ◌∙◌, subst, arith, append_assoc}
 use Rattle.std.specs.Prelude.{Result, Ok}
 use Rattle.std.proofs.lemmas.List.{append-nil}
@@ -22,13 +22,13 @@ use Rattle.world_runs.specs.declared.event.Event.TheVariants.{Acted}
 use Rattle.world_runs.specs.Moments.{Actor, program_ask, idle_actor}
 use Rattle.world_runs.specs.Events.{end_event}
 use Rattle.world_runs.specs.OwnRuns.{own_state}
-use Rattle.actors.specs.ActorState.{ActorState, op_of}
-use Rattle.actors.specs.Turns.{turned_by}
-use Rattle.clients.specs.declared.turns.Turn.{Turn}
+use Rattle.clients.specs.ActorState.{ActorState, op_of}
+use Rattle.clients.specs.Turns.{turned_by}
+use Rattle.clients.specs.declared.steps.Step.{Step}
 use Rattle.clients.specs.Commits.{entry_at}
 use Rattle.clients.specs.Lives.{ClientLife, events_in, state_in, op_in}
 use Rattle.clients.specs.Steps.{Tried, Unasked, Did, Denied, Asks, DidThere, state_after, EndsSo, entry_in, tried_life, ended_life, tried_events, end_events, is_later, OwnStep, WentAstray}
-use Rattle.clients.specs.Turns.{Finishes, Tries, act_count, after_try, TookTurn, LostTurn}
+use Rattle.clients.specs.PassSteps.{Finishes, Tries, act_count, after_try, TookStep, LostStep}
 use Rattle.clients.proofs.Stages.{own_events, Stage, pushed_events, runs_op, heard_some, acted_pushed, acted_stage, Because, ended_pushed, ended_stage}
 
 -- its life, where no op was refused
@@ -113,7 +113,7 @@ module _ (counts : Counts) (a : ActorState) (p : Pass) (t : ℕ) (stage : Stage 
         pushed_events counts a b p r t t (Local (p.clock + 1) p.actor (notes.Ended (op_of a) x)) (end_event (op_of a) x) stage
         (ended_pushed counts a p t stage runs b r x done.0 done.1 (why x refl))
 
--- ---- the turn
+-- ---- the step
 
 later_of : (counts : Counts) (p r : Pass) (tried : Tried) → Tries counts p r tried → is_later p.clock r.clock tried
 later_of counts p r Unasked tries = tt
@@ -139,43 +139,43 @@ number_stays counts a (Denied q e) = refl
 
 module _ {W : Type 0} (done : W → W → ℕ → AnyReq → Result Entry Refused → Type 0) (counts : Counts) (w v : W) (a b : ActorState) (p r : Pass) (t : ℕ)
     (stage : Stage counts a p t) (runs : IsSome a.state.running) where
-  module _ (turn : Turn) (took : TookTurn done counts w v a b p r turn) where
+  module _ (step : Step) (took : TookStep done counts w v a b p r step) where
     middle_stage : Stage counts (after_try counts a took.tried) took.middle (t + act_count took.tried)
     middle_stage = tried_stage counts a p t stage runs took.middle took.tried took.asks took.tries
 
     middle_runs : IsSome (after_try counts a took.tried).state.running
     middle_runs = after_runs counts a p t stage runs took.tried
 
-    why : (x : Answer) → turn.answer ≡ Some x → Because counts (after_try counts a took.tried) took.middle (t + act_count took.tried) middle_stage middle_runs x
+    why : (x : Answer) → step.answer ≡ Some x → Because counts (after_try counts a took.tried) took.middle (t + act_count took.tried) middle_stage middle_runs x
     why x is =
         because counts a p took.middle t (t + act_count took.tried) took.tried middle_stage middle_runs took.asks took.tries x
         (subst (EndsSo (state_after counts a.state took.tried) took.tried) is took.ends)
 
-    pub turn_stage : Stage counts b r (t + turn.transactions)
-    turn_stage =
+    pub step_stage : Stage counts b r (t + step.transactions)
+    step_stage =
         let last : Stage counts b r (t + act_count took.tried) =
-        finished_stage counts (after_try counts a took.tried) took.middle (t + act_count took.tried) middle_stage middle_runs b r turn.answer took.finishes why in
+        finished_stage counts (after_try counts a took.tried) took.middle (t + act_count took.tried) middle_stage middle_runs b r step.answer took.finishes why in
         rw took.acted last
 
-    turn_life : life_at counts b r ≡ ended_life (tried_life (life_at counts a p) took.middle.clock took.tried) (op_in (life_at counts a p)) turn.answer
-    turn_life =
+    step_life : life_at counts b r ≡ ended_life (tried_life (life_at counts a p) took.middle.clock took.tried) (op_in (life_at counts a p)) step.answer
+    step_life =
         let op : op_of (after_try counts a took.tried) ≡ op_in (life_at counts a p) = number_stays counts a took.tried ∙ sym (op_at counts a p t stage) in
-        finished_life counts (after_try counts a took.tried) took.middle (t + act_count took.tried) middle_stage middle_runs b r turn.answer took.finishes
-        ∙ ap (λ (o : OpId). ended_life (life_at counts (after_try counts a took.tried) took.middle) o turn.answer) op
-        ∙ ap (λ (l : ClientLife). ended_life l (op_in (life_at counts a p)) turn.answer) (tried_life_is counts a p t stage runs took.middle took.tried took.tries)
+        finished_life counts (after_try counts a took.tried) took.middle (t + act_count took.tried) middle_stage middle_runs b r step.answer took.finishes
+        ∙ ap (λ (o : OpId). ended_life (life_at counts (after_try counts a took.tried) took.middle) o step.answer) op
+        ∙ ap (λ (l : ClientLife). ended_life l (op_in (life_at counts a p)) step.answer) (tried_life_is counts a p t stage runs took.middle took.tried took.tries)
 
-    turn_own : own_events r ≡ own_events p ++ (tried_events (op_of a) took.tried ++ end_events [] (op_of a) turn.answer)
-    turn_own =
-        finished_own counts (after_try counts a took.tried) took.middle (t + act_count took.tried) middle_stage middle_runs b r turn.answer took.finishes why
-        ∙ ap (λ (es : List Event). es ++ end_events [] (op_of (after_try counts a took.tried)) turn.answer) (tried_own counts a p t stage runs took.middle took.tried took.asks took.tries)
-        ∙ ap (λ (o : OpId). (own_events p ++ tried_events (op_of a) took.tried) ++ end_events [] o turn.answer) (number_stays counts a took.tried)
-        ∙ append_assoc (own_events p) (tried_events (op_of a) took.tried) (end_events [] (op_of a) turn.answer)
+    step_own : own_events r ≡ own_events p ++ (tried_events (op_of a) took.tried ++ end_events [] (op_of a) step.answer)
+    step_own =
+        finished_own counts (after_try counts a took.tried) took.middle (t + act_count took.tried) middle_stage middle_runs b r step.answer took.finishes why
+        ∙ ap (λ (es : List Event). es ++ end_events [] (op_of (after_try counts a took.tried)) step.answer) (tried_own counts a p t stage runs took.middle took.tried took.asks took.tries)
+        ∙ ap (λ (o : OpId). (own_events p ++ tried_events (op_of a) took.tried) ++ end_events [] o step.answer) (number_stays counts a took.tried)
+        ∙ append_assoc (own_events p) (tried_events (op_of a) took.tried) (end_events [] (op_of a) step.answer)
 
-    turn_events : events_in (life_at counts b r) ≡ events_in (life_at counts a p) ++ (tried_events (op_in (life_at counts a p)) took.tried ++ end_events [] (op_in (life_at counts a p)) turn.answer)
-    turn_events =
-        append-nil (own_events r) ∙ turn_own
-        ∙ ap (λ (o : OpId). own_events p ++ (tried_events o took.tried ++ end_events [] o turn.answer)) (sym (op_at counts a p t stage))
-        ∙ ap (λ (es : List Event). es ++ (tried_events (op_in (life_at counts a p)) took.tried ++ end_events [] (op_in (life_at counts a p)) turn.answer)) (sym (append-nil (own_events p)))
+    step_events : events_in (life_at counts b r) ≡ events_in (life_at counts a p) ++ (tried_events (op_in (life_at counts a p)) took.tried ++ end_events [] (op_in (life_at counts a p)) step.answer)
+    step_events =
+        append-nil (own_events r) ∙ step_own
+        ∙ ap (λ (o : OpId). own_events p ++ (tried_events o took.tried ++ end_events [] o step.answer)) (sym (op_at counts a p t stage))
+        ∙ ap (λ (es : List Event). es ++ (tried_events (op_in (life_at counts a p)) took.tried ++ end_events [] (op_in (life_at counts a p)) step.answer)) (sym (append-nil (own_events p)))
 
     there_at : (tried : Tried) → DidThere done w v p.clock (entry_at counts took.middle.clock p) tried
         → DidThere done w v p.clock (entry_in (life_at counts a p) took.middle.clock) tried
@@ -183,21 +183,21 @@ module _ {W : Type 0} (done : W → W → ℕ → AnyReq → Result Entry Refuse
     there_at (Did q x) there = subst (λ (e : Entry). done w v p.clock q (Ok e)) (entry_at_is counts a p t stage runs took.middle.clock q x) there
     there_at (Denied q e) there = there
 
-    pub turn_step : OwnStep done w v (life_at counts a p) (life_at counts b r) (turned_by turn.answer)
-    turn_step = record {
+    pub own_step : OwnStep done w v (life_at counts a p) (life_at counts b r) (turned_by step.answer)
+    own_step = record {
       tried = took.tried;
       stamp = took.middle.clock;
-      answer = turn.answer;
+      answer = step.answer;
       asks = subst (λ (s : Actor). Asks s took.tried) (state_at counts a p t stage) took.asks;
       there = there_at took.tried took.there;
       later = later_of counts p took.middle took.tried took.tries;
-      life = turn_life;
-      events = turn_events;
-      ends = subst (λ (s : Actor). EndsSo (state_after counts s took.tried) took.tried turn.answer) (state_at counts a p t stage) took.ends;
+      life = step_life;
+      events = step_events;
+      ends = subst (λ (s : Actor). EndsSo (state_after counts s took.tried) took.tried step.answer) (state_at counts a p t stage) took.ends;
       told = refl;
     }
 
-  pub lost_step : (e : Refused) → LostTurn done w v a b p r e → WentAstray done w v (life_at counts a p) (life_at counts b r) e
+  pub lost_step : (e : Refused) → LostStep done w v a b p r e → WentAstray done w v (life_at counts a p) (life_at counts b r) e
   lost_step e lost = record {
     req = lost.req;
     asks = subst (λ (s : Actor). program_ask s.serial s.running ≡ Some lost.req) (state_at counts a p t stage) lost.asks;

@@ -5,7 +5,7 @@ ghost use Rattle.store_rules.specs.declared.any.AnyReq.{AnyReq};
 ghost use Rattle.store_rules.specs.Places.{request_place};
 ghost use Rattle.tect_calls.specs.Knowing.{IsActor};
 ghost use Rattle.world_runs.specs.Moments.{idle_actor, begun, refused, went_on, next_serial, program_ask, program_answer};
-ghost use Rattle.actors.specs.ActorState.{op_of, next_op_of};
+ghost use Rattle.clients.specs.ActorState.{op_of, next_op_of};
 
 use op_names::Running;
 use std::alloc::Global;
@@ -26,11 +26,11 @@ pub struct Actor {
 }
 
 impl Model for Actor {
-    ghost use Rattle.actors.specs.ActorState.{ActorState};
+    ghost use Rattle.clients.specs.ActorState.{ActorState};
 
     ghost Value = { ActorState };
 
-    ghost use Rattle.actors.specs.Inside.{state_of, RunsOwn};
+    ghost use Rattle.clients.specs.ActorInside.{state_of, RunsOwn};
 
     ghost view = { state_of };
 

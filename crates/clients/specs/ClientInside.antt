@@ -14,7 +14,7 @@ use Rattle.world_runs.specs.OwnRuns.{OwnRun}
 use Rattle.world_runs.specs.Limits.{OwnLimits}
 use Rattle.world_runs.specs.Events.{IsPlaced}
 use Rattle.world_runs.specs.Woven.{IsSilent}
-use Rattle.actors.specs.ActorState.{op_of}
+use Rattle.clients.specs.ActorState.{op_of}
 use Rattle.clients.specs.declared.client.Client.TheInside.{Inside}
 use Rattle.clients.specs.Lives.{ClientLife, events_in, state_in, op_in}
 use Rattle.clients.specs.Phases.{RunsIn}

@@ -6,22 +6,22 @@ ghost use Rattle.store_rules.specs.Places.{request_place};
 ghost use Rattle.entry_words.specs.declared.entry.Note.TheVariants as notes;
 ghost use Rattle.entry_words.specs.declared.entry.Refused.TheVariants as refusals;
 ghost use Rattle.world_runs.specs.Moments.{went_on, program_ask, program_answer};
-ghost use Rattle.actors.specs.ActorState.{op_of};
+ghost use Rattle.clients.specs.ActorState.{op_of};
 ghost use Rattle.clients.specs.Commits.{NotedEnd};
 ghost use Rattle.program_rules.specs.Asking.{RunsSmoothly};
-ghost use Rattle.clients.specs.Turns.{ended, Settles, TookTurn, LostTurn};
+ghost use Rattle.clients.specs.PassSteps.{ended, Settles, TookStep, LostStep};
 
+use crate::actor::Actor;
 use crate::commits::{Astray, Commits};
-use actors::Actor;
 use entry_words::{Note, Refused};
 use place_kit::Pass;
 use store_rules::AnyReply;
 use tect_calls::{Asked, place};
 use tect_ids::{Answer, Counts, NoMemory, Place};
 
-/// What a turn comes to: how many transactions were done, none or one, and the answer with which the command ended, if it did.
+/// What a step comes to: how many transactions were done, none or one, and the answer with which the command ended, if it did.
 #[derive(Drop)]
-pub struct Turn {
+pub struct Step {
     pub transactions: u64,
     pub answer: Option<Answer>,
 }
@@ -98,21 +98,21 @@ fn transact<C: Commits>(
     pass: &mut Pass,
     at: &mut C,
     asked: Asked,
-) -> Result<Turn, Astray>
+) -> Result<Step, Astray>
     requires places { HasPlaces counts.now }
     requires same { C.counts at.old ≡ counts.now }
     requires asked { program_ask actor.old.state.serial actor.old.state.running ≡ Some asked }
     requires running { pass.old.running ≡ Some (op_of actor.old) }
     requires few { actor.old.state.serial + 1 < 2 ^ 32 }
     ensures counts { C.counts at.new ≡ C.counts at.old }
-    ensures one { IfOk result (λ turn. turn.transactions ≤ 1) }
-    ensures turn { MatchResult result
-        (λ turn. TookTurn C.done counts.now at.old at.new actor.old actor.new pass.old pass.new turn)
-        (λ e. LostTurn C.done at.old at.new actor.old actor.new pass.old pass.new (refusals.Astray e.want e.found)) }
+    ensures one { IfOk result (λ step. step.transactions ≤ 1) }
+    ensures step { MatchResult result
+        (λ step. TookStep C.done counts.now at.old at.new actor.old actor.new pass.old pass.new step)
+        (λ e. LostStep C.done at.old at.new actor.old actor.new pass.old pass.new (refusals.Astray e.want e.found)) }
 {
     let place = place(asked.request(), counts);
     match at.commit(pass, asked) {
-        Ok(reply) => Ok(Turn {
+        Ok(reply) => Ok(Step {
             transactions: 1,
             answer: hear(actor, pass, place, &reply),
         }),
@@ -126,26 +126,26 @@ fn transact<C: Commits>(
 }
 
 /// The command ends with that answer, with no transaction.
-fn fail(actor: &mut Actor, pass: &mut Pass, answer: Answer, told: Answer) -> Turn
+fn fail(actor: &mut Actor, pass: &mut Pass, answer: Answer, told: Answer) -> Step
     requires { pass.old.running ≡ Some (op_of actor.old) }
     ensures actor { actor.new ≡ ended actor.old }
     ensures pass { NotedEnd pass.old pass.new (notes.Ended (op_of actor.old) answer) }
-    ensures turn { result ≡ record { transactions = 0; answer = Some told } }
+    ensures step { result ≡ record { transactions = 0; answer = Some told } }
 {
     end(actor, pass, answer);
-    Turn {
+    Step {
         transactions: 0,
         answer: Some(told),
     }
 }
 
-/// One turn of the actor's command.
-pub fn take_turn<C: Commits>(
+/// One step of the actor's command.
+pub fn take_step<C: Commits>(
     counts: &Counts,
     actor: &mut Actor,
     pass: &mut Pass,
     at: &mut C,
-) -> Result<Turn, Astray>
+) -> Result<Step, Astray>
     requires places { HasPlaces counts.now }
     requires same { C.counts at.old ≡ counts.now }
     requires smooth { RunsSmoothly actor.old.state.running }
@@ -153,14 +153,14 @@ pub fn take_turn<C: Commits>(
     requires goes { IsSome actor.old.state.running }
     requires few { actor.old.state.serial + 1 < 2 ^ 32 }
     ensures counts { C.counts at.new ≡ C.counts at.old }
-    ensures one { IfOk result (λ turn. turn.transactions ≤ 1) }
-    ensures turn { MatchResult result
-        (λ turn. TookTurn C.done counts.now at.old at.new actor.old actor.new pass.old pass.new turn)
-        (λ e. LostTurn C.done at.old at.new actor.old actor.new pass.old pass.new (refusals.Astray e.want e.found)) }
+    ensures one { IfOk result (λ step. step.transactions ≤ 1) }
+    ensures step { MatchResult result
+        (λ step. TookStep C.done counts.now at.old at.new actor.old actor.new pass.old pass.new step)
+        (λ e. LostStep C.done at.old at.new actor.old actor.new pass.old pass.new (refusals.Astray e.want e.found)) }
 {
     match actor.next() {
         Ok(Some(asked)) => transact(counts, actor, pass, at, asked),
-        Ok(None) => Ok(Turn {
+        Ok(None) => Ok(Step {
             transactions: 0,
             answer: settle(actor, pass),
         }),

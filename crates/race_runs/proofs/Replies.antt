@@ -39,9 +39,9 @@ use Rattle.tect_ids.specs.declared.ids.OpId.{OpId}
 use Rattle.world_runs.specs.declared.event.Event.{Event}
 use Rattle.world_runs.specs.Events.{end_event, event_of, events_of}
 use Rattle.world_runs.specs.Events.{IsPlaced}
-use Rattle.noted_runs.specs.Laws.{PlacesReply}
+use Rattle.race_runs.specs.PlacesReply.{PlacesReply}
 use Rattle.world_runs.specs.OwnRuns.{RepliesAre}
-use Rattle.noted_runs.proofs.Actors.{flipped, one_number, other_number, same_number}
+use Rattle.world_runs.proofs.Actors.{flipped, one_number, other_number, same_number}
 
 -- ---- what a shard does, as a store in which nothing else stands
 

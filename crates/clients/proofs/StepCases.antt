@@ -1,4 +1,4 @@
--- the turns that the code takes
+-- the steps that the code takes
 use Rattle.std.proofs.Common.{ℕ, ◌≡◌, inr, Option, Some, None, IsSome, refl, arith}
 use Rattle.std.specs.Prelude.{Result, Ok, Err}
 use Rattle.tect_ids.specs.declared.ids.Counts.{Counts}
@@ -14,12 +14,12 @@ use Rattle.entry_words.specs.declared.entry.Refused.{Refused}
 use Rattle.place_kit.specs.declared.pass.Pass.{Pass}
 use Rattle.place_kit.specs.Commits.{IsFull}
 use Rattle.world_runs.specs.Moments.{program_ask, program_answer, went_on}
-use Rattle.actors.specs.ActorState.{ActorState, op_of}
-use Rattle.clients.specs.declared.turns.Turn.{Turn}
+use Rattle.clients.specs.ActorState.{ActorState, op_of}
+use Rattle.clients.specs.declared.steps.Step.{Step}
 use Rattle.clients.specs.Commits.{entry_at, Committed, NotedEnd}
 use Rattle.program_rules.specs.Asking.{RunsSmoothly}
 use Rattle.clients.specs.Steps.{Unasked, Did, Denied, EndsSo}
-use Rattle.clients.specs.Turns.{ended, Settles, SettlesSo, Tries, TookTurn}
+use Rattle.clients.specs.PassSteps.{ended, Settles, SettlesSo, Tries, TookStep}
 use Rattle.program_rules.proofs.Phases.{smooth_goes}
 
 did_so : (a : ActorState) (q : AnyReq) (x : AnyReply) (answer : Option Answer) → SettlesSo a answer → EndsSo a.state (Did q x) answer
@@ -36,9 +36,9 @@ unasked_so a None smooth runs asks so = goes_by a.state.serial a.state.running s
 unasked_so a (Some x) smooth runs asks so = so
 
 module _ {W : Type 0} (done : W → W → ℕ → AnyReq → Result Entry Refused → Type 0) (counts : Counts) (w v : W) (a b : ActorState) (p r : Pass) where
-  pub did_turn : (m : Pass) (q : AnyReq) (x : AnyReply) (answer : Option Answer) → program_ask a.state.serial a.state.running ≡ Some q → done w v p.clock q (Ok (entry_at counts m.clock p q x)) → ¬ IsFull p
-      → Committed counts p m q x → Settles (record a { state = went_on counts a.state q x }) b m r answer → TookTurn done counts w v a b p r (record { transactions = 1; answer = answer })
-  did_turn m q x answer asks did room committed settles = record {
+  pub did_step : (m : Pass) (q : AnyReq) (x : AnyReply) (answer : Option Answer) → program_ask a.state.serial a.state.running ≡ Some q → done w v p.clock q (Ok (entry_at counts m.clock p q x)) → ¬ IsFull p
+      → Committed counts p m q x → Settles (record a { state = went_on counts a.state q x }) b m r answer → TookStep done counts w v a b p r (record { transactions = 1; answer = answer })
+  did_step m q x answer asks did room committed settles = record {
     tried = Did q x;
     middle = m;
     asks = asks;
@@ -49,10 +49,10 @@ module _ {W : Type 0} (done : W → W → ℕ → AnyReq → Result Entry Refuse
     acted = refl;
   }
 
-  pub denied_turn : (m : Pass) (q : AnyReq) (e : Refused) (x : Answer) (turn : Turn) → program_ask a.state.serial a.state.running ≡ Some q → done w v p.clock q (Err e)
+  pub denied_step : (m : Pass) (q : AnyReq) (e : Refused) (x : Answer) (step : Step) → program_ask a.state.serial a.state.running ≡ Some q → done w v p.clock q (Err e)
       → Tries counts p m (Denied q e) → EndsSo a.state (Denied q e) (Some x) → b ≡ ended a → NotedEnd m r (Ended (op_of a) x)
-      → (let t : Turn = record { transactions = 0; answer = Some x } in turn ≡ t) → TookTurn done counts w v a b p r turn
-  denied_turn m q e x turn asks did tries so after noted is = rw is (record {
+      → (let t : Step = record { transactions = 0; answer = Some x } in step ≡ t) → TookStep done counts w v a b p r step
+  denied_step m q e x step asks did tries so after noted is = rw is (record {
     tried = Denied q e;
     middle = m;
     asks = asks;
@@ -63,9 +63,9 @@ module _ {W : Type 0} (done : W → W → ℕ → AnyReq → Result Entry Refuse
     acted = refl;
   })
 
-  pub unasked_turn : (answer : Option Answer) → v ≡ w → RunsSmoothly a.state.running → IsSome a.state.running → program_ask a.state.serial a.state.running ≡ None
-      → Settles a b p r answer → TookTurn done counts w v a b p r (record { transactions = 0; answer = answer })
-  unasked_turn answer same smooth runs asks settles = record {
+  pub unasked_step : (answer : Option Answer) → v ≡ w → RunsSmoothly a.state.running → IsSome a.state.running → program_ask a.state.serial a.state.running ≡ None
+      → Settles a b p r answer → TookStep done counts w v a b p r (record { transactions = 0; answer = answer })
+  unasked_step answer same smooth runs asks settles = record {
     tried = Unasked;
     middle = p;
     asks = tt;
@@ -76,9 +76,9 @@ module _ {W : Type 0} (done : W → W → ℕ → AnyReq → Result Entry Refuse
     acted = refl;
   }
 
-  pub wanting_turn : (turn : Turn) → v ≡ w → b ≡ ended a → NotedEnd p r (Ended (op_of a) answers.NoMemory)
-      → (let t : Turn = record { transactions = 0; answer = Some answers.NoMemory } in turn ≡ t) → TookTurn done counts w v a b p r turn
-  wanting_turn turn same after noted is = rw is (record {
+  pub wanting_step : (step : Step) → v ≡ w → b ≡ ended a → NotedEnd p r (Ended (op_of a) answers.NoMemory)
+      → (let t : Step = record { transactions = 0; answer = Some answers.NoMemory } in step ≡ t) → TookStep done counts w v a b p r step
+  wanting_step step same after noted is = rw is (record {
     tried = Unasked;
     middle = p;
     asks = tt;
