@@ -24,8 +24,8 @@ use Rattle.world_runs.specs.Events.{events_of}
 use Rattle.world_runs.specs.Limits.{event_cost, used}
 use Rattle.world_runs.specs.OwnRuns.{own_state}
 use Rattle.world_runs.specs.Woven.{IsSilent}
-use Rattle.noted_runs.proofs.Actors.{same_number}
-use Rattle.noted_runs.proofs.Limits.{used-append}
+use Rattle.world_runs.proofs.Actors.{same_number}
+use Rattle.world_runs.proofs.Limits.{used-append}
 use Rattle.actors.specs.ActorState.{ActorState, op_of, next_op_of}
 use Rattle.clients.specs.declared.client.Client.TheInside.{Inside}
 use Rattle.clients.specs.Lives.{events_in, RefusesNext}

@@ -20,7 +20,7 @@ use Rattle.world_runs.specs.Follows.{Acts, IsEndOf, EndsAfter}
 use Rattle.world_runs.specs.Moments.{Actor, idle_actor, program_ask, heard, went_on}
 use Rattle.world_runs.specs.Events.{end_event}
 use Rattle.world_runs.specs.OwnRuns.{own_state, own_after}
-use Rattle.noted_runs.proofs.Actors.{own_state-append}
+use Rattle.world_runs.proofs.Actors.{own_state-append}
 use Rattle.actors.specs.declared.turned.Turned.{Turned}
 use Rattle.actors.specs.declared.turned.Turned.TheVariants.{Going, Done}
 use Rattle.actors.specs.Turns.{turned_by}

@@ -21,8 +21,8 @@ use Rattle.world_runs.specs.Report.{is_act_of, transactions}
 use Rattle.world_runs.specs.Events.{end_event, own}
 use Rattle.world_runs.specs.Limits.{KeepsRoom, OwnLimits}
 use Rattle.world_runs.specs.OwnRuns.{OwnMay, OwnRun, own_after, own_state}
-use Rattle.noted_runs.proofs.Actors.{own_state-append, own_run-append, own-append, own-here}
-use Rattle.noted_runs.proofs.Limits.{own_limits-append}
+use Rattle.world_runs.proofs.Actors.{own_state-append, own_run-append, own-append, own-here}
+use Rattle.world_runs.proofs.Limits.{own_limits-append}
 
 module _ (counts : Counts) (es : List Event) (e : Event) where
   pub state_push : own_state counts idle_actor (es ++ e ∷ []) ≡ own_after counts (own_state counts idle_actor es) e

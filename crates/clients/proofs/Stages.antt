@@ -29,7 +29,7 @@ use Rattle.world_runs.specs.Events.{end_event, event_of, events_of, own}
 use Rattle.world_runs.specs.Limits.{KeepsRoom, OwnLimits}
 use Rattle.world_runs.specs.OwnRuns.{OwnMay, OwnRun, own_after, own_state}
 use Rattle.world_runs.specs.Events.{IsPlaced}
-use Rattle.noted_runs.proofs.Actors.{same_number}
+use Rattle.world_runs.proofs.Actors.{same_number}
 use Rattle.actors.specs.ActorState.{ActorState, op_of}
 use Rattle.clients.specs.Commits.{Committed, NotedEnd, entry_at}
 use Rattle.program_rules.specs.Asking.{RunsSmoothly, op_running}

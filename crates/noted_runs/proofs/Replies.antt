@@ -41,7 +41,7 @@ use Rattle.world_runs.specs.Events.{end_event, event_of, events_of}
 use Rattle.world_runs.specs.Events.{IsPlaced}
 use Rattle.noted_runs.specs.Laws.{PlacesReply}
 use Rattle.world_runs.specs.OwnRuns.{RepliesAre}
-use Rattle.noted_runs.proofs.Actors.{flipped, one_number, other_number, same_number}
+use Rattle.world_runs.proofs.Actors.{flipped, one_number, other_number, same_number}
 
 -- ---- what a shard does, as a store in which nothing else stands
 

@@ -19,7 +19,7 @@ use Rattle.world_runs.specs.Events.{end_event, event_of, events_of, own}
 use Rattle.world_runs.specs.Events.{IsOwnNote}
 use Rattle.world_runs.specs.Woven.{IsSilent}
 use Rattle.world_runs.specs.Limits.{event_bytes, event_cost, kept_bytes, used}
-use Rattle.noted_runs.proofs.Actors.{one_number}
+use Rattle.world_runs.proofs.Actors.{one_number}
 
 -- ---- what a pass says of its notes
 

@@ -21,7 +21,7 @@ use Rattle.world_runs.specs.Woven.{AreSilent, IsSilent}
 use Rattle.noted_runs.specs.Laws.{WovenConcerns, WovenReplies}
 use Rattle.world_runs.specs.OwnRuns.{RepliesAre, stored_after}
 use Rattle.world_runs.specs.Woven.{Cut, is_early, is_late, own_cuts, woven}
-use Rattle.noted_runs.proofs.Actors.{replies-append, replies-front, replies-rest, stored_after-append}
+use Rattle.world_runs.proofs.Actors.{replies-append, replies-front, replies-rest, stored_after-append}
 
 -- ---- what a list keeps
 

@@ -14,7 +14,7 @@ use Rattle.world_runs.specs.Events.{events_of, own}
 use Rattle.world_runs.specs.Events.{IsOwnNote}
 use Rattle.world_runs.specs.Woven.{IsSilent}
 use Rattle.world_runs.specs.Woven.{is_early, is_late, woven}
-use Rattle.noted_runs.proofs.Actors.{own-append}
+use Rattle.world_runs.proofs.Actors.{own-append}
 use Rattle.noted_runs.proofs.Shown.{IsNoDump, silent_no_dump}
 use Rattle.race_runs.specs.Stories.{Part, Story, part_events, all_moments, with_dumps}
 use Rattle.race_runs.specs.Gathered.{part_of, rest_of, silent_now, silent_last, cuts_of, history_of_race}

@@ -21,9 +21,9 @@ use Rattle.world_runs.specs.Woven.{IsSilent, AreSilent}
 use Rattle.world_runs.specs.Limits.{OwnLimits}
 use Rattle.world_runs.specs.OwnRuns.{OwnRun, RepliesAre}
 use Rattle.world_runs.specs.Woven.{Cut}
-use Rattle.noted_runs.proofs.Actors.{other_number}
-use Rattle.noted_runs.proofs.Owns.{own_runs_make_run}
-use Rattle.noted_runs.proofs.Limits.{own_limits_make_limits}
+use Rattle.world_runs.proofs.Actors.{other_number}
+use Rattle.world_runs.proofs.Owns.{own_runs_make_run}
+use Rattle.world_runs.proofs.Limits.{own_limits_make_limits}
 use Rattle.noted_runs.proofs.Replies.{places_reply}
 use Rattle.noted_runs.proofs.Weaving.{woven_replies}
 use Rattle.noted_runs.proofs.Following.{clients_follow}

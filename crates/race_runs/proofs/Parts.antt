@@ -11,7 +11,7 @@ use Rattle.world_runs.specs.Races.{is_own, concerns}
 use Rattle.world_runs.specs.Events.{events_of, own}
 use Rattle.world_runs.specs.Woven.{IsSilent}
 use Rattle.world_runs.specs.Woven.{is_early, is_late}
-use Rattle.noted_runs.proofs.Actors.{own-append}
+use Rattle.world_runs.proofs.Actors.{own-append}
 use Rattle.noted_runs.proofs.Shown.{IsNoDump, silent_no_dump}
 use Rattle.noted_runs.proofs.Weaving.{filter-swap}
 use Rattle.race_runs.specs.Stories.{Part, Story, Timely, Answers, part_events, all_moments, all_events, with_dumps}

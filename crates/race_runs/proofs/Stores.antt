@@ -13,7 +13,7 @@ use Rattle.world_runs.specs.Events.{StampsRise}
 use Rattle.world_runs.specs.Woven.{IsSilent}
 use Rattle.world_runs.specs.OwnRuns.{stored_after}
 use Rattle.world_runs.specs.Woven.{is_early, is_late}
-use Rattle.noted_runs.proofs.Actors.{stored_after-append}
+use Rattle.world_runs.proofs.Actors.{stored_after-append}
 use Rattle.noted_runs.proofs.Weaving.{silent_replies, stamps_split}
 use Rattle.race_runs.specs.Gathered.{store_at}
 use Rattle.race_runs.specs.Stories.{Part, Timely}

@@ -14,8 +14,8 @@ use Rattle.world_runs.specs.Events.{IsOwnNote, StampsRise}
 use Rattle.world_runs.specs.Woven.{IsSilent}
 use Rattle.world_runs.specs.OwnRuns.{stored_after}
 use Rattle.world_runs.specs.Woven.{is_early, is_late}
-use Rattle.noted_runs.proofs.Owns.{states_are_their_own}
-use Rattle.noted_runs.proofs.Shown.{own_lines_own}
+use Rattle.world_runs.proofs.Owns.{states_are_their_own}
+use Rattle.world_runs.proofs.OwnLines.{own_lines_own}
 use Rattle.noted_runs.proofs.Weaving.{stamps_rise-filter}
 use Rattle.race_runs.specs.Stories.{Part, Story, Answers, part_events}
 use Rattle.race_runs.specs.Gathered.{part_of, rest_of, silent_now, answers_now, answers_last, history_of_race, store_at, told}

@@ -11,7 +11,7 @@ use Rattle.world_runs.specs.declared.event.Event.TheVariants.{Began, Refused, Ac
 use Rattle.world_runs.specs.Report.{is_act_of, transactions}
 use Rattle.world_runs.specs.Events.{event_of, events_of}
 use Rattle.world_runs.specs.Woven.{IsSilent}
-use Rattle.noted_runs.proofs.Shown.{transactions-append}
+use Rattle.world_runs.proofs.OwnLines.{transactions-append}
 
 silent_event : (op : OpId) (e : Event) → IsSilent e → transactions (e ∷ []) op ≡ 0
 silent_event op (Refused other c) is = refl

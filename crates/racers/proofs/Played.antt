@@ -18,7 +18,7 @@ use Rattle.world_runs.specs.Report.{answer_line}
 use Rattle.world_runs.specs.Turns.{turn_after}
 use Rattle.world_runs.specs.Standing.{op_of, AtTurn}
 use Rattle.world_runs.specs.OwnRuns.{own_after, own_state}
-use Rattle.noted_runs.proofs.Shown.{own_lines-append}
+use Rattle.world_runs.proofs.OwnLines.{own_lines-append}
 use Rattle.clients.specs.Lives.{ClientLife, events_in, state_in, op_in, next_op_in, IsLife}
 use Rattle.racers.specs.declared.racer.Racer.{Racer}
 use Rattle.racers.specs.Lives.{busy_in, news_events}

@@ -14,7 +14,7 @@ use Rattle.world_runs.specs.Races.{is_own}
 use Rattle.world_runs.specs.Standing.{op_of}
 use Rattle.world_runs.specs.Events.{own}
 use Rattle.world_runs.specs.OwnRuns.{own_after, own_state}
-use Rattle.noted_runs.proofs.Actors.{one_number}
+use Rattle.world_runs.proofs.Actors.{one_number}
 use Rattle.clients.specs.Lives.{ClientLife, events_in, state_in, op_in, IsLife}
 use Rattle.racers.specs.Lives.{busy_in}
 

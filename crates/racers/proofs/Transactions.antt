@@ -17,8 +17,8 @@ use Rattle.world_runs.specs.Races.{own_lines}
 use Rattle.world_runs.specs.Report.{answer_line, client_name, transactions}
 use Rattle.world_runs.specs.Events.{end_event}
 use Rattle.world_runs.specs.OwnRuns.{own_after, own_state}
-use Rattle.noted_runs.proofs.Actors.{same_number, own_state-append}
-use Rattle.noted_runs.proofs.Shown.{own_lines-append, transactions-append}
+use Rattle.world_runs.proofs.Actors.{same_number, own_state-append}
+use Rattle.world_runs.proofs.OwnLines.{own_lines-append, transactions-append}
 use Rattle.racers.specs.Steps.{EndsWith}
 
 -- ---- transactions one after another

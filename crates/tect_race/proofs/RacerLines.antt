@@ -15,7 +15,7 @@ use Rattle.world_runs.specs.Follows.{DoesLine}
 use Rattle.world_runs.specs.Turns.{ClientTurn, Turns, turn_after, with_turn}
 use Rattle.world_runs.specs.Standing.{AtTurn}
 use Rattle.world_runs.specs.ClientLines.{DoesLines}
-use Rattle.noted_runs.proofs.Actors.{same_number, other_number, flipped}
+use Rattle.world_runs.proofs.Actors.{same_number, other_number, flipped}
 use Rattle.clients.specs.Lives.{ClientLife, events_in, state_in}
 use Rattle.racers.specs.declared.racer.Racer.{Racer}
 use Rattle.racers.specs.Lives.{busy_in, grown, news_events}

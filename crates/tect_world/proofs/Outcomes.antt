@@ -25,8 +25,8 @@ use Rattle.program_rules.specs.Lacks.{IsLack}
 use Rattle.world_runs.specs.Moments.{Actor, idle_actor, program_of, program_ask, program_answer, went_on, heard}
 use Rattle.world_runs.specs.Events.{end_event}
 use Rattle.world_runs.specs.OwnRuns.{OwnRun, own_state}
-use Rattle.noted_runs.proofs.Actors.{own_state-append}
-use Rattle.noted_runs.proofs.Shown.{transactions-append}
+use Rattle.world_runs.proofs.Actors.{own_state-append}
+use Rattle.world_runs.proofs.OwnLines.{transactions-append}
 use Rattle.world_runs.specs.Report.{transactions}
 use Rattle.clients.specs.Lives.{ClientLife, events_in, state_in, op_in}
 use Rattle.program_rules.specs.Asking.{WasRefused}

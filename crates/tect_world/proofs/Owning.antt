@@ -3,7 +3,7 @@ use Rattle.std.proofs.Common.{◌≡◌, ◌≢◌, ℕ, ◌≤◌, Bool, true, 
 use Rattle.world_runs.specs.declared.event.Event.{Event}
 use Rattle.world_runs.specs.Races.{is_own}
 use Rattle.world_runs.specs.Events.{own}
-use Rattle.noted_runs.proofs.Actors.{actor_of_own, own-append, own-here, own-there}
+use Rattle.world_runs.proofs.Actors.{actor_of_own, own-append, own-here, own-there}
 use Rattle.tect_world.specs.Order.{later_events}
 
 own_few : (a : ℕ) (es : List Event) → length (own a es) ≤ length es

@@ -22,9 +22,9 @@ use Rattle.world_runs.specs.Moments as runs
 use Rattle.world_runs.specs.Report.{transactions}
 use Rattle.world_runs.specs.Events.{events_of}
 use Rattle.world_runs.specs.OwnRuns.{OwnRun, own_state, RepliesAre, stored_after}
-use Rattle.noted_runs.proofs.Actors.{own_run-rest}
-use Rattle.noted_runs.proofs.Owns.{counts_stay}
-use Rattle.noted_runs.proofs.Shown.{transactions_own}
+use Rattle.world_runs.proofs.Actors.{own_run-rest}
+use Rattle.world_runs.proofs.Owns.{counts_stay}
+use Rattle.world_runs.proofs.OwnLines.{transactions_own}
 use Rattle.all_shards.proofs.Stepped.{any_default}
 use Rattle.actors.specs.declared.turned.Turned.{Turned}
 use Rattle.actors.specs.declared.turned.Turned.TheVariants.{Done}

@@ -1,6 +1,6 @@
 -- When a store is sound: each entry's node stands and lists the entry's hold, with that entry's key; no hold is bound twice;
 -- at most one entry names a directory or file.
-use Rattle.std.specs.Prelude.{◌≡◌, Option, Some, None}
+use Rattle.std.specs.Prelude.{◌≡◌, Option, Some}
 use Rattle.std.specs.FinMap.{get}
 use Rattle.tect_ids.specs.declared.ids.Hold.{Hold}
 use Rattle.tect_ids.specs.declared.ids.Node.{Node}

@@ -2,13 +2,13 @@
 use Rattle.std.proofs.Common.{◌≡◌, inl, inr, ℕ, Bool, true, false, if◌then◌else◌, List, [], ◌∷◌, refl, sym, ap, ◌∙◌, subst}
 use Rattle.tect_ids.specs.declared.ids.Counts.{Counts}
 use Rattle.world_runs.specs.declared.event.Event.{Event}
-use Rattle.world_runs.specs.Moments.{Actor, WorldState, opening, after, after_all, RunFrom}
+use Rattle.store_rules.specs.Store.{opening_store}
+use Rattle.world_runs.specs.Moments.{Actor, WorldState, idle_actor, opening, after, after_all, moment, RunFrom, IsWorldRun}
 use Rattle.world_runs.specs.Races.{is_own}
 use Rattle.world_runs.specs.Events.{own}
 use Rattle.world_runs.specs.Limits.{actor_in}
 use Rattle.world_runs.specs.OwnRuns.{OwnMay, OwnRun, own_after, own_state, RepliesAre, stored_after}
-use Rattle.noted_runs.specs.Laws.{OwnRunsMakeRun, RunIsOwnRuns, ActorsAreTheirOwn}
-use Rattle.noted_runs.proofs.Actors.{own_of_actor, actor_of_own, after_actors, after_counts, after_store, may_from, own_from, replies-append, replies-front, replies-rest, stored_after-append}
+use Rattle.world_runs.proofs.Actors.{own_of_actor, actor_of_own, after_actors, after_counts, after_store, may_from, own_from, replies-append, replies-front, replies-rest, stored_after-append}
 
 -- each actor's own events are a run of it
 abbrev pub AreOwnRuns : WorldState → List Event → Type 0
@@ -41,7 +41,8 @@ run_from_own m (e ∷ es) runs replies =
     let rest : RepliesAre (after m e).store es = rw (after_store m e) (replies-rest m.store (e ∷ []) es replies) in
     (may_from m e (first_may m e es runs) (replies-front m.store (e ∷ []) es replies), run_from_own (after m e) es (rest_runs m e es runs) rest)
 
-pub own_runs_make_run : OwnRunsMakeRun
+pub own_runs_make_run : (counts : Counts) (history : List Event) → ((actor : ℕ) → OwnRun counts idle_actor (own actor history)) → RepliesAre opening_store history
+    → IsWorldRun counts history
 own_runs_make_run counts history runs replies = run_from_own (opening counts) history runs replies
 
 -- ---- the other way round
@@ -64,7 +65,8 @@ replies_from_run m (e ∷ es) run =
     let rest : RepliesAre (stored_after m.store (e ∷ [])) es = rw (after_store m e) at (replies_from_run (after m e) es run.1) in
     replies-append m.store (e ∷ []) es (own_from m e run.0).1 rest
 
-pub run_is_own_runs : RunIsOwnRuns
+pub run_is_own_runs : (counts : Counts) (history : List Event) → IsWorldRun counts history
+    → ((actor : ℕ) → OwnRun counts idle_actor (own actor history)) × RepliesAre opening_store history
 run_is_own_runs counts history run = (own_from_run (opening counts) history run, replies_from_run (opening counts) history run)
 
 -- ---- the states
@@ -89,5 +91,7 @@ pub store_is_after : (m : WorldState) (es : List Event) → (after_all m es).sto
 store_is_after m [] = refl
 store_is_after m (e ∷ es) = store_is_after (after m e) es ∙ ap (λ s. stored_after s es) (after_store m e) ∙ sym (stored_after-append m.store (e ∷ []) es)
 
-pub states_are_their_own : ActorsAreTheirOwn
+pub states_are_their_own : (counts : Counts) (history : List Event)
+    → ((actor : ℕ) → (moment counts history).actors actor ≡ own_state counts idle_actor (own actor history))
+    × ((moment counts history).store ≡ stored_after opening_store history)
 states_are_their_own counts history = (λ a. actors_are_their_own (opening counts) history a, store_is_after (opening counts) history)

@@ -10,14 +10,13 @@ use Rattle.tect_ids.specs.declared.answer.Answer.TheVariants as answers
 use Rattle.store_rules.specs.ReplyBytes.{reply_bytes}
 use Rattle.world_runs.specs.declared.event.Event.{Event}
 use Rattle.world_runs.specs.declared.event.Event.TheVariants.{Began, Refused, Acted, Ended, Stopped, Failed, Dumped}
-use Rattle.world_runs.specs.Moments.{Actor, WorldState, opening, moment}
+use Rattle.world_runs.specs.Moments.{Actor, WorldState, idle_actor, opening, moment}
 use Rattle.world_runs.specs.Races.{is_own}
 use Rattle.world_runs.specs.Events.{own}
-use Rattle.world_runs.specs.Limits.{event_cost, event_bytes, used, kept_bytes, EndsFull, KeepsRoom, KeepsLimitsAfter, OwnLimits, actor_in}
+use Rattle.world_runs.specs.Limits.{event_cost, event_bytes, used, kept_bytes, EndsFull, KeepsRoom, KeepsLimits, KeepsLimitsAfter, OwnLimits, actor_in}
 use Rattle.world_runs.specs.OwnRuns.{own_after, own_state}
-use Rattle.noted_runs.specs.Laws.{OwnLimitsMakeLimits}
-use Rattle.noted_runs.proofs.Actors.{own_of_actor, after_actors, moment-append, own-append}
-use Rattle.noted_runs.proofs.Owns.{counts_stay}
+use Rattle.world_runs.proofs.Actors.{own_of_actor, after_actors, moment-append, own-append}
+use Rattle.world_runs.proofs.Owns.{counts_stay}
 
 -- ---- what is used, and what is kept, of histories that grow
 
@@ -130,5 +129,5 @@ pub limits_from_own : (counts : Counts) (before es : List Event) → AreOwnLimit
 limits_from_own counts before [] limits = tt
 limits_from_own counts before (e ∷ es) limits = (first_keeps counts before e es limits, limits_from_own counts (before ++ e ∷ []) es (rest_keep counts before e es limits))
 
-pub own_limits_make_limits : OwnLimitsMakeLimits
+pub own_limits_make_limits : (counts : Counts) (history : List Event) → ((actor : ℕ) → OwnLimits counts [] idle_actor (own actor history)) → KeepsLimits counts history
 own_limits_make_limits counts history limits = limits_from_own counts [] history limits
