@@ -24,11 +24,11 @@ use Rattle.script_forms.specs.LineForms.{IsLine, line_limit, act_limit, AreCount
 use Rattle.script_forms.specs.Clients.{Seen, client_number, is_one_too_many}
 use Rattle.script_forms.specs.Reading.{out_of_state, of_client, client_read, world_read, line_read, at_line, measured, is_comment, some_line, text_read, go_on, add_line, seen_behind, lines_read, too_large}
 use Rattle.script_forms.specs.Spelling.{IsInOrder, MayStand, AreLines, seen_of, is_told}
-use Rattle.line_laws.proofs.FormLaws.{got_same, got_wrong, got_large, fits_pass}
-use Rattle.line_laws.proofs.VerbLaws.{world_spelled, world_read_word, world_no_client}
-use Rattle.line_laws.proofs.ActLaws.{act_sound, act_complete}
-use Rattle.line_laws.proofs.GrammarLaws.{IsNumbered, world_sound, world_first, world_plain, IsPlain, line_complete}
-use Rattle.line_laws.proofs.Visible.{parts_spaced, spaced_parts, line_visible}
+use Rattle.script_laws.proofs.FormLaws.{got_same, got_wrong, got_large, fits_pass}
+use Rattle.script_laws.proofs.VerbLaws.{world_spelled, world_read_word, world_no_client}
+use Rattle.script_laws.proofs.ActLaws.{act_sound, act_complete}
+use Rattle.script_laws.proofs.GrammarLaws.{IsNumbered, world_sound, world_first, world_plain, IsPlain, line_complete}
+use Rattle.script_laws.proofs.Visible.{parts_spaced, spaced_parts, line_visible}
 use Rattle.script_laws.proofs.LineSteps.{IsLine as IsText, lines_step}
 
 abbrev pub right : {A : Type 0} → A → Result A ScriptFault

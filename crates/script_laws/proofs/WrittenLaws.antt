@@ -14,7 +14,7 @@ use Rattle.script_forms.specs.LineForms.{IsLine, AreCounts}
 use Rattle.script_forms.specs.Clients.{Seen, seen_after}
 use Rattle.script_forms.specs.Reading.{is_comment}
 use Rattle.script_forms.specs.Spelling.{AreLines, is_told, plan_lines, IsPlan, Spells, script_text, IsSmall}
-use Rattle.line_laws.proofs.Visible.{is_visible, IsVisible, AreVisible, line_visible, store_visible}
+use Rattle.script_laws.proofs.Visible.{is_visible, IsVisible, AreVisible, line_visible, store_visible}
 
 -- a byte of a line's text: no control character
 abbrev is_plain : ℕ → Bool

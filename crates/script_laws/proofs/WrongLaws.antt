@@ -19,10 +19,10 @@ use Rattle.script_forms.specs.Clients.{Seen, client_number, is_one_too_many}
 use Rattle.script_forms.specs.Reading.{out_of_state, of_client, world_read, line_read}
 use Rattle.script_forms.specs.FirstWrong.{Begins, IsDead, IsWrongWords, PassesLimit, IsLargeWords, IsInState, IsWrongLine, IsLargeLine}
 use Rattle.script_forms.proofs.FormReads.{map_outcome, read-map}
-use Rattle.line_laws.proofs.FormLaws.{got, got_wrong, got_large, wrong_same, wrong_large, large_same, taken, first_wrong, first_large, IsDeadEnd}
-use Rattle.line_laws.proofs.VerbLaws.{world_spelled}
-use Rattle.line_laws.proofs.GrammarLaws.{IsNumbered, loose_limit, line_sound, line_complete, line_alive, client_first, world_first}
-use Rattle.line_laws.proofs.HonestLaws.{line_honest, honest_large}
+use Rattle.script_laws.proofs.FormLaws.{got, got_wrong, got_large, wrong_same, wrong_large, large_same, taken, first_wrong, first_large, IsDeadEnd}
+use Rattle.script_laws.proofs.VerbLaws.{world_spelled}
+use Rattle.script_laws.proofs.GrammarLaws.{IsNumbered, loose_limit, line_sound, line_complete, line_alive, client_first, world_first}
+use Rattle.script_laws.proofs.HonestLaws.{line_honest, honest_large}
 use Rattle.script_laws.proofs.ScriptLaws.{append_nil, true_within}
 
 -- ---- the same line with the client's own number

@@ -7,8 +7,11 @@ ghost use Rattle.script_reader.specs.GivesPlan.{GivesRead, IsUnlessMemory, IsFau
 ghost use Rattle.script_forms.specs.Spelling.{Spells, IsPlan, IsSmall, script_text};
 ghost use Rattle.script_forms.specs.FirstFault.{IsFirstFault};
 
+use crate::acts::whole_store;
+use crate::clients::{Clients, names_of};
+use crate::faults::LineFault;
+use crate::lines::read_line;
 use script_forms::ScriptFault;
-use script_lines::{Clients, LineFault, names_of, read_line, whole_store};
 use script_words::{Limit, first_part};
 use std::alloc::Global;
 use tect_ids::{Counts, Items, Line, NoMemory, Plan};

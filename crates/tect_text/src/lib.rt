@@ -16,6 +16,5 @@ mod report;
 
 pub use report::{write_answer, write_dump};
 pub use script_forms::ScriptFault;
-pub use script_lines::write_line;
-pub use script_reader::read_script;
+pub use script_reader::{read_script, write_line};
 pub use script_words::Limit;
