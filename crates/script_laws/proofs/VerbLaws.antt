@@ -1,11 +1,10 @@
 -- The words that begin commands, acts and world lines.
-use Rattle.std.proofs.Common.{◌≡◌, ℕ, true, false, List, Option, Some, None, is_some, refl, sym, ap, subst, ◌∙◌, inl, inr}
+use Rattle.std.proofs.Common.{◌≡◌, ℕ, true, false, Bool, List, [], ◌∷◌, Option, Some, None, is_some, refl, sym, ap, subst, ◌∙◌, inl, inr}
 use Rattle.std.specs.Prelude.{codes, unwrap_or, if◌then◌else◌}
 use Rattle.std.specs.Str.{bytes_eq}
 use Rattle.std.proofs.lemmas.Bool.{cases_Bool, false≢true}
 use Rattle.std.proofs.lemmas.Slice.Eq.{bytes_eq-Decides}
 use Rattle.script_words.specs.WordForm.{is_client_name}
-use Rattle.script_forms.specs.declared.verbs.PathVerb.{PathVerb}
 use Rattle.script_forms.specs.declared.verbs.PathVerb.TheVariants as paths
 use Rattle.script_forms.specs.declared.verbs.Verb.{Verb}
 use Rattle.script_forms.specs.declared.verbs.Verb.TheVariants.{OnPath, Rename, Move, Append, Sweep, Repair}
@@ -13,8 +12,8 @@ use Rattle.script_forms.specs.declared.verbs.ActWord.{ActWord}
 use Rattle.script_forms.specs.declared.verbs.ActWord.TheVariants as acts
 use Rattle.script_forms.specs.declared.verbs.WorldVerb.{WorldVerb}
 use Rattle.script_forms.specs.declared.verbs.WorldVerb.TheVariants as worlds
-use Rattle.script_forms.specs.Served.{serves, serves_world}
-use Rattle.script_forms.specs.Verbs.{path_verb_word, verb_word, path_verb_of, on_path, verb_of, if_served, served_verb, as_act, act_word_of, world_word, if_world_served, world_verb_of, served_world}
+use Rattle.script_forms.specs.Served.{verb_row, world_row, all_verbs, all_worlds, serves, serves_world}
+use Rattle.script_forms.specs.Verbs.{verb_word, served_among, rows_of, served_verb, as_act, act_word_of, world_word, served_world}
 
 abbrev pub some : (A : Type 0) → A → Option A
 some A x = Some x
@@ -35,66 +34,52 @@ pick_case w text x v rest is here later = elim (cases_Bool (bytes_eq w text)) [
   | inr miss ↦ later (rw miss at is)
 ]
 
-path_verb_spelled : (w : List ℕ) (v : PathVerb) → path_verb_of w ≡ Some v → w ≡ path_verb_word v
-path_verb_spelled w v is =
-    pick_case w (codes "look") paths.Look v _ is (λ e s. e ∙ ap path_verb_word s) (λ is.
-    pick_case w (codes "list") paths.List v _ is (λ e s. e ∙ ap path_verb_word s) (λ is.
-    pick_case w (codes "create") paths.Create v _ is (λ e s. e ∙ ap path_verb_word s) (λ is.
-    pick_case w (codes "mkdir") paths.Mkdir v _ is (λ e s. e ∙ ap path_verb_word s) (λ is.
-    pick_case w (codes "delete") paths.Delete v _ is (λ e s. e ∙ ap path_verb_word s) (λ is.
-    pick_case w (codes "rmdir") paths.Rmdir v _ is (λ e s. e ∙ ap path_verb_word s) (λ is.
-    pick_case w (codes "drop") paths.Drop v _ is (λ e s. e ∙ ap path_verb_word s) (λ is.
-    pick_case w (codes "seal") paths.Seal v _ is (λ e s. e ∙ ap path_verb_word s) (λ is.
-    pick_case w (codes "open") paths.Open v _ is (λ e s. e ∙ ap path_verb_word s) (λ is.
-    pick_case w (codes "blocks") paths.Blocks v _ is (λ e s. e ∙ ap path_verb_word s) (λ is.
-    pick_case w (codes "read") paths.Read v _ is (λ e s. e ∙ ap path_verb_word s) (λ is. none_some v is)))))))))))
+-- ---- tables
 
-on_path_spelled : (w : List ℕ) (v : Verb) (o : Option PathVerb) → path_verb_of w ≡ o → on_path o ≡ Some v → w ≡ verb_word v
-on_path_spelled w v None is e = none_some v e
-on_path_spelled w v (Some u) is e = path_verb_spelled w u is ∙ ap verb_word (some_same (OnPath u) v e)
+module _ {X : Type 0} (table : X → List ℕ × Bool) where
+  row_spelled : (w : List ℕ) (x v : X) → w ≡ (table x).0 → (if (table x).1 then Some x else None) ≡ Some v → (w ≡ (table v).0) × ((table v).1 ≡ true)
+  row_spelled w x v word is = elim (cases_Bool (table x).1) [
+    | inl served ↦
+        let same : x ≡ v = some_same x v (rw served at is) in
+        (word ∙ ap (λ y. (table y).0) same, sym (ap (λ y. (table y).1) same) ∙ served)
+    | inr unserved ↦ none_some v (rw unserved at is)
+  ]
 
-verb_spelled : (w : List ℕ) (v : Verb) → verb_of w ≡ Some v → w ≡ verb_word v
-verb_spelled w v is =
-    pick_case w (codes "rename") Rename v _ is (λ e s. e ∙ ap verb_word s) (λ is.
-    pick_case w (codes "move") Move v _ is (λ e s. e ∙ ap verb_word s) (λ is.
-    pick_case w (codes "append") Append v _ is (λ e s. e ∙ ap verb_word s) (λ is.
-    pick_case w (codes "sweep") Sweep v _ is (λ e s. e ∙ ap verb_word s) (λ is.
-    pick_case w (codes "repair") Repair v _ is (λ e s. e ∙ ap verb_word s) (λ is. on_path_spelled w v (path_verb_of w) refl is)))))
+  -- what the table answers has the word that was asked, and is served
+  among_spelled : (xs : List X) (w : List ℕ) (v : X) → served_among (rows_of table xs) w ≡ Some v → (w ≡ (table v).0) × ((table v).1 ≡ true)
+  among_spelled [] w v is = none_some v is
+  among_spelled (x ∷ xs) w v is = elim (cases_Bool (bytes_eq w (table x).0)) [
+    | inl hit ↦ row_spelled w x v ((bytes_eq-Decides w (table x).0).0 hit) (rw hit at is)
+    | inr miss ↦ among_spelled xs w v (rw miss at is)
+  ]
 
-served_by : (w : List ℕ) (v : Verb) (o : Option Verb) → verb_of w ≡ o → if_served o ≡ Some v → (w ≡ verb_word v) × (serves v ≡ true)
-served_by w v None is e = none_some v e
-served_by w v (Some u) is e = elim (cases_Bool (serves u)) [
-  | inl hit ↦
-      let same : u ≡ v = some_same u v (rw hit at e) in
-      (verb_spelled w u is ∙ ap verb_word same, sym (ap serves same) ∙ hit)
-  | inr miss ↦ none_some v (rw miss at e)
-]
+  served_row : (v : X) → (table v).1 ≡ true → (if (table v).1 then some X v else None) ≡ Some v
+  served_row v is = rw is refl
+
+-- ---- commands
 
 -- a served word is that of its command
 pub served_spelled : (w : List ℕ) (v : Verb) → served_verb w ≡ Some v → (w ≡ verb_word v) × (serves v ≡ true)
-served_spelled w v is = served_by w v (verb_of w) refl is
-
-pub if_served_is : (v : Verb) → serves v ≡ true → if_served (Some v) ≡ Some v
-if_served_is v is = rw is refl
+served_spelled w v is = among_spelled verb_row all_verbs w v is
 
 -- the word of a served command is read
 pub served_read : (v : Verb) → serves v ≡ true → served_verb (verb_word v) ≡ Some v
-served_read (OnPath paths.Look) is = if_served_is (OnPath paths.Look) is
-served_read (OnPath paths.List) is = if_served_is (OnPath paths.List) is
-served_read (OnPath paths.Create) is = if_served_is (OnPath paths.Create) is
-served_read (OnPath paths.Mkdir) is = if_served_is (OnPath paths.Mkdir) is
-served_read (OnPath paths.Delete) is = if_served_is (OnPath paths.Delete) is
-served_read (OnPath paths.Rmdir) is = if_served_is (OnPath paths.Rmdir) is
-served_read (OnPath paths.Drop) is = if_served_is (OnPath paths.Drop) is
-served_read (OnPath paths.Seal) is = if_served_is (OnPath paths.Seal) is
-served_read (OnPath paths.Open) is = if_served_is (OnPath paths.Open) is
-served_read (OnPath paths.Blocks) is = if_served_is (OnPath paths.Blocks) is
-served_read (OnPath paths.Read) is = if_served_is (OnPath paths.Read) is
-served_read Rename is = if_served_is Rename is
-served_read Move is = if_served_is Move is
-served_read Append is = if_served_is Append is
-served_read Sweep is = if_served_is Sweep is
-served_read Repair is = if_served_is Repair is
+served_read (OnPath paths.Look) is = served_row verb_row (OnPath paths.Look) is
+served_read (OnPath paths.List) is = served_row verb_row (OnPath paths.List) is
+served_read (OnPath paths.Create) is = served_row verb_row (OnPath paths.Create) is
+served_read (OnPath paths.Mkdir) is = served_row verb_row (OnPath paths.Mkdir) is
+served_read (OnPath paths.Delete) is = served_row verb_row (OnPath paths.Delete) is
+served_read (OnPath paths.Rmdir) is = served_row verb_row (OnPath paths.Rmdir) is
+served_read (OnPath paths.Drop) is = served_row verb_row (OnPath paths.Drop) is
+served_read (OnPath paths.Seal) is = served_row verb_row (OnPath paths.Seal) is
+served_read (OnPath paths.Open) is = served_row verb_row (OnPath paths.Open) is
+served_read (OnPath paths.Blocks) is = served_row verb_row (OnPath paths.Blocks) is
+served_read (OnPath paths.Read) is = served_row verb_row (OnPath paths.Read) is
+served_read Rename is = served_row verb_row Rename is
+served_read Move is = served_row verb_row Move is
+served_read Append is = served_row verb_row Append is
+served_read Sweep is = served_row verb_row Sweep is
+served_read Repair is = served_row verb_row Repair is
 
 -- ---- acts
 
@@ -125,7 +110,7 @@ act_word_spelled w a is =
     pick_case w (codes "run") acts.Run a _ is (λ e s. plain w acts.Run a e tt s) (λ is.
     pick_case w (codes "stop") acts.Stop a _ is (λ e s. plain w acts.Stop a e tt s) (λ is. act_done w a (served_verb w) refl is))))
 
-act_read_done : (v : Verb) → serves v ≡ true → as_act (if_served (Some v)) ≡ Some (acts.Do v)
+act_read_done : (v : Verb) → serves v ≡ true → as_act (if serves v then some Verb v else None) ≡ Some (acts.Do v)
 act_read_done v is = rw is refl
 
 pub act_word_read : (a : ActWord) → IsKnown a → act_word_of (act_word_text a) ≡ Some a
@@ -152,31 +137,13 @@ act_word_read acts.Stop is = refl
 
 -- ---- world lines
 
-world_verb_spelled : (w : List ℕ) (v : WorldVerb) → world_verb_of w ≡ Some v → w ≡ world_word v
-world_verb_spelled w v is =
-    pick_case w (codes "sweep") worlds.Sweep v _ is (λ e s. e ∙ ap world_word s) (λ is.
-    pick_case w (codes "lose") worlds.Lose v _ is (λ e s. e ∙ ap world_word s) (λ is.
-    pick_case w (codes "dump") worlds.Dump v _ is (λ e s. e ∙ ap world_word s) (λ is. none_some v is)))
-
-world_by : (w : List ℕ) (v : WorldVerb) (o : Option WorldVerb) → world_verb_of w ≡ o → if_world_served o ≡ Some v → (w ≡ world_word v) × (serves_world v ≡ true)
-world_by w v None is e = none_some v e
-world_by w v (Some u) is e = elim (cases_Bool (serves_world u)) [
-  | inl hit ↦
-      let same : u ≡ v = some_same u v (rw hit at e) in
-      (world_verb_spelled w u is ∙ ap world_word same, sym (ap serves_world same) ∙ hit)
-  | inr miss ↦ none_some v (rw miss at e)
-]
-
 pub world_spelled : (w : List ℕ) (v : WorldVerb) → served_world w ≡ Some v → (w ≡ world_word v) × (serves_world v ≡ true)
-world_spelled w v is = world_by w v (world_verb_of w) refl is
-
-world_served_is : (v : WorldVerb) → serves_world v ≡ true → if_world_served (Some v) ≡ Some v
-world_served_is v is = rw is refl
+world_spelled w v is = among_spelled world_row all_worlds w v is
 
 pub world_read_word : (v : WorldVerb) → serves_world v ≡ true → served_world (world_word v) ≡ Some v
-world_read_word worlds.Sweep is = world_served_is worlds.Sweep is
-world_read_word worlds.Lose is = world_served_is worlds.Lose is
-world_read_word worlds.Dump is = world_served_is worlds.Dump is
+world_read_word worlds.Sweep is = served_row world_row worlds.Sweep is
+world_read_word worlds.Lose is = served_row world_row worlds.Lose is
+world_read_word worlds.Dump is = served_row world_row worlds.Dump is
 
 pub world_no_client : (v : WorldVerb) → is_client_name (world_word v) ≡ false
 world_no_client worlds.Sweep = refl
