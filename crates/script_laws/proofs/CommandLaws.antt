@@ -1,12 +1,14 @@
 -- Commands: what is read is spelled, and what is spelled is read.
-use Rattle.std.proofs.Common.{◌≡◌, ℕ, ◌+◌, ◌-◌, ◌<◌, ◌≤◌, ◌^◌, Bool, true, false, List, [], ◌∷◌, ◌++◌, length, refl, sym, ap, subst, ◌∙◌, arith, inl, inr, Option, Some, is_some, nat_le, nat_lt}
+use Rattle.std.proofs.Common.{◌≡◌, ℕ, ◌+◌, ◌-◌, ◌<◌, ◌≤◌, ◌^◌, Bool, true, false, List, [], ◌∷◌, ◌++◌, length, refl, sym, ap, subst, ◌∙◌,
+    arith, inl, inr, Option, Some, is_some, nat_le, nat_lt}
 use Rattle.std.specs.Prelude.{codes, unwrap_or}
 use Rattle.std.specs.Fmt.{decimal}
 use Rattle.std.proofs.lemmas.Bool.{cases_Bool}
 use Rattle.script_words.specs.declared.limits.Fit.{Fit}
 use Rattle.script_words.specs.declared.limits.Fit.TheVariants.{Fits, Over, Unfit}
 use Rattle.script_words.specs.WordText.{path_text, hex_text, layer_word}
-use Rattle.script_words.specs.WordForm.{path_names, path_fit, folder_text, sibling_fit, hex_bytes, hex_fit, number_of, number_fit, layer_of, names_fit}
+use Rattle.script_words.specs.WordForm.{path_names, path_fit, folder_text, sibling_fit, hex_bytes, hex_fit, number_of, number_fit, layer_of,
+    names_fit}
 use Rattle.script_words.proofs.PathWords.{names_of_text}
 use Rattle.script_words.proofs.HexWords.{bytes_of_text}
 use Rattle.script_words.proofs.NumberWords.{number_of_text}
@@ -26,12 +28,14 @@ use Rattle.script_forms.specs.LineText.{command_words}
 use Rattle.script_forms.specs.Grammar.{places_of, the_disk, the_layer, layer_fit, fits_if, command_form}
 use Rattle.script_forms.specs.LineForms.{IsPath, IsOnPath, IsCommand, path_limit, block_limit, first_limit, command_limit, AreCounts}
 use Rattle.script_laws.proofs.FormLaws.{got_same, one_word, pass_word, fits_pass}
-use Rattle.script_laws.proofs.WordLaws.{passes_same, if_passes, path_word, path_fit_of_text, sibling_word, sibling_fit_of, hex_word, hex_fit_of_text, number_word, number_text, number_fit_of_text}
+use Rattle.script_laws.proofs.WordLaws.{passes_same, if_passes, path_word, path_fit_of_text, sibling_word, sibling_fit_of, hex_word,
+    hex_fit_of_text, number_word, number_text, number_fit_of_text}
 use Rattle.script_laws.proofs.VerbLaws.{some_is, pick_case, none_some}
 
 -- ---- the commands of one path
 
-pub on_path_form : (counts : Counts) (verb : PathVerb) (path : List (List ℕ)) → IsOnPath verb path → IsCommand counts (path_command verb path)
+pub on_path_form : (counts : Counts) (verb : PathVerb) (path : List (List ℕ)) → IsOnPath verb path
+    → IsCommand counts (path_command verb path)
 on_path_form counts paths.Look path is = is
 on_path_form counts paths.List path is = is
 on_path_form counts paths.Create path is = is
@@ -44,7 +48,8 @@ on_path_form counts paths.Open path is = is
 on_path_form counts paths.Blocks path is = is
 on_path_form counts paths.Read path is = is
 
-pub on_path_words : (verb : PathVerb) (path : List (List ℕ)) → command_words (path_command verb path) ≡ path_verb_word verb ∷ path_text path ∷ []
+pub on_path_words : (verb : PathVerb) (path : List (List ℕ)) → command_words (path_command verb path) ≡ path_verb_word verb ∷ path_text path
+    ∷ []
 on_path_words paths.Look path = refl
 on_path_words paths.List path = refl
 on_path_words paths.Create path = refl
@@ -72,16 +77,20 @@ on_path_limit paths.Read path = refl
 
 -- ---- what is read is spelled
 
-pub record CommandSpelled (limited : Bool) (counts : Counts) (verb : Verb) (ws : List (List ℕ)) (rest : List (List ℕ)) (command : Command) : Type 0 where
+pub record CommandSpelled (limited : Bool) (counts : Counts) (verb : Verb) (ws : List (List ℕ)) (rest : List (List ℕ)) (command : Command)
+    : Type 0 where
   pub words : command_words command ++ rest ≡ verb_word verb ∷ ws
   pub form : IsCommand counts command
   pub within : passes limited (command_limit command)
 
 pub one_spelled : (w text : List ℕ) (ws others rest : List (List ℕ)) → ws ≡ w ∷ others → text ≡ w → others ≡ rest → text ∷ rest ≡ ws
-one_spelled w text ws others rest split is same = ap (λ (t : List ℕ). t ∷ rest) is ∙ ap (λ (r : List (List ℕ)). w ∷ r) (sym same) ∙ sym split
+one_spelled w text ws others rest split is same = ap (λ (t : List ℕ). t ∷ rest) is ∙ ap (λ (r : List (List ℕ)). w ∷ r) (sym same) ∙ sym
+    split
 
-two_spelled : (v w first second : List ℕ) (ws us others rest : List (List ℕ)) → ws ≡ v ∷ us → first ≡ v → us ≡ w ∷ others → second ≡ w → others ≡ rest → first ∷ second ∷ rest ≡ ws
-two_spelled v w first second ws us others rest split is split' is' same = one_spelled v first ws us (second ∷ rest) split is (sym (one_spelled w second us others rest split' is' same))
+two_spelled : (v w first second : List ℕ) (ws us others rest : List (List ℕ)) → ws ≡ v ∷ us → first ≡ v → us ≡ w ∷ others → second ≡ w
+    → others ≡ rest → first ∷ second ∷ rest ≡ ws
+two_spelled v w first second ws us others rest split is split' is' same = one_spelled v first ws us (second ∷ rest) split is
+    (sym (one_spelled w second us others rest split' is' same))
 
 pub both_pass : (limited : Bool) (a b : Fit) → passes limited a → passes limited b → passes limited (first_limit a b)
 both_pass limited Fits b p q = q
@@ -102,7 +111,8 @@ layer_spelled w layer is =
     pick_case w (codes "block") Blocks layer _ is (λ e s. sym (e ∙ ap layer_word s)) (λ is.
     pick_case w (codes "disk") Disks layer _ is (λ e s. sym (e ∙ ap layer_word s)) (λ is. none_some layer is))))
 
-pub index_word : (limited : Bool) (count : ℕ) (w : List ℕ) → (1 ≤ count) × (count ≤ 64) → passes limited (number_fit 0 (count - 1) w) → (decimal (number_of w) ≡ w) × (number_of w < count)
+pub index_word : (limited : Bool) (count : ℕ) (w : List ℕ) → (1 ≤ count) × (count ≤ 64) → passes limited (number_fit 0 (count - 1) w)
+    → (decimal (number_of w) ≡ w) × (number_of w < count)
 index_word limited count w bound p =
     let n = number_word limited 0 (count - 1) w p in
     let to = n.to in
@@ -110,25 +120,33 @@ index_word limited count w bound p =
     let high = bound.1 in
     (number_text 0 (count - 1) w (omega arith) n, omega arith)
 
-pub command_sound : (limited : Bool) (counts : Counts) → AreCounts counts → (verb : Verb) → serves verb ≡ true → (ws : List (List ℕ)) (command : Command) (rest : List (List ℕ)) → read limited (command_form counts verb) ws ≡ Got command rest → CommandSpelled limited counts verb ws rest command
+pub command_sound : (limited : Bool) (counts : Counts) → AreCounts counts → (verb : Verb) → serves verb ≡ true
+    → (ws : List (List ℕ)) (command : Command) (rest : List (List ℕ)) → read limited (command_form counts verb) ws ≡ Got command rest
+    → CommandSpelled limited counts verb ws rest command
 command_sound limited counts are (OnPath verb) served ws command rest is =
     let o = one_word limited path_fit (λ p. done (path_command verb (path_names p))) ws command rest is in
     let same = got_same (path_command verb (path_names o.w)) command o.others rest o.reads in
     let p = path_word limited o.w o.passed in
     subst (λ (c : Command). CommandSpelled limited counts (OnPath verb) ws rest c) same.0 (record {
-      words = ap (λ (cw : List (List ℕ)). cw ++ rest) (on_path_words verb (path_names o.w)) ∙ ap (λ (r : List (List ℕ)). path_verb_word verb ∷ r) (one_spelled o.w (path_text (path_names o.w)) ws o.others rest o.split p.text same.1);
+      words = ap (λ (cw : List (List ℕ)). cw ++ rest) (on_path_words verb (path_names o.w)) ∙ ap
+          (λ (r : List (List ℕ)). path_verb_word verb ∷ r)
+          (one_spelled o.w (path_text (path_names o.w)) ws o.others rest o.split p.text same.1);
       form = on_path_form counts verb (path_names o.w) (served, p.form);
       within = passes_same limited _ _ (on_path_limit verb (path_names o.w)) p.within;
     })
 command_sound limited counts are Rename served ws command rest is =
-    let o = one_word limited path_fit (λ p. word (sibling_fit p) (λ q. done (commands.Rename (path_names p) (path_names q)))) ws command rest is in
-    let u = one_word limited (sibling_fit o.w) (λ q. done (commands.Rename (path_names o.w) (path_names q))) o.others command rest o.reads in
+    let o = one_word limited path_fit (λ p. word (sibling_fit p) (λ q. done (commands.Rename (path_names p) (path_names q)))) ws command
+        rest is in
+    let u = one_word limited (sibling_fit o.w) (λ q. done (commands.Rename (path_names o.w) (path_names q))) o.others command rest o.reads
+        in
     let same = got_same (commands.Rename (path_names o.w) (path_names u.w)) command u.others rest u.reads in
     let s = sibling_word limited o.w u.w u.passed in
     let p = path_word limited o.w o.passed in
     let q = path_word limited u.w s.1 in
     subst (λ (c : Command). CommandSpelled limited counts Rename ws rest c) same.0 (record {
-      words = ap (λ (r : List (List ℕ)). codes "rename" ∷ r) (two_spelled o.w u.w (path_text (path_names o.w)) (path_text (path_names u.w)) ws o.others u.others rest o.split p.text u.split q.text same.1);
+      words = ap (λ (r : List (List ℕ)). codes "rename" ∷ r)
+          (two_spelled o.w u.w (path_text (path_names o.w)) (path_text (path_names u.w)) ws o.others u.others rest o.split p.text u.split
+          q.text same.1);
       form = (served, p.form, q.form, ap folder_text q.text ∙ s.0 ∙ sym (ap folder_text p.text));
       within = both_pass limited (path_limit (path_names o.w)) (path_limit (path_names u.w)) p.within q.within;
     })
@@ -139,7 +157,9 @@ command_sound limited counts are Move served ws command rest is =
     let p = path_word limited o.w o.passed in
     let q = path_word limited u.w u.passed in
     subst (λ (c : Command). CommandSpelled limited counts Move ws rest c) same.0 (record {
-      words = ap (λ (r : List (List ℕ)). codes "move" ∷ r) (two_spelled o.w u.w (path_text (path_names o.w)) (path_text (path_names u.w)) ws o.others u.others rest o.split p.text u.split q.text same.1);
+      words = ap (λ (r : List (List ℕ)). codes "move" ∷ r)
+          (two_spelled o.w u.w (path_text (path_names o.w)) (path_text (path_names u.w)) ws o.others u.others rest o.split p.text u.split
+          q.text same.1);
       form = (served, p.form, q.form);
       within = both_pass limited (path_limit (path_names o.w)) (path_limit (path_names u.w)) p.within q.within;
     })
@@ -150,29 +170,41 @@ command_sound limited counts are Append served ws command rest is =
     let p = path_word limited o.w o.passed in
     let h = hex_word limited u.w u.passed in
     subst (λ (c : Command). CommandSpelled limited counts Append ws rest c) same.0 (record {
-      words = ap (λ (r : List (List ℕ)). codes "append" ∷ r) (two_spelled o.w u.w (path_text (path_names o.w)) (hex_text (hex_bytes u.w)) ws o.others u.others rest o.split p.text u.split h.text same.1);
+      words = ap (λ (r : List (List ℕ)). codes "append" ∷ r)
+          (two_spelled o.w u.w (path_text (path_names o.w)) (hex_text (hex_bytes u.w)) ws o.others u.others rest o.split p.text u.split
+          h.text same.1);
       form = (served, p.form, h.some, h.small);
       within = both_pass limited (path_limit (path_names o.w)) (block_limit (hex_bytes u.w)) p.within h.within;
     })
 command_sound limited counts are Sweep served ws command rest is =
-    let o = one_word limited layer_fit (λ l. word (number_fit 0 (places_of counts (the_layer l) - 1)) (λ i. done (commands.Sweep (the_layer l) (number_of i)))) ws command rest is in
-    let u = one_word limited (number_fit 0 (places_of counts (the_layer o.w) - 1)) (λ i. done (commands.Sweep (the_layer o.w) (number_of i))) o.others command rest o.reads in
+    let o = one_word limited layer_fit
+        (λ l. word (number_fit 0 (places_of counts (the_layer l) - 1)) (λ i. done (commands.Sweep (the_layer l) (number_of i)))) ws command
+        rest is in
+    let u = one_word limited (number_fit 0 (places_of counts (the_layer o.w) - 1))
+        (λ i. done (commands.Sweep (the_layer o.w) (number_of i))) o.others command rest o.reads in
     let same = got_same (commands.Sweep (the_layer o.w) (number_of u.w)) command u.others rest u.reads in
     let layer = layer_spelled o.w (the_layer o.w) (some_is (layer_of o.w) Names (if_passes limited (is_some (layer_of o.w)) o.passed)) in
     let i = index_word limited (places_of counts (the_layer o.w)) u.w (places_are counts are (the_layer o.w)) u.passed in
     subst (λ (c : Command). CommandSpelled limited counts Sweep ws rest c) same.0 (record {
-      words = ap (λ (r : List (List ℕ)). codes "sweep" ∷ r) (two_spelled o.w u.w (layer_word (the_layer o.w)) (decimal (number_of u.w)) ws o.others u.others rest o.split layer u.split i.0 same.1);
+      words = ap (λ (r : List (List ℕ)). codes "sweep" ∷ r)
+          (two_spelled o.w u.w (layer_word (the_layer o.w)) (decimal (number_of u.w)) ws o.others u.others rest o.split layer u.split i.0
+          same.1);
       form = (served, i.1);
       within = fits_pass limited Fits refl;
     })
 command_sound limited counts are Repair served ws command rest is =
-    let o = one_word limited (number_fit 0 (counts.disks - 1)) (λ d. word (number_fit 0 (counts.blocks - 1)) (λ i. done (commands.Repair (the_disk (number_of d)) (number_of i)))) ws command rest is in
-    let u = one_word limited (number_fit 0 (counts.blocks - 1)) (λ i. done (commands.Repair (the_disk (number_of o.w)) (number_of i))) o.others command rest o.reads in
+    let o = one_word limited (number_fit 0 (counts.disks - 1))
+        (λ d. word (number_fit 0 (counts.blocks - 1)) (λ i. done (commands.Repair (the_disk (number_of d)) (number_of i)))) ws command rest
+        is in
+    let u = one_word limited (number_fit 0 (counts.blocks - 1)) (λ i. done (commands.Repair (the_disk (number_of o.w)) (number_of i)))
+        o.others command rest o.reads in
     let same = got_same (commands.Repair (the_disk (number_of o.w)) (number_of u.w)) command u.others rest u.reads in
     let d = index_word limited counts.disks o.w are.disks o.passed in
     let i = index_word limited counts.blocks u.w are.blocks u.passed in
     subst (λ (c : Command). CommandSpelled limited counts Repair ws rest c) same.0 (record {
-      words = ap (λ (r : List (List ℕ)). codes "repair" ∷ r) (two_spelled o.w u.w (decimal (number_of o.w)) (decimal (number_of u.w)) ws o.others u.others rest o.split d.0 u.split i.0 same.1);
+      words = ap (λ (r : List (List ℕ)). codes "repair" ∷ r)
+          (two_spelled o.w u.w (decimal (number_of o.w)) (decimal (number_of u.w)) ws o.others u.others rest o.split d.0 u.split i.0
+          same.1);
       form = (served, d.1, i.1);
       within = fits_pass limited Fits refl;
     })
@@ -205,23 +237,28 @@ two_pass true (Over limit) b loose p = absurd p
 two_pass false (Over limit) b loose p = (tt, loose)
 two_pass limited Unfit b loose p = absurd p
 
-path_passes : (limited : Bool) (path : List (List ℕ)) → IsPath path → passes limited (path_limit path) → passes limited (path_fit (path_text path))
+path_passes : (limited : Bool) (path : List (List ℕ)) → IsPath path → passes limited (path_limit path)
+    → passes limited (path_fit (path_text path))
 path_passes limited path is p = passes_same limited (path_limit path) (path_fit (path_text path)) (sym (path_fit_of_text path is)) p
 
-on_path_read : (limited : Bool) (counts : Counts) (verb : PathVerb) (path : List (List ℕ)) → IsOnPath verb path → passes limited (path_limit path) → CommandRead limited counts (path_command verb path)
+on_path_read : (limited : Bool) (counts : Counts) (verb : PathVerb) (path : List (List ℕ)) → IsOnPath verb path
+    → passes limited (path_limit path) → CommandRead limited counts (path_command verb path)
 on_path_read limited counts verb path is p = record {
   verb = OnPath verb;
   served = is.0;
   args = path_text path ∷ [];
   words = on_path_words verb path;
-  reads = λ rest. pass_word limited path_fit (λ w. done (path_command verb (path_names w))) (path_text path) rest (path_passes limited path is.1 p)
+  reads = λ rest. pass_word limited path_fit (λ w. done (path_command verb (path_names w))) (path_text path) rest
+      (path_passes limited path is.1 p)
       ∙ ap (λ (names : List (List ℕ)). Got (path_command verb names) rest) (names_of_text path is.1);
 }
 
 number_passes : (limited : Bool) (low high n : ℕ) → n < 2 ^ 64 → low ≤ n → n ≤ high → passes limited (number_fit low high (decimal n))
-number_passes limited low high n small from to = fits_pass limited (number_fit low high (decimal n)) (number_fit_of_text low high n small from to)
+number_passes limited low high n small from to = fits_pass limited (number_fit low high (decimal n))
+    (number_fit_of_text low high n small from to)
 
-pub index_passes : (limited : Bool) (count n : ℕ) → (1 ≤ count) × (count ≤ 64) → n < count → passes limited (number_fit 0 (count - 1) (decimal n))
+pub index_passes : (limited : Bool) (count n : ℕ) → (1 ≤ count) × (count ≤ 64) → n < count
+    → passes limited (number_fit 0 (count - 1) (decimal n))
 index_passes limited count n bound less =
     let low = bound.0 in
     let high = bound.1 in
@@ -233,7 +270,8 @@ layer_read Files = refl
 layer_read Blocks = refl
 layer_read Disks = refl
 
-sweep_read : (limited : Bool) (counts : Counts) → AreCounts counts → (layer : Layer) (index : ℕ) → IsCommand counts (commands.Sweep layer index) → CommandRead limited counts (commands.Sweep layer index)
+sweep_read : (limited : Bool) (counts : Counts) → AreCounts counts → (layer : Layer) (index : ℕ)
+    → IsCommand counts (commands.Sweep layer index) → CommandRead limited counts (commands.Sweep layer index)
 sweep_read limited counts are layer index is =
     let high = (places_are counts are layer).1 in
     let less = is.1 in
@@ -244,13 +282,18 @@ sweep_read limited counts are layer index is =
       served = is.0;
       args = layer_word layer ∷ decimal index ∷ [];
       words = refl;
-      reads = λ rest. pass_word limited layer_fit (λ l. word (number_fit 0 (places_of counts (the_layer l) - 1)) (λ i. done (commands.Sweep (the_layer l) (number_of i)))) (layer_word layer) (decimal index ∷ rest) (fits_pass limited _ fit)
-          ∙ ap (λ (l : Layer). read limited (word (number_fit 0 (places_of counts l - 1)) (λ i. done (commands.Sweep l (number_of i)))) (decimal index ∷ rest)) of
-          ∙ pass_word limited (number_fit 0 (places_of counts layer - 1)) (λ i. done (commands.Sweep layer (number_of i))) (decimal index) rest (index_passes limited (places_of counts layer) index (places_are counts are layer) is.1)
+      reads = λ rest. pass_word limited layer_fit
+          (λ l. word (number_fit 0 (places_of counts (the_layer l) - 1)) (λ i. done (commands.Sweep (the_layer l) (number_of i))))
+          (layer_word layer) (decimal index ∷ rest) (fits_pass limited _ fit)
+          ∙ ap (λ (l : Layer). read limited (word (number_fit 0 (places_of counts l - 1)) (λ i. done (commands.Sweep l (number_of i))))
+              (decimal index ∷ rest)) of
+          ∙ pass_word limited (number_fit 0 (places_of counts layer - 1)) (λ i. done (commands.Sweep layer (number_of i))) (decimal index)
+              rest (index_passes limited (places_of counts layer) index (places_are counts are layer) is.1)
           ∙ ap (λ (n : ℕ). Got (commands.Sweep layer n) rest) (number_of_text index (omega arith));
     }
 
-pub command_complete : (limited : Bool) (counts : Counts) → AreCounts counts → (command : Command) → IsCommand counts command → passes limited (command_limit command) → CommandRead limited counts command
+pub command_complete : (limited : Bool) (counts : Counts) → AreCounts counts → (command : Command) → IsCommand counts command
+    → passes limited (command_limit command) → CommandRead limited counts command
 command_complete limited counts are (commands.Look path) is p = on_path_read limited counts paths.Look path is p
 command_complete limited counts are (commands.List path) is p = on_path_read limited counts paths.List path is p
 command_complete limited counts are (commands.Create path) is p = on_path_read limited counts paths.Create path is p
@@ -264,14 +307,17 @@ command_complete limited counts are (commands.Blocks path) is p = on_path_read l
 command_complete limited counts are (commands.Read path) is p = on_path_read limited counts paths.Read path is p
 command_complete limited counts are (commands.Rename from to) is p =
     let both = two_pass limited (path_limit from) (path_limit to) (names_pass 0 to) p in
-    let sibling = passes_same limited _ _ (sym (sibling_fit_of (path_text from) (path_text to) is.3)) (path_passes limited to is.2 both.1) in
+    let sibling = passes_same limited _ _ (sym (sibling_fit_of (path_text from) (path_text to) is.3)) (path_passes limited to is.2 both.1)
+        in
     record {
       verb = Rename;
       served = is.0;
       args = path_text from ∷ path_text to ∷ [];
       words = refl;
-      reads = λ rest. pass_word limited path_fit (λ p. word (sibling_fit p) (λ q. done (commands.Rename (path_names p) (path_names q)))) (path_text from) (path_text to ∷ rest) (path_passes limited from is.1 both.0)
-          ∙ pass_word limited (sibling_fit (path_text from)) (λ q. done (commands.Rename (path_names (path_text from)) (path_names q))) (path_text to) rest sibling
+      reads = λ rest. pass_word limited path_fit (λ p. word (sibling_fit p) (λ q. done (commands.Rename (path_names p) (path_names q))))
+          (path_text from) (path_text to ∷ rest) (path_passes limited from is.1 both.0)
+          ∙ pass_word limited (sibling_fit (path_text from)) (λ q. done (commands.Rename (path_names (path_text from)) (path_names q)))
+              (path_text to) rest sibling
           ∙ ap (λ (names : List (List ℕ)). Got (commands.Rename names (path_names (path_text to))) rest) (names_of_text from is.1)
           ∙ ap (λ (names : List (List ℕ)). Got (commands.Rename from names) rest) (names_of_text to is.2);
     }
@@ -282,8 +328,10 @@ command_complete limited counts are (commands.Move from to) is p =
       served = is.0;
       args = path_text from ∷ path_text to ∷ [];
       words = refl;
-      reads = λ rest. pass_word limited path_fit (λ p. word path_fit (λ q. done (commands.Move (path_names p) (path_names q)))) (path_text from) (path_text to ∷ rest) (path_passes limited from is.1 both.0)
-          ∙ pass_word limited path_fit (λ q. done (commands.Move (path_names (path_text from)) (path_names q))) (path_text to) rest (path_passes limited to is.2 both.1)
+      reads = λ rest. pass_word limited path_fit (λ p. word path_fit (λ q. done (commands.Move (path_names p) (path_names q))))
+          (path_text from) (path_text to ∷ rest) (path_passes limited from is.1 both.0)
+          ∙ pass_word limited path_fit (λ q. done (commands.Move (path_names (path_text from)) (path_names q))) (path_text to) rest
+              (path_passes limited to is.2 both.1)
           ∙ ap (λ (names : List (List ℕ)). Got (commands.Move names (path_names (path_text to))) rest) (names_of_text from is.1)
           ∙ ap (λ (names : List (List ℕ)). Got (commands.Move from names) rest) (names_of_text to is.2);
     }
@@ -295,7 +343,8 @@ command_complete limited counts are (commands.Append path bytes) is p =
       served = is.0;
       args = path_text path ∷ hex_text bytes ∷ [];
       words = refl;
-      reads = λ rest. pass_word limited path_fit (λ p. word hex_fit (λ h. done (commands.Append (path_names p) (hex_bytes h)))) (path_text path) (hex_text bytes ∷ rest) (path_passes limited path is.1 both.0)
+      reads = λ rest. pass_word limited path_fit (λ p. word hex_fit (λ h. done (commands.Append (path_names p) (hex_bytes h))))
+          (path_text path) (hex_text bytes ∷ rest) (path_passes limited path is.1 both.0)
           ∙ pass_word limited hex_fit (λ h. done (commands.Append (path_names (path_text path)) (hex_bytes h))) (hex_text bytes) rest hex
           ∙ ap (λ (names : List (List ℕ)). Got (commands.Append names (hex_bytes (hex_text bytes))) rest) (names_of_text path is.1)
           ∙ ap (λ (bs : List ℕ). Got (commands.Append path bs) rest) (bytes_of_text bytes is.3).1;
@@ -311,8 +360,12 @@ command_complete limited counts are (commands.Repair disk index) is p =
       served = is.0;
       args = decimal disk.0 ∷ decimal index ∷ [];
       words = refl;
-      reads = λ rest. pass_word limited (number_fit 0 (counts.disks - 1)) (λ d. word (number_fit 0 (counts.blocks - 1)) (λ i. done (commands.Repair (the_disk (number_of d)) (number_of i)))) (decimal disk.0) (decimal index ∷ rest) (index_passes limited counts.disks disk.0 are.disks is.1)
-          ∙ pass_word limited (number_fit 0 (counts.blocks - 1)) (λ i. done (commands.Repair (the_disk (number_of (decimal disk.0))) (number_of i))) (decimal index) rest (index_passes limited counts.blocks index are.blocks is.2)
+      reads = λ rest. pass_word limited (number_fit 0 (counts.disks - 1))
+          (λ d. word (number_fit 0 (counts.blocks - 1)) (λ i. done (commands.Repair (the_disk (number_of d)) (number_of i))))
+          (decimal disk.0) (decimal index ∷ rest) (index_passes limited counts.disks disk.0 are.disks is.1)
+          ∙ pass_word limited (number_fit 0 (counts.blocks - 1))
+              (λ i. done (commands.Repair (the_disk (number_of (decimal disk.0))) (number_of i))) (decimal index) rest
+              (index_passes limited counts.blocks index are.blocks is.2)
           ∙ ap (λ (n : ℕ). Got (commands.Repair (the_disk n) (number_of (decimal index))) rest) (number_of_text disk.0 (omega arith))
           ∙ ap (λ (n : ℕ). Got (commands.Repair disk n) rest) (number_of_text index (omega arith));
     }
@@ -323,8 +376,15 @@ command_complete limited counts are (commands.Lose disk) is p = absurd is
 
 pub command_alive : (limited : Bool) (counts : Counts) → AreCounts counts → (verb : Verb) → IsAlive limited (command_form counts verb)
 command_alive limited counts are (OnPath verb) = ((47 ∷ [], fits_pass limited Fits refl), λ w p. tt)
-command_alive limited counts are Rename = ((47 ∷ [], fits_pass limited Fits refl), λ w p. ((w, passes_same limited _ _ (sym (sibling_fit_of w w refl)) p), λ v q. tt))
+command_alive limited counts are Rename =
+    ((47 ∷ [], fits_pass limited Fits refl), λ w p. ((w, passes_same limited _ _ (sym (sibling_fit_of w w refl)) p), λ v q. tt))
 command_alive limited counts are Move = ((47 ∷ [], fits_pass limited Fits refl), λ w p. ((47 ∷ [], fits_pass limited Fits refl), λ v q. tt))
-command_alive limited counts are Append = ((47 ∷ [], fits_pass limited Fits refl), λ w p. ((codes "00", fits_pass limited Fits refl), λ v q. tt))
-command_alive limited counts are Sweep = ((codes "name", fits_pass limited Fits refl), λ w p. ((decimal 0, index_passes limited (places_of counts (the_layer w)) 0 (places_are counts are (the_layer w)) (let low = (places_are counts are (the_layer w)).0 in omega arith)), λ v q. tt))
-command_alive limited counts are Repair = ((decimal 0, index_passes limited counts.disks 0 are.disks (let low = are.disks.0 in omega arith)), λ w p. ((decimal 0, index_passes limited counts.blocks 0 are.blocks (let low = are.blocks.0 in omega arith)), λ v q. tt))
+command_alive limited counts are Append =
+    ((47 ∷ [], fits_pass limited Fits refl), λ w p. ((codes "00", fits_pass limited Fits refl), λ v q. tt))
+command_alive limited counts are Sweep =
+    ((codes "name", fits_pass limited Fits refl), λ w
+    p. ((decimal 0, index_passes limited (places_of counts (the_layer w)) 0 (places_are counts are (the_layer w))
+    (let low = (places_are counts are (the_layer w)).0 in omega arith)), λ v q. tt))
+command_alive limited counts are Repair =
+    ((decimal 0, index_passes limited counts.disks 0 are.disks (let low = are.disks.0 in omega arith)), λ w
+    p. ((decimal 0, index_passes limited counts.blocks 0 are.blocks (let low = are.blocks.0 in omega arith)), λ v q. tt))

@@ -33,7 +33,8 @@ pub wrong_large : {A B : Type 0} (l : Limit) (v w : List (List ℕ)) → wrong A
 wrong_large l v w e = absurd cc
 
 -- a word that fits is passed, whether limits count or not
-read_on : {A : Type 0} (limited : Bool) (fit : List ℕ → Fit) (next : List ℕ → Form A) (w : List ℕ) (ws : List (List ℕ)) → fit w ≡ Fits → read limited (word fit next) (w ∷ ws) ≡ read limited (next w) ws
+read_on : {A : Type 0} (limited : Bool) (fit : List ℕ → Fit) (next : List ℕ → Form A) (w : List ℕ) (ws : List (List ℕ)) → fit w ≡ Fits
+    → read limited (word fit next) (w ∷ ws) ≡ read limited (next w) ws
 read_on limited fit next w ws is = rw is refl
 
 -- the words that a value took, whatever stands behind them
@@ -42,7 +43,9 @@ pub record Taken {A : Type 0} (f : Form A) (ws : List (List ℕ)) (value : A) (r
   pub split : ws ≡ front ++ rest
   pub again : (limited : Bool) (more : List (List ℕ)) → read limited f (front ++ more) ≡ Got value more
 
-taken_by : {A : Type 0} (fit : List ℕ → Fit) (next : List ℕ → Form A) (w : List ℕ) (ws : List (List ℕ)) (value : A) (rest : List (List ℕ)) (k : Fit) → fit w ≡ k → by_fit true k (w ∷ ws) (read true (next w) ws) ≡ Got value rest → (read true (next w) ws ≡ Got value rest → Taken (next w) ws value rest) → Taken (word fit next) (w ∷ ws) value rest
+taken_by : {A : Type 0} (fit : List ℕ → Fit) (next : List ℕ → Form A) (w : List ℕ) (ws : List (List ℕ)) (value : A) (rest : List (List ℕ))
+    (k : Fit) → fit w ≡ k → by_fit true k (w ∷ ws) (read true (next w) ws) ≡ Got value rest
+    → (read true (next w) ws ≡ Got value rest → Taken (next w) ws value rest) → Taken (word fit next) (w ∷ ws) value rest
 taken_by fit next w ws value rest Fits e is more =
     let t = more is in
     record {
@@ -53,7 +56,8 @@ taken_by fit next w ws value rest Fits e is more =
 taken_by fit next w ws value rest (Over limit) e is more = got_large value limit rest (w ∷ ws) (sym is)
 taken_by fit next w ws value rest Unfit e is more = got_wrong value rest (w ∷ ws) (sym is)
 
-pub taken : {A : Type 0} (f : Form A) (ws : List (List ℕ)) (value : A) (rest : List (List ℕ)) → read true f ws ≡ Got value rest → Taken f ws value rest
+pub taken : {A : Type 0} (f : Form A) (ws : List (List ℕ)) (value : A) (rest : List (List ℕ)) → read true f ws ≡ Got value rest
+    → Taken f ws value rest
 taken (done a) ws value rest is =
     let same = got_same a value ws rest is in
     record { front = []; split = same.1; again = λ limited more. ap (λ v. Got v more) same.0 }
@@ -78,7 +82,8 @@ filled limited (done value) alive = record { words = []; value = value; reads = 
 filled limited (word fit next) alive =
     let w = alive.0.0 in
     let more = filled limited (next w) (alive.1 w alive.0.1) in
-    record { words = w ∷ more.words; value = more.value; reads = by_passing limited (fit w) (w ∷ more.words) (read limited (next w) more.words) alive.0.1 ∙ more.reads }
+    record { words = w ∷ more.words; value = more.value;
+        reads = by_passing limited (fit w) (w ∷ more.words) (read limited (next w) more.words) alive.0.1 ∙ more.reads }
 
 -- ---- the first wrong word
 
@@ -95,11 +100,13 @@ pub record FirstWrong {A : Type 0} (f : Form A) (ws rest : List (List ℕ)) : Ty
   pub begins : read true f (front ++ more) ≡ Got value []
   pub dead : IsDeadEnd f front rest
 
-dead_on : {A : Type 0} (fit : List ℕ → Fit) (next : List ℕ → Form A) (v : List ℕ) (front rest : List (List ℕ)) → fit v ≡ Fits → IsDeadEnd (next v) front rest → IsDeadEnd (word fit next) (v ∷ front) rest
+dead_on : {A : Type 0} (fit : List ℕ → Fit) (next : List ℕ → Form A) (v : List ℕ) (front rest : List (List ℕ)) → fit v ≡ Fits
+    → IsDeadEnd (next v) front rest → IsDeadEnd (word fit next) (v ∷ front) rest
 dead_on fit next v front [] e dead = λ limited. read_on limited fit next v front e ∙ dead limited
 dead_on fit next v front (w ∷ others) e dead = λ limited more. read_on limited fit next v (front ++ w ∷ more) e ∙ dead limited more
 
-unfit_dead : {A : Type 0} (fit : List ℕ → Fit) (next : List ℕ → Form A) (w : List ℕ) (limited : Bool) (more : List (List ℕ)) → fit w ≡ Unfit → read limited (word fit next) (w ∷ more) ≡ Wrong (w ∷ more)
+unfit_dead : {A : Type 0} (fit : List ℕ → Fit) (next : List ℕ → Form A) (w : List ℕ) (limited : Bool) (more : List (List ℕ)) → fit w ≡ Unfit
+    → read limited (word fit next) (w ∷ more) ≡ Wrong (w ∷ more)
 unfit_dead fit next w limited more is = rw is refl
 
 pub fits_pass : (limited : Bool) (k : Fit) → k ≡ Fits → passes limited k
@@ -107,7 +114,9 @@ fits_pass limited Fits is = tt
 fits_pass limited (Over limit) is = absurd cc
 fits_pass limited Unfit is = absurd cc
 
-first_by : {A : Type 0} (fit : List ℕ → Fit) (next : List ℕ → Form A) (w : List ℕ) (ws rest : List (List ℕ)) (k : Fit) → fit w ≡ k → Filled true (word fit next) → by_fit true k (w ∷ ws) (read true (next w) ws) ≡ Wrong rest → (fit w ≡ Fits → read true (next w) ws ≡ Wrong rest → FirstWrong (next w) ws rest) → FirstWrong (word fit next) (w ∷ ws) rest
+first_by : {A : Type 0} (fit : List ℕ → Fit) (next : List ℕ → Form A) (w : List ℕ) (ws rest : List (List ℕ)) (k : Fit) → fit w ≡ k
+    → Filled true (word fit next) → by_fit true k (w ∷ ws) (read true (next w) ws) ≡ Wrong rest
+    → (fit w ≡ Fits → read true (next w) ws ≡ Wrong rest → FirstWrong (next w) ws rest) → FirstWrong (word fit next) (w ∷ ws) rest
 first_by fit next w ws rest Fits e some is more =
     let f = more e is in
     record {
@@ -121,7 +130,8 @@ first_by fit next w ws rest Fits e some is more =
 first_by fit next w ws rest (Over limit) e some is more = wrong_large limit rest (w ∷ ws) (sym is)
 first_by fit next w ws rest Unfit e some is more =
     subst (λ (vs : List (List ℕ)). FirstWrong (word fit next) (w ∷ ws) vs) (wrong_same (w ∷ ws) rest is)
-    (record { front = []; split = refl; more = some.words; value = some.value; begins = some.reads; dead = λ limited behind. unfit_dead fit next w limited behind e })
+    (record { front = []; split = refl; more = some.words; value = some.value; begins = some.reads;
+        dead = λ limited behind. unfit_dead fit next w limited behind e })
 
 pub first_wrong : {A : Type 0} (f : Form A) (ws rest : List (List ℕ)) → IsAlive true f → read true f ws ≡ Wrong rest → FirstWrong f ws rest
 first_wrong (done value) ws rest alive is = got_wrong value ws rest is
@@ -130,7 +140,8 @@ first_wrong (word fit next) [] rest alive is =
     subst (λ (vs : List (List ℕ)). FirstWrong (word fit next) [] vs) (wrong_same [] rest is)
     (record { front = []; split = refl; more = some.words; value = some.value; begins = some.reads; dead = λ limited. refl })
 first_wrong (word fit next) (w ∷ ws) rest alive is =
-    first_by fit next w ws rest (fit w) refl (filled true (word fit next) alive) is (λ e h. first_wrong (next w) ws rest (alive.1 w (fits_pass true (fit w) e)) h)
+    first_by fit next w ws rest (fit w) refl (filled true (word fit next) alive) is
+        (λ e h. first_wrong (next w) ws rest (alive.1 w (fits_pass true (fit w) e)) h)
 
 -- ---- the first word that is too large
 
@@ -151,10 +162,12 @@ pub record FirstLarge {A : Type 0} (f : Form A) (ws : List (List ℕ)) (limit : 
   -- whatever stands behind it, this word is over the limit
   pub over : (behind : List (List ℕ)) → read true f (front ++ w ∷ behind) ≡ Large limit (w ∷ behind)
 
-over_large : {A : Type 0} (fit : List ℕ → Fit) (next : List ℕ → Form A) (w : List ℕ) (limit : Limit) (more : List (List ℕ)) → fit w ≡ Over limit → read true (word fit next) (w ∷ more) ≡ Large limit (w ∷ more)
+over_large : {A : Type 0} (fit : List ℕ → Fit) (next : List ℕ → Form A) (w : List ℕ) (limit : Limit) (more : List (List ℕ))
+    → fit w ≡ Over limit → read true (word fit next) (w ∷ more) ≡ Large limit (w ∷ more)
 over_large fit next w limit more is = rw is refl
 
-over_on : {A : Type 0} (fit : List ℕ → Fit) (next : List ℕ → Form A) (w : List ℕ) (limit : Limit) (more : List (List ℕ)) → fit w ≡ Over limit → read false (word fit next) (w ∷ more) ≡ read false (next w) more
+over_on : {A : Type 0} (fit : List ℕ → Fit) (next : List ℕ → Form A) (w : List ℕ) (limit : Limit) (more : List (List ℕ))
+    → fit w ≡ Over limit → read false (word fit next) (w ∷ more) ≡ read false (next w) more
 over_on fit next w limit more is = rw is refl
 
 pub over_passes : (limit : Limit) (k : Fit) → k ≡ Over limit → passes false k
@@ -162,8 +175,11 @@ over_passes limit Fits is = tt
 over_passes limit (Over other) is = tt
 over_passes limit Unfit is = absurd cc
 
-large_by : {A : Type 0} (fit : List ℕ → Fit) (next : List ℕ → Form A) (w : List ℕ) (ws : List (List ℕ)) (limit : Limit) (rest : List (List ℕ)) (k : Fit) → fit w ≡ k → Filled true (word fit next) → IsAlive false (word fit next) →
-    by_fit true k (w ∷ ws) (read true (next w) ws) ≡ Large limit rest → (fit w ≡ Fits → read true (next w) ws ≡ Large limit rest → FirstLarge (next w) ws limit rest) → FirstLarge (word fit next) (w ∷ ws) limit rest
+large_by : {A : Type 0} (fit : List ℕ → Fit) (next : List ℕ → Form A) (w : List ℕ) (ws : List (List ℕ)) (limit : Limit)
+    (rest : List (List ℕ)) (k : Fit) → fit w ≡ k → Filled true (word fit next) → IsAlive false (word fit next) →
+    by_fit true k (w ∷ ws) (read true (next w) ws) ≡ Large limit rest
+        → (fit w ≡ Fits → read true (next w) ws ≡ Large limit rest → FirstLarge (next w) ws limit rest)
+        → FirstLarge (word fit next) (w ∷ ws) limit rest
 large_by fit next w ws limit rest Fits e some loose is more =
     let f = more e is in
     record {
@@ -200,7 +216,8 @@ large_by fit next w ws limit rest (Over over) e some loose is more =
     }
 large_by fit next w ws limit rest Unfit e some loose is more = wrong_large limit (w ∷ ws) rest is
 
-pub first_large : {A : Type 0} (f : Form A) (ws : List (List ℕ)) (limit : Limit) (rest : List (List ℕ)) → IsAlive true f → IsAlive false f → read true f ws ≡ Large limit rest → FirstLarge f ws limit rest
+pub first_large : {A : Type 0} (f : Form A) (ws : List (List ℕ)) (limit : Limit) (rest : List (List ℕ)) → IsAlive true f → IsAlive false f
+    → read true f ws ≡ Large limit rest → FirstLarge f ws limit rest
 first_large (done value) ws limit rest alive loose is = got_large value limit ws rest is
 first_large (word fit next) [] limit rest alive loose is = wrong_large limit [] rest is
 first_large (word fit next) (w ∷ ws) limit rest alive loose is =
@@ -209,22 +226,29 @@ first_large (word fit next) (w ∷ ws) limit rest alive loose is =
 
 -- ---- one word
 
-pub record TakesOne {A : Type 0} (limited : Bool) (fit : List ℕ → Fit) (next : List ℕ → Form A) (ws : List (List ℕ)) (value : A) (rest : List (List ℕ)) : Type 0 where
+pub record TakesOne {A : Type 0} (limited : Bool) (fit : List ℕ → Fit) (next : List ℕ → Form A) (ws : List (List ℕ)) (value : A)
+    (rest : List (List ℕ)) : Type 0 where
   pub w : List ℕ
   pub others : List (List ℕ)
   pub split : ws ≡ w ∷ others
   pub passed : passes limited (fit w)
   pub reads : read limited (next w) others ≡ Got value rest
 
-one_by : {A : Type 0} (limited : Bool) (fit : List ℕ → Fit) (next : List ℕ → Form A) (w : List ℕ) (ws : List (List ℕ)) (value : A) (rest : List (List ℕ)) (k : Fit) → fit w ≡ k → by_fit limited k (w ∷ ws) (read limited (next w) ws) ≡ Got value rest → TakesOne limited fit next (w ∷ ws) value rest
-one_by limited fit next w ws value rest Fits e is = record { w = w; others = ws; split = refl; passed = fits_pass limited (fit w) e; reads = is }
+one_by : {A : Type 0} (limited : Bool) (fit : List ℕ → Fit) (next : List ℕ → Form A) (w : List ℕ) (ws : List (List ℕ)) (value : A)
+    (rest : List (List ℕ)) (k : Fit) → fit w ≡ k → by_fit limited k (w ∷ ws) (read limited (next w) ws) ≡ Got value rest
+    → TakesOne limited fit next (w ∷ ws) value rest
+one_by limited fit next w ws value rest Fits e is = record
+    { w = w; others = ws; split = refl; passed = fits_pass limited (fit w) e; reads = is }
 one_by true fit next w ws value rest (Over limit) e is = got_large value limit rest (w ∷ ws) (sym is)
-one_by false fit next w ws value rest (Over limit) e is = record { w = w; others = ws; split = refl; passed = over_passes limit (fit w) e; reads = is }
+one_by false fit next w ws value rest (Over limit) e is = record
+    { w = w; others = ws; split = refl; passed = over_passes limit (fit w) e; reads = is }
 one_by limited fit next w ws value rest Unfit e is = got_wrong value rest (w ∷ ws) (sym is)
 
-pub one_word : {A : Type 0} (limited : Bool) (fit : List ℕ → Fit) (next : List ℕ → Form A) (ws : List (List ℕ)) (value : A) (rest : List (List ℕ)) → read limited (word fit next) ws ≡ Got value rest → TakesOne limited fit next ws value rest
+pub one_word : {A : Type 0} (limited : Bool) (fit : List ℕ → Fit) (next : List ℕ → Form A) (ws : List (List ℕ)) (value : A)
+    (rest : List (List ℕ)) → read limited (word fit next) ws ≡ Got value rest → TakesOne limited fit next ws value rest
 one_word limited fit next [] value rest is = got_wrong value rest [] (sym is)
 one_word limited fit next (w ∷ ws) value rest is = one_by limited fit next w ws value rest (fit w) refl is
 
-pub pass_word : {A : Type 0} (limited : Bool) (fit : List ℕ → Fit) (next : List ℕ → Form A) (w : List ℕ) (ws : List (List ℕ)) → passes limited (fit w) → read limited (word fit next) (w ∷ ws) ≡ read limited (next w) ws
+pub pass_word : {A : Type 0} (limited : Bool) (fit : List ℕ → Fit) (next : List ℕ → Form A) (w : List ℕ) (ws : List (List ℕ))
+    → passes limited (fit w) → read limited (word fit next) (w ∷ ws) ≡ read limited (next w) ws
 pass_word limited fit next w ws p = by_passing limited (fit w) (w ∷ ws) (read limited (next w) ws) p

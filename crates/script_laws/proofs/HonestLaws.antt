@@ -1,5 +1,6 @@
 -- A word that is over a limit passes that very limit.
-use Rattle.std.proofs.Common.{◌≡◌, ℕ, ◌-◌, Bool, true, false, ◌&&◌, nat_lt, nat_le, List, [], ◌∷◌, length, refl, sym, ap, subst, ◌∙◌, inl, inr, is_some}
+use Rattle.std.proofs.Common.{◌≡◌, ℕ, ◌-◌, Bool, true, false, ◌&&◌, nat_lt, nat_le, List, [], ◌∷◌, length, refl, sym, ap, subst, ◌∙◌, inl,
+    inr, is_some}
 use Rattle.std.specs.Prelude.{codes, unwrap_or}
 use Rattle.std.specs.Str.{bytes_eq}
 use Rattle.std.proofs.lemmas.Bool.{cases_Bool, ltb-true}
@@ -7,7 +8,8 @@ use Rattle.script_words.specs.declared.limits.Limit.{Limit}
 use Rattle.script_words.specs.declared.limits.Limit.TheVariants as limits
 use Rattle.script_words.specs.declared.limits.Fit.{Fit}
 use Rattle.script_words.specs.declared.limits.Fit.TheVariants.{Fits, Over, Unfit}
-use Rattle.script_words.specs.WordForm.{is_path_form, path_fit, folder_text, sibling_fit, are_hex_pairs, hex_fit, is_numeral, number_of, number_fit, is_client_name}
+use Rattle.script_words.specs.WordForm.{is_path_form, path_fit, folder_text, sibling_fit, are_hex_pairs, hex_fit, is_numeral, number_of,
+    number_fit, is_client_name}
 use Rattle.script_words.proofs.Apart.{both}
 use Rattle.tect_ids.specs.declared.ids.Counts.{Counts}
 use Rattle.tect_ids.specs.declared.script.Act.TheVariants.{Do, Begin}
@@ -21,7 +23,8 @@ use Rattle.script_forms.specs.declared.verbs.WorldVerb.{WorldVerb}
 use Rattle.script_forms.specs.declared.verbs.WorldVerb.TheVariants as worlds
 use Rattle.script_forms.specs.Form.{Form, done, word, Large, by_fit, read, and_then}
 use Rattle.script_forms.specs.Verbs.{served_verb, act_word_of, served_world}
-use Rattle.script_forms.specs.Grammar.{fits_if, the_layer, places_of, command_form, the_verb, any_command, act_behind, the_act_word, act_form, world_behind, client_form, behind_first, line_form}
+use Rattle.script_forms.specs.Grammar.{fits_if, the_layer, places_of, command_form, the_verb, any_command, act_behind, the_act_word,
+    act_form, world_behind, client_form, behind_first, line_form}
 use Rattle.script_forms.specs.FirstWrong.{PassesLimit}
 use Rattle.script_laws.proofs.FormLaws.{got_large, large_same, wrong_large}
 
@@ -29,18 +32,23 @@ abbrev pub IsHonest : {A : Type 0} → Form A → Type 0
 IsHonest (done value) = Unit {0}
 IsHonest (word fit next) = ((w : List ℕ) (limit : Limit) → fit w ≡ Over limit → PassesLimit w limit) × ((w : List ℕ) → IsHonest (next w))
 
-honest_by : {A : Type 0} (fit : List ℕ → Fit) (next : List ℕ → Form A) (w : List ℕ) (ws : List (List ℕ)) (limit : Limit) (rest : List (List ℕ)) (k : Fit) → fit w ≡ k → ((v : List ℕ) (l : Limit) → fit v ≡ Over l → PassesLimit v l) → by_fit true k (w ∷ ws) (read true (next w) ws) ≡ Large limit rest →
-    (read true (next w) ws ≡ Large limit rest → (v : List ℕ) × (others : List (List ℕ)) × (rest ≡ v ∷ others) × PassesLimit v limit) → (v : List ℕ) × (others : List (List ℕ)) × (rest ≡ v ∷ others) × PassesLimit v limit
+honest_by : {A : Type 0} (fit : List ℕ → Fit) (next : List ℕ → Form A) (w : List ℕ) (ws : List (List ℕ)) (limit : Limit)
+    (rest : List (List ℕ)) (k : Fit) → fit w ≡ k → ((v : List ℕ) (l : Limit) → fit v ≡ Over l → PassesLimit v l)
+    → by_fit true k (w ∷ ws) (read true (next w) ws) ≡ Large limit rest →
+    (read true (next w) ws ≡ Large limit rest → (v : List ℕ) × (others : List (List ℕ)) × (rest ≡ v ∷ others) × PassesLimit v limit)
+        → (v : List ℕ) × (others : List (List ℕ)) × (rest ≡ v ∷ others) × PassesLimit v limit
 honest_by fit next w ws limit rest Fits e honest is more = more is
 honest_by fit next w ws limit rest (Over over) e honest is more =
     let same = large_same over limit (w ∷ ws) rest is in
     (w, ws, sym same.1, honest w limit (e ∙ ap (λ (l : Limit). Over l) same.0))
 honest_by fit next w ws limit rest Unfit e honest is more = wrong_large limit (w ∷ ws) rest is
 
-pub honest_large : {A : Type 0} (f : Form A) (ws : List (List ℕ)) (limit : Limit) (rest : List (List ℕ)) → IsHonest f → read true f ws ≡ Large limit rest → (v : List ℕ) × (others : List (List ℕ)) × (rest ≡ v ∷ others) × PassesLimit v limit
+pub honest_large : {A : Type 0} (f : Form A) (ws : List (List ℕ)) (limit : Limit) (rest : List (List ℕ)) → IsHonest f
+    → read true f ws ≡ Large limit rest → (v : List ℕ) × (others : List (List ℕ)) × (rest ≡ v ∷ others) × PassesLimit v limit
 honest_large (done value) ws limit rest honest is = got_large value limit ws rest is
 honest_large (word fit next) [] limit rest honest is = wrong_large limit [] rest is
-honest_large (word fit next) (w ∷ ws) limit rest honest is = honest_by fit next w ws limit rest (fit w) refl honest.0 is (λ h. honest_large (next w) ws limit rest (honest.1 w) h)
+honest_large (word fit next) (w ∷ ws) limit rest honest is = honest_by fit next w ws limit rest (fit w) refl honest.0 is
+    (λ h. honest_large (next w) ws limit rest (honest.1 w) h)
 
 honest_then : {A B : Type 0} (f : Form A) (go : A → Form B) → IsHonest f → ((a : A) → IsHonest (go a)) → IsHonest (and_then f go)
 honest_then (done a) go honest each = each a
@@ -76,7 +84,9 @@ over_same k l e = cc
 hex_over : (w : List ℕ) (limit : Limit) → hex_fit w ≡ Over limit → PassesLimit w limit
 hex_over w limit is = elim (cases_Bool (nat_lt 0 (length w) && are_hex_pairs w)) [
   | inl hit ↦ elim (cases_Bool (nat_lt 65536 (length w))) [
-    | inl long ↦ inr ((both (nat_lt 0 (length w)) (are_hex_pairs w) hit).1, ltb-true 65536 (length w) long, sym (over_same limits.Block limit (rw (hit, long) at is)))
+    | inl long ↦ inr
+        ((both (nat_lt 0 (length w)) (are_hex_pairs w) hit).1, ltb-true 65536 (length w) long, sym
+        (over_same limits.Block limit (rw (hit, long) at is)))
     | inr short ↦ fits_over (hex_fit w) limit (rw (hit, short) refl) is
   ]
   | inr miss ↦ unfit_over (hex_fit w) limit (rw miss refl) is
@@ -106,8 +116,10 @@ any_honest : (counts : Counts) → IsHonest (any_command counts)
 any_honest counts = ((λ w limit is. if_over (is_some (served_verb w)) w limit is), λ w. command_honest counts (the_verb w))
 
 act_behind_honest : (counts : Counts) (a : ActWord) → IsHonest (act_behind counts a)
-act_behind_honest counts (words.Do verb) = honest_then (command_form counts verb) (λ command. done (Do command)) (command_honest counts verb) (λ command. tt)
-act_behind_honest counts words.Begin = honest_then (any_command counts) (λ command. done (Begin command)) (any_honest counts) (λ command. tt)
+act_behind_honest counts (words.Do verb) = honest_then (command_form counts verb) (λ command. done (Do command))
+    (command_honest counts verb) (λ command. tt)
+act_behind_honest counts words.Begin = honest_then (any_command counts) (λ command. done (Begin command)) (any_honest counts)
+    (λ command. tt)
 act_behind_honest counts words.Step = (number_over 1 65535, λ w. tt)
 act_behind_honest counts words.Run = tt
 act_behind_honest counts words.Stop = tt
@@ -123,7 +135,8 @@ world_honest counts worlds.Dump = tt
 behind_honest : (counts : Counts) (number : List ℕ → ℕ) (w : List ℕ) → IsHonest (behind_first counts number w)
 behind_honest counts number w = elim (cases_Bool (is_client_name w)) [
   | inl hit ↦ (let e : behind_first counts number w ≡ client_form counts w (number w) = rw hit refl in
-      subst (λ (f : Form Line). IsHonest f) (sym e) (honest_then (act_form counts) (λ act. done (lines.Client w (number w) act)) (act_honest counts) (λ act. tt)))
+      subst (λ (f : Form Line). IsHonest f) (sym e)
+          (honest_then (act_form counts) (λ act. done (lines.Client w (number w) act)) (act_honest counts) (λ act. tt)))
   | inr miss ↦ (let e : behind_first counts number w ≡ world_behind counts (unwrap_or (served_world w) worlds.Dump) = rw miss refl in
       subst (λ (f : Form Line). IsHonest f) (sym e) (world_honest counts (unwrap_or (served_world w) worlds.Dump)))
 ]

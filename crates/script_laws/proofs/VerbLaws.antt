@@ -28,7 +28,8 @@ pub some_is : {A : Type 0} (o : Option A) (d : A) → is_some o ≡ true → o �
 some_is None d is = absurd (false≢true is)
 some_is (Some x) d is = refl
 
-pub pick_case : {X P : Type 0} (w text : List ℕ) (x v : X) (rest : Option X) → (if bytes_eq w text then Some x else rest) ≡ Some v → (w ≡ text → x ≡ v → P) → (rest ≡ Some v → P) → P
+pub pick_case : {X P : Type 0} (w text : List ℕ) (x v : X) (rest : Option X) → (if bytes_eq w text then Some x else rest) ≡ Some v
+    → (w ≡ text → x ≡ v → P) → (rest ≡ Some v → P) → P
 pick_case w text x v rest is here later = elim (cases_Bool (bytes_eq w text)) [
   | inl hit ↦ here ((bytes_eq-Decides w text).0 hit) (some_same x v (rw hit at is))
   | inr miss ↦ later (rw miss at is)
@@ -37,7 +38,8 @@ pick_case w text x v rest is here later = elim (cases_Bool (bytes_eq w text)) [
 -- ---- tables
 
 module _ {X : Type 0} (table : X → List ℕ × Bool) where
-  row_spelled : (w : List ℕ) (x v : X) → w ≡ (table x).0 → (if (table x).1 then Some x else None) ≡ Some v → (w ≡ (table v).0) × ((table v).1 ≡ true)
+  row_spelled : (w : List ℕ) (x v : X) → w ≡ (table x).0 → (if (table x).1 then Some x else None) ≡ Some v → (w ≡ (table v).0)
+      × ((table v).1 ≡ true)
   row_spelled w x v word is = elim (cases_Bool (table x).1) [
     | inl served ↦
         let same : x ≡ v = some_same x v (rw served at is) in

@@ -1,5 +1,6 @@
 -- The words of a line have no spaces, so that the line's parts are its words.
-use Rattle.std.proofs.Common.{◌≡◌, ℕ, ◌/◌, ◌%◌, ◌<◌, ◌^◌, Bool, true, false, not, ◌&&◌, ◌||◌, nat_le, nat_lt, ◌==◌, List, [], ◌∷◌, ◌++◌, length, refl, sym, ap, ◌∙◌, arith, tests}
+use Rattle.std.proofs.Common.{◌≡◌, ℕ, ◌/◌, ◌%◌, ◌<◌, ◌^◌, Bool, true, false, not, ◌&&◌, ◌||◌, nat_le, nat_lt, ◌==◌, List, [], ◌∷◌, ◌++◌,
+    length, refl, sym, ap, ◌∙◌, arith, tests}
 use Rattle.std.specs.List.{list_all, AllByRecursion, join_with_byte}
 use Rattle.std.specs.Fmt.{decimal}
 use Rattle.std.proofs.lemmas.Bool.{leb-true, le-leb, ne_eqb}
@@ -62,7 +63,8 @@ digit_visible : (b : ℕ) → is_digit b ≡ true → is_visible b ≡ true
 digit_visible b is = let low = leb-true 48 b (both (nat_le 48 b) (nat_le b 57) is).0 in le-leb 33 b (omega arith)
 
 number_visible : (n : ℕ) → n < 2 ^ 64 → IsVisible (decimal n)
-number_visible n small = all_weaker is_digit digit_visible (decimal n) (both (nat_lt 0 (length (decimal n))) (list_all is_digit (decimal n)) (both _ _ (number_text_form n small)).0).1
+number_visible n small = all_weaker is_digit digit_visible (decimal n)
+    (both (nat_lt 0 (length (decimal n))) (list_all is_digit (decimal n)) (both _ _ (number_text_form n small)).0).1
 
 hex_digit_visible : (n : ℕ) → is_visible (hex_digit n) ≡ true
 hex_digit_visible n = grind (arith, tests)
@@ -132,7 +134,10 @@ store_visible counts are =
     let b = are.blocks.1 in
     let d = are.disks.1 in
     let c = are.copies.1 in
-    (refl, (number_visible counts.names (omega arith), (number_visible counts.files (omega arith), (number_visible counts.blocks (omega arith), (number_visible counts.disks (omega arith), (number_visible counts.copies (omega arith), tt))))))
+    (refl, (number_visible counts.names (omega arith),
+        (number_visible counts.files (omega arith),
+        (number_visible counts.blocks (omega arith),
+        (number_visible counts.disks (omega arith), (number_visible counts.copies (omega arith), tt))))))
 
 -- ---- words and their line
 
@@ -142,7 +147,8 @@ visible_apart b is = let low = leb-true 33 b is in ne_eqb b 32 (λ e. omega (ari
 -- words without spaces are the parts of their line
 pub parts_spaced : (w : List ℕ) (ws : List (List ℕ)) → AreVisible (w ∷ ws) → parts 32 (spaced (w ∷ ws)) ≡ w ∷ ws
 parts_spaced w [] are = rw (append-nil w) (parts_one 32 is_visible visible_apart w are.0)
-parts_spaced w (next ∷ ws) are = parts_first 32 is_visible visible_apart refl w (spaced (next ∷ ws)) are.0 ∙ ap (λ (ps : List (List ℕ)). w ∷ ps) (parts_spaced next ws are.1)
+parts_spaced w (next ∷ ws) are = parts_first 32 is_visible visible_apart refl w (spaced (next ∷ ws)) are.0 ∙ ap
+    (λ (ps : List (List ℕ)). w ∷ ps) (parts_spaced next ws are.1)
 
 spaced_join : (w : List ℕ) (ws : List (List ℕ)) → spaced (w ∷ ws) ≡ join_with_byte 32 (w ∷ ws)
 spaced_join w [] = append-nil w

@@ -16,11 +16,13 @@ module _ {A B : Type 0} (g : A → B) (f : Form A) (old new : List (List ℕ)) w
   pub mapped_ok : (a : A) → read true f old ≡ Got a new → read true (and_then f (λ a. done (g a))) old ≡ Got (g a) new
   mapped_ok a is = read-map g true f old ∙ ap (λ o. map_outcome g o) is
 
-  pub mapped_err : (fault : LineFault) → Gives (failed A fault) new (read true f old) → Gives (failed B fault) new (read true (and_then f (λ a. done (g a))) old)
+  pub mapped_err : (fault : LineFault) → Gives (failed A fault) new (read true f old)
+      → Gives (failed B fault) new (read true (and_then f (λ a. done (g a))) old)
   mapped_err faults.NoMemory is = tt
   mapped_err (faults.Wrong bytes) (words, is, size) = (words, read-map g true f old ∙ ap (λ o. map_outcome g o) is, size)
   mapped_err (faults.Large limit) (words, is) = (words, read-map g true f old ∙ ap (λ o. map_outcome g o) is)
 
 -- a count that fits is a number of 32 bits
-pub count_number : (limit : Limit) (most : ℕ) (w : List ℕ) (r : ℕ) → most ≤ 64 → count_fit limit most w ≡ Fits → (IsTrue (is_numeral w) → r ≡ min (number_of w) (2 ^ 32 - 1)) → r ≡ number_of w
+pub count_number : (limit : Limit) (most : ℕ) (w : List ℕ) (r : ℕ) → most ≤ 64 → count_fit limit most w ≡ Fits
+    → (IsTrue (is_numeral w) → r ≡ min (number_of w) (2 ^ 32 - 1)) → r ≡ number_of w
 count_number limit most w r small fits is = grind (arith, rules)

@@ -19,7 +19,8 @@ Gives (Err (faults.Large limit)) left outcome = (words : List (List ℕ)) × (ou
 abbrev pub TakesWord : (List ℕ → Fit) → Result (Bor (List ℕ)) LineFault → List (List ℕ) → List (List ℕ) → Type 0
 TakesWord fit (Ok w) old new = (old ≡ w.now ∷ new) × (fit w.now ≡ Fits)
 TakesWord fit (Err faults.NoMemory) old new = ⊥
-TakesWord fit (Err (faults.Wrong bytes)) old new = (bytes ≡ spaced_length old) × ((old ≡ []) ⊎ ((w : List ℕ) × (words : List (List ℕ)) × (old ≡ w ∷ words) × (fit w ≡ Unfit)))
+TakesWord fit (Err (faults.Wrong bytes)) old new = (bytes ≡ spaced_length old)
+    × ((old ≡ []) ⊎ ((w : List ℕ) × (words : List (List ℕ)) × (old ≡ w ∷ words) × (fit w ≡ Unfit)))
 TakesWord fit (Err (faults.Large limit)) old new = (w : List ℕ) × (words : List (List ℕ)) × (old ≡ w ∷ words) × (fit w ≡ Over limit)
 
 -- what one word comes to
@@ -32,7 +33,8 @@ IsJudged bytes w Unfit result = result ≡ Err (faults.Wrong bytes)
 abbrev pub TakesChoice : {X : Type 0} → (List ℕ → Option X) → Result X LineFault → List (List ℕ) → List (List ℕ) → Type 0
 TakesChoice of (Ok x) old new = (w : List ℕ) × (old ≡ w ∷ new) × (of w ≡ Some x)
 TakesChoice of (Err faults.NoMemory) old new = ⊥
-TakesChoice of (Err (faults.Wrong bytes)) old new = (bytes ≡ spaced_length old) × ((old ≡ []) ⊎ ((w : List ℕ) × (words : List (List ℕ)) × (old ≡ w ∷ words) × (of w ≡ None)))
+TakesChoice of (Err (faults.Wrong bytes)) old new = (bytes ≡ spaced_length old)
+    × ((old ≡ []) ⊎ ((w : List ℕ) × (words : List (List ℕ)) × (old ≡ w ∷ words) × (of w ≡ None)))
 TakesChoice of (Err (faults.Large limit)) old new = ⊥
 
 -- no word is left

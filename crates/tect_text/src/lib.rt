@@ -1,18 +1,12 @@
 //! Scripts, answers and dump lines as text.
 #![tactic(auto)]
 
-#[cfg(test)]
-mod answer_tests;
 mod answers;
 mod dump;
 mod ids;
-#[cfg(test)]
-mod limit_tests;
-#[cfg(test)]
-mod line_tests;
-#[cfg(test)]
-mod reading_tests;
 mod report;
+#[cfg(test)]
+mod tests;
 
 pub use report::{write_answer, write_dump};
 pub use script_forms::ScriptFault;
