@@ -1,4 +1,3 @@
-pub mod Few
 pub mod Results
 pub mod Growths
 pub mod Transactions
