@@ -11,7 +11,7 @@ use Rattle.world_runs.specs.declared.event.Event.{Event}
 use Rattle.race_runs.specs.Gathered.{AreGathered, IsRaceRun, cuts_of, history_of_race, silent_last, told}
 use Rattle.race_runs.proofs.Gathered.{gathered_stories_are_run, gathered_silent}
 use Rattle.run_claims.proofs.Claims.{every_run_is_claimed}
-use Rattle.racers.specs.declared.racer.Racer.{Racer}
+use Rattle.players.specs.declared.racer.Racer.{Racer}
 use Rattle.race_ends.specs.declared.ended.EndedPart.{EndedPart}
 use Rattle.race_ends.specs.HaveRun.{HaveRun, clocks_of}
 use Rattle.race_ends.specs.Passes.{IsPassOf}

@@ -21,7 +21,7 @@ use Rattle.race_runs.specs.Gathered.{AreGathered}
 use Rattle.race_runs.specs.Stories.{Story, IsStory, Timely, all_moments}
 use Rattle.race_runs.proofs.Lists.{has_place}
 use Rattle.race_runs.proofs.Stores.{ClocksRise, no_clocks_fall, timely_clocks_rise}
-use Rattle.racers.specs.declared.racer.Racer.{Racer}
+use Rattle.players.specs.declared.racer.Racer.{Racer}
 use Rattle.race_ends.specs.declared.ended.EndedPart.{EndedPart}
 use Rattle.race_ends.specs.HaveRun.{HaveRun, HasStory, clocks_of}
 use Rattle.race_ends.specs.Passes.{IsPassOf}

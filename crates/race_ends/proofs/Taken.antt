@@ -7,7 +7,7 @@ use Rattle.place_kit.specs.declared.pass.Pass.{Pass}
 use Rattle.merge_runs.specs.Merged.{HaveDifferentActors}
 use Rattle.merge_runs.proofs.Members.{count_of}
 use Rattle.merge_runs.proofs.Strict.{actor_of_pass}
-use Rattle.racers.specs.declared.racer.Racer.{Racer}
+use Rattle.players.specs.declared.racer.Racer.{Racer}
 use Rattle.race_ends.specs.Passes.{IsPassOf}
 
 abbrev one_of : ℕ → Racer → ℕ

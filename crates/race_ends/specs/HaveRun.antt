@@ -7,7 +7,7 @@ use Rattle.tect_ids.specs.declared.script.ReportLine.{ReportLine}
 use Rattle.tect_ids.specs.Places.{HasPlaces}
 use Rattle.race_runs.specs.Stories.{Story, IsStory, all_moments}
 use Rattle.race_runs.specs.Gathered.{IsLineOf, is_dump, answers_now, answers_last, rest_of}
-use Rattle.racers.specs.declared.racer.Racer.{Racer}
+use Rattle.players.specs.declared.racer.Racer.{Racer}
 use Rattle.race_ends.specs.declared.ended.EndedPart.{EndedPart}
 
 -- The story is of what the client noted. It is a story of these lines unless the client's clock has come to its limit.

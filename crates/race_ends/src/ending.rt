@@ -14,7 +14,7 @@ use entry_words::{Moment, Refused};
 use merge_runs::{GatherFault, gather};
 use place_kit::{AnyKept, Pass};
 use place_locks::Places;
-use racers::Racer;
+use players::Racer;
 use std::alloc::Global;
 use tect_ids::{Plan, ReportLine};
 

@@ -19,7 +19,7 @@ use Rattle.world_runs.specs.Events.{end_event}
 use Rattle.world_runs.specs.OwnRuns.{own_after, own_state}
 use Rattle.world_runs.proofs.Actors.{same_number, own_state-append}
 use Rattle.world_runs.proofs.OwnLines.{own_lines-append, transactions-append}
-use Rattle.racers.specs.Steps.{EndsWith}
+use Rattle.players.specs.Players.{EndsWith}
 
 -- ---- transactions one after another
 

@@ -13,11 +13,11 @@ use Rattle.world_runs.specs.Races.{own_lines}
 use Rattle.world_runs.specs.Turns.{turn_after}
 use Rattle.world_runs.specs.Standing.{AtTurn}
 use Rattle.clients.specs.Lives.{events_in, state_in}
-use Rattle.racers.specs.declared.fault.RacerFault.{RacerFault}
-use Rattle.racers.specs.declared.fault.RacerFault.TheVariants as faults
-use Rattle.racers.specs.declared.racer.Racer.{Racer}
-use Rattle.racers.specs.Lives.{busy_in, grown, news_events}
-use Rattle.racers.specs.Steps.{FoundAstray}
+use Rattle.players.specs.declared.fault.RacerFault.{RacerFault}
+use Rattle.players.specs.declared.racer.Racer.{Racer}
+use Rattle.players.specs.Lives.{busy_in, grown, news_events}
+use Rattle.players.specs.Players.{IsFault}
+use Rattle.players.specs.Steps.{FoundAstray}
 
 -- The racer's client noted these moments, each stamped above its clock, and had these events of refused ops; once an op of it
 -- is refused it notes nothing more. Its answers grew by the lines that the events show.
@@ -38,5 +38,4 @@ pub record Plays (names : List (List ℕ)) (act : Act) (old new : Racer) : Type 
 
 -- why it did not, where each layer has that many shards: for want of memory, or since a commit found another machine
 abbrev pub IsFaultOf : {W : Type 0} (counts_of : W → Counts) (done : W → W → ℕ → AnyReq → Result Entry Refused → Type 0) → Counts → RacerFault → Type 0
-IsFaultOf counts_of done c faults.NoMemory = Unit {0}
-IsFaultOf counts_of done c (faults.Astray want found) = FoundAstray counts_of done c want found
+IsFaultOf counts_of done c fault = IsFault (FoundAstray counts_of done) c fault

@@ -1,8 +1,9 @@
 pub mod Results
 pub mod Growths
 pub mod Transactions
-pub mod OneStep
-pub mod Going
 pub mod Running
+pub mod OneStep
 pub mod Begun
-pub mod Played
+pub mod ClientLaws
+pub mod Playing
+pub mod Racing

@@ -16,7 +16,7 @@ use Rattle.world_runs.specs.Events.{own}
 use Rattle.world_runs.specs.OwnRuns.{own_after, own_state}
 use Rattle.world_runs.proofs.Actors.{one_number}
 use Rattle.clients.specs.Lives.{ClientLife, events_in, state_in, op_in, IsLife}
-use Rattle.racers.specs.Lives.{busy_in}
+use Rattle.players.specs.Lives.{busy_in}
 
 -- each event of these is the actor's own
 abbrev AllOwn : ℕ → List Event → Type 0

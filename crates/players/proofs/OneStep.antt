@@ -21,14 +21,17 @@ use Rattle.world_runs.specs.declared.event.Event.TheVariants.{Ended, Acted}
 use Rattle.program_rules.specs.Lacks.{no_room}
 use Rattle.world_runs.specs.Moments.{program_ask}
 use Rattle.world_runs.specs.Events.{end_event}
+use Rattle.clients.specs.declared.turned.Turned.{Turned}
 use Rattle.clients.specs.declared.turned.Turned.TheVariants.{Going, Done}
 use Rattle.clients.specs.Turns.{turned_by}
 use Rattle.clients.specs.Lives.{ClientLife, state_in, op_in, IsLife}
 use Rattle.clients.specs.Phases.{RunsIn}
 use Rattle.clients.specs.Steps.{Tried, Unasked, Did, Denied, Asks, state_after, entry_in, tried_life, ended_with, ended_life, is_later, EndsSo, OwnStep}
-use Rattle.racers.specs.Steps.{Grows, GoesOn, ComesToEnd}
-use Rattle.racers.proofs.Growths.{rises_here}
-use Rattle.racers.proofs.Transactions.{end_event_ends}
+use Rattle.players.specs.Lives.{news_events}
+use Rattle.players.specs.Players.{GoesOn, ComesToEnd, StepsOnce}
+use Rattle.players.specs.Steps.{Grows}
+use Rattle.players.proofs.Growths.{rises_here}
+use Rattle.players.proofs.Transactions.{end_event_ends}
 
 -- ---- a command that asks is not one that was refused
 
@@ -47,67 +50,61 @@ rises_one low high m less is = is ∙ (let a : nat_lt low high ≡ true = grind 
 
 -- ---- by what came of the request
 
-module _ (old new : ClientLife) where
+module _ (old new : ClientLife) (grew : List Event → Type 0) (by : (news : List Moment) (more : List Event) → Grows old new news more → grew (news_events news more)) where
   -- one transaction, and the command goes on
-  acted_grows : (stamp : ℕ) (q : AnyReq) (x : AnyReply) → old.silent ≡ [] → old.clock < stamp → new ≡ tried_life old stamp (Did q x) → Grows old new (Act (entry_in old stamp q x) ∷ []) []
-  acted_grows stamp q x noted later is =
+  acted_goes_on : (stamp : ℕ) (q : AnyReq) (x : AnyReply) → old.silent ≡ [] → old.clock < stamp → new ≡ tried_life old stamp (Did q x) → GoesOn grew (op_in old) 1
+  acted_goes_on stamp q x noted later is =
       let clock : new.clock ≡ stamp = ap (λ (w : ClientLife). w.clock) is in
       let m : Moment = Act (entry_in old stamp q x) in
       record {
-        life = is ∙ (λ i. record old { clock = sym clock i; moments = old.moments ++ m ∷ []; silent = sym (append-nil old.silent) i });
-        late = inr noted;
-        stamps = subst (λ (n : ℕ). rises old.clock n (m ∷ []) ≡ true) (sym clock) (rises_one old.clock stamp m later refl);
+        acts = Acted (op_in old) q x ∷ [];
+        are_acts = (refl, (0, refl, refl));
+        grown = by (m ∷ []) [] (record {
+          life = is ∙ (λ i. record old { clock = sym clock i; moments = old.moments ++ m ∷ []; silent = sym (append-nil old.silent) i });
+          late = inr noted;
+          stamps = subst (λ (n : ℕ). rises old.clock n (m ∷ []) ≡ true) (sym clock) (rises_one old.clock stamp m later refl);
+        });
       }
 
-  acted_goes_on : (stamp : ℕ) (q : AnyReq) (x : AnyReply) → old.silent ≡ [] → old.clock < stamp → new ≡ tried_life old stamp (Did q x) → GoesOn 1 old new
-  acted_goes_on stamp q x noted later is =
-      record { news = Act (entry_in old stamp q x) ∷ []; more = []; grows = acted_grows stamp q x noted later is; acts = (refl, (0, refl, refl)) }
-
   -- the end alone
-  ends_alone : (silent : List Event) (a : Answer) → old.silent ≡ silent → new ≡ ended_with old silent (op_in old) a → (end : ComesToEnd old new a) × (end.count ≤ 1)
+  ends_alone : (silent : List Event) (a : Answer) → old.silent ≡ silent → new ≡ ended_with old silent (op_in old) a → (end : ComesToEnd grew (op_in old) a) × (end.count ≤ 1)
   ends_alone [] a noted is =
       let clock : new.clock ≡ old.clock + 1 = ap (λ (w : ClientLife). w.clock) is in
       let m : Moment = Local (old.clock + 1) old.actor (notes.Ended (op_in old) a) in (
         record {
-          news = m ∷ [];
-          more = [];
-          grows = record {
+          acts = [];
+          count = 0;
+          end = end_event (op_in old) a;
+          are_acts = refl;
+          ends = end_event_ends (op_in old) a;
+          grown = by (m ∷ []) [] (record {
             life = is ∙ (λ i. record old { clock = sym clock i; moments = old.moments ++ m ∷ []; silent = sym (append-nil old.silent) i });
             late = inr noted;
             stamps = subst (λ (n : ℕ). rises old.clock n (m ∷ []) ≡ true) (sym clock) (rises_one old.clock (old.clock + 1) m (omega arith) refl);
-          };
-          front = [];
-          count = 0;
-          end = end_event (op_in old) a;
-          split = refl;
-          acts = refl;
-          ends = end_event_ends (op_in old) a;
+          });
         },
         omega arith,
       )
   ends_alone (e ∷ es) a noted is =
       let clock : new.clock ≡ old.clock = ap (λ (w : ClientLife). w.clock) is in (
         record {
-          news = [];
-          more = Ended (op_in old) a ∷ [];
-          grows = record {
+          acts = [];
+          count = 0;
+          end = Ended (op_in old) a;
+          are_acts = refl;
+          ends = (refl, refl);
+          grown = by [] (Ended (op_in old) a ∷ []) (record {
             life = is ∙ (λ i. record old { clock = sym clock i; moments = sym (append-nil old.moments) i; silent = old.silent ++ Ended (op_in old) a ∷ [] });
             late = inl refl;
             stamps = subst (λ (n : ℕ). rises old.clock n [] ≡ true) (sym clock) (rises_here old.clock);
-          };
-          front = [];
-          count = 0;
-          end = Ended (op_in old) a;
-          split = refl;
-          acts = refl;
-          ends = (refl, refl);
+          });
         },
         omega arith,
       )
 
   -- a transaction and the end
   acted_ends : (stamp : ℕ) (q : AnyReq) (x : AnyReply) (a : Answer) → old.silent ≡ [] → old.clock < stamp → new ≡ ended_with (tried_life old stamp (Did q x)) [] (op_in old) a
-      → (end : ComesToEnd old new a) × (end.count ≤ 1)
+      → (end : ComesToEnd grew (op_in old) a) × (end.count ≤ 1)
   acted_ends stamp q x a noted later is =
       let clock : new.clock ≡ stamp + 1 = ap (λ (w : ClientLife). w.clock) is in
       let m : Moment = Act (entry_in old stamp q x) in
@@ -115,19 +112,16 @@ module _ (old new : ClientLife) where
       let first : nat_lt old.clock stamp ≡ true = grind (arith, common_steps, later) in
       let second : rises stamp (stamp + 1) (n ∷ []) ≡ true = rises_one stamp (stamp + 1) n (omega arith) refl in (
         record {
-          news = m ∷ n ∷ [];
-          more = [];
-          grows = record {
+          acts = Acted (op_in old) q x ∷ [];
+          count = 1;
+          end = end_event (op_in old) a;
+          are_acts = (refl, (0, refl, refl));
+          ends = end_event_ends (op_in old) a;
+          grown = by (m ∷ n ∷ []) [] (record {
             life = is ∙ (λ i. record old { clock = sym clock i; moments = append_assoc old.moments (m ∷ []) (n ∷ []) i; silent = sym (append-nil old.silent) i });
             late = inr noted;
             stamps = subst (λ (k : ℕ). rises old.clock k (m ∷ n ∷ []) ≡ true) (sym clock) (ap (λ (b : Bool). b && rises stamp (stamp + 1) (n ∷ [])) first ∙ second);
-          };
-          front = Acted (op_in old) q x ∷ [];
-          count = 1;
-          end = end_event (op_in old) a;
-          split = refl;
-          acts = (refl, (0, refl, refl));
-          ends = end_event_ends (op_in old) a;
+          });
         },
         omega arith,
       )
@@ -137,13 +131,13 @@ module _ (old new : ClientLife) where
     asks_silent q asks = asks_noted old.silent (running_in None old.moments) (state_in old).serial (state_in old).running q is.going asks
 
     goes_by : (tried : Tried) (stamp : ℕ) → Asks (state_in old) tried → is_later old.clock stamp tried → new ≡ ended_life (tried_life old stamp tried) (op_in old) None
-        → EndsSo (state_after old.counts (state_in old) tried) tried None → GoesOn 1 old new
+        → EndsSo (state_after old.counts (state_in old) tried) tried None → GoesOn grew (op_in old) 1
     goes_by Unasked stamp asks later life ends = absurd ends
     goes_by (Denied q e) stamp asks later life ends = absurd ends
     goes_by (Did q x) stamp asks later life ends = acted_goes_on stamp q x (asks_silent q asks) later life
 
     ends_by : (tried : Tried) (stamp : ℕ) (a : Answer) → Asks (state_in old) tried → is_later old.clock stamp tried
-        → new ≡ ended_life (tried_life old stamp tried) (op_in old) (Some a) → (end : ComesToEnd old new a) × (end.count ≤ 1)
+        → new ≡ ended_life (tried_life old stamp tried) (op_in old) (Some a) → (end : ComesToEnd grew (op_in old) a) × (end.count ≤ 1)
     ends_by Unasked stamp a asks later life = ends_alone old.silent a refl life
     ends_by (Denied q e) stamp a asks later life = ends_alone old.silent a refl life
     ends_by (Did q x) stamp a asks later life =
@@ -160,21 +154,12 @@ is_done : (o : Option Answer) (a : Answer) → Done a ≡ turned_by o → o ≡ 
 is_done None a is = absurd cc
 is_done (Some b) a is = (let same : a ≡ b = cc in ap Some (sym same))
 
-module _ {W : Type 0} (done : W → W → ℕ → AnyReq → Result Entry Refused → Type 0) (w v : W) (old new : ClientLife) (is : IsLife old) where
-  module _ (step : OwnStep done w v old new Going) where
-    none : step.answer ≡ None
-    none = not_done step.answer step.told
-
-    life_on : new ≡ ended_life (tried_life old step.stamp step.tried) (op_in old) None
-    life_on = step.life ∙ ap (ended_life (tried_life old step.stamp step.tried) (op_in old)) none
-
-    ends_on : EndsSo (state_after old.counts (state_in old) step.tried) step.tried None
-    ends_on = subst (EndsSo (state_after old.counts (state_in old) step.tried) step.tried) none step.ends
-
-    pub step_goes_on : GoesOn 1 old new
-    step_goes_on = goes_by old new is step.tried step.stamp step.asks step.later life_on ends_on
-
-  pub step_ends : (a : Answer) → OwnStep done w v old new (Done a) → (end : ComesToEnd old new a) × (end.count ≤ 1)
-  step_ends a step =
-      ends_by old new is step.tried step.stamp a step.asks step.later
-      (step.life ∙ ap (ended_life (tried_life old step.stamp step.tried) (op_in old)) (is_done step.answer a step.told))
+pub steps_once : {W : Type 0} (done : W → W → ℕ → AnyReq → Result Entry Refused → Type 0) (w v : W) (old new : ClientLife) (grew : List Event → Type 0)
+    → ((news : List Moment) (more : List Event) → Grows old new news more → grew (news_events news more)) → IsLife old → (turned : Turned) → OwnStep done w v old new turned → StepsOnce grew (op_in old) turned
+steps_once done w v old new grew by is Going step =
+    let none : step.answer ≡ None = not_done step.answer step.told in
+    goes_by old new grew by is step.tried step.stamp step.asks step.later (step.life ∙ ap (ended_life (tried_life old step.stamp step.tried) (op_in old)) none)
+    (subst (EndsSo (state_after old.counts (state_in old) step.tried) step.tried) none step.ends)
+steps_once done w v old new grew by is (Done a) step =
+    ends_by old new grew by is step.tried step.stamp a step.asks step.later
+    (step.life ∙ ap (ended_life (tried_life old step.stamp step.tried) (op_in old)) (is_done step.answer a step.told))

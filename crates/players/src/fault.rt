@@ -12,7 +12,7 @@ pub enum RacerFault {
 
 impl From<NoMemory> for RacerFault {
     ghost use Rattle.std.specs.Prelude.{◌≡◌};
-    ghost use Rattle.racers.specs.declared.fault.RacerFault.TheVariants as faults;
+    ghost use Rattle.players.specs.declared.fault.RacerFault.TheVariants as faults;
 
     ghost from_gives = { λ _ fault. fault ≡ faults.NoMemory };
 
@@ -23,7 +23,7 @@ impl From<NoMemory> for RacerFault {
 
 impl From<Astray> for RacerFault {
     ghost use Rattle.std.specs.Prelude.{◌≡◌};
-    ghost use Rattle.racers.specs.declared.fault.RacerFault.TheVariants as faults;
+    ghost use Rattle.players.specs.declared.fault.RacerFault.TheVariants as faults;
 
     ghost from_gives = { λ astray fault. fault ≡ faults.Astray astray.want astray.found };
 

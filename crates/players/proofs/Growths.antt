@@ -11,8 +11,8 @@ use Rattle.world_runs.specs.Events.{event_of, events_of}
 use Rattle.world_runs.specs.OwnRuns.{own_state}
 use Rattle.world_runs.proofs.Actors.{own_state-append}
 use Rattle.clients.specs.Lives.{ClientLife, events_in, state_in}
-use Rattle.racers.specs.Lives.{grown, news_events}
-use Rattle.racers.specs.Steps.{Grows}
+use Rattle.players.specs.Lives.{grown, news_events}
+use Rattle.players.specs.Steps.{Grows}
 
 -- ---- stamps
 

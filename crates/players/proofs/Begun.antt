@@ -17,11 +17,11 @@ use Rattle.world_runs.specs.Races.{own_lines}
 use Rattle.world_runs.specs.OwnRuns.{own_after, own_state}
 use Rattle.clients.specs.Lives.{ClientLife, events_in, state_in, op_in, next_op_in, IsLife, begun_life, refused_life, Begins, stopped_with, stopped_life}
 use Rattle.clients.specs.Phases.{RunsIn}
-use Rattle.racers.specs.Lives.{news_events}
-use Rattle.racers.specs.Steps.{Grows}
-use Rattle.racers.proofs.Growths.{rises_here, grows_actor, grows_state}
-use Rattle.racers.proofs.Transactions.{either_way}
-use Rattle.racers.proofs.OneStep.{rises_one}
+use Rattle.players.specs.Lives.{news_events}
+use Rattle.players.specs.Steps.{Grows}
+use Rattle.players.proofs.Growths.{rises_here, grows_actor, grows_state}
+use Rattle.players.proofs.Transactions.{either_way}
+use Rattle.players.proofs.OneStep.{rises_one}
 
 -- ---- an op that was noted is no refused one
 
@@ -35,7 +35,7 @@ begun_noted (e ∷ es) o op p is runs = absurd (let bad : None ≡ Some op = sym
 
 -- ---- a begin
 
-pub record HasBegun (old new : ClientLife) (c : Command) : Type 0 where
+pub record LifeBegan (old new : ClientLife) (c : Command) : Type 0 where
   pub news : List Moment
   pub more : List Event
   pub grows : Grows old new news more
@@ -44,7 +44,7 @@ pub record HasBegun (old new : ClientLife) (c : Command) : Type 0 where
   pub begins : IsBeginOf (next_op_in old) c begin
 
 module _ (old new : ClientLife) (c : Command) where
-  noted : new ≡ begun_life old c → IsLife new → HasBegun old new c
+  noted : new ≡ begun_life old c → IsLife new → LifeBegan old new c
   noted is life =
       let op : OpId = next_op_in old in
       let m : Moment = Local (old.clock + 1) old.actor (notes.Began op c) in
@@ -64,7 +64,7 @@ module _ (old new : ClientLife) (c : Command) where
         begins = (refl, refl);
       }
 
-  refused : new ≡ refused_life old c → HasBegun old new c
+  refused : new ≡ refused_life old c → LifeBegan old new c
   refused is =
       let op : OpId = next_op_in old in
       let clock : new.clock ≡ old.clock = ap (λ (w : ClientLife). w.clock) is in
@@ -81,7 +81,7 @@ module _ (old new : ClientLife) (c : Command) where
         begins = (refl, refl);
       }
 
-  pub has_begun : Begins old new c → IsLife new → HasBegun old new c
+  pub has_begun : Begins old new c → IsLife new → LifeBegan old new c
   has_begun (inl (room, is)) life = noted is life
   has_begun (inr (full, is)) life = refused is
 
@@ -91,7 +91,7 @@ pub record Starts (op : OpId) (s t : Actor) : Type 0 where
   pub stopped : t.stopped ≡ s.stopped
   pub some : IsSome t.running
 
-begin_starts : (counts : Counts) (op : OpId) (c : Command) (s : Actor) (begin : Event) → IsBeginOf op c begin → Starts op s (own_after counts s begin)
+pub begin_starts : (counts : Counts) (op : OpId) (c : Command) (s : Actor) (begin : Event) → IsBeginOf op c begin → Starts op s (own_after counts s begin)
 begin_starts counts op c s (Began other d) begins = record { number = ap (λ (o : OpId). o.number) begins.0; stopped = refl; some = refl }
 begin_starts counts op c s (Refused other d) begins = record { number = ap (λ (o : OpId). o.number) begins.0; stopped = refl; some = refl }
 begin_starts counts op c s (Acted other q x) begins = absurd begins
@@ -101,7 +101,7 @@ begin_starts counts op c s (Failed other a) begins = absurd begins
 begin_starts counts op c s Dumped begins = absurd begins
 
 module _ (counts : Counts) (names : List (List ℕ)) (actor : ℕ) (before : List Event) where
-  begin_shows : (op : OpId) (c : Command) (begin : Event) → IsBeginOf op c begin → own_lines counts names actor before (begin ∷ []) ≡ []
+  pub begin_shows : (op : OpId) (c : Command) (begin : Event) → IsBeginOf op c begin → own_lines counts names actor before (begin ∷ []) ≡ []
   begin_shows op c (Began other d) begins = either_way counts names actor (eqb other.actor actor) []
   begin_shows op c (Refused other d) begins = either_way counts names actor (eqb other.actor actor) []
   begin_shows op c (Acted other q x) begins = absurd begins
@@ -110,29 +110,15 @@ module _ (counts : Counts) (names : List (List ℕ)) (actor : ℕ) (before : Lis
   begin_shows op c (Failed other a) begins = absurd begins
   begin_shows op c Dumped begins = absurd begins
 
-module _ (old new : ClientLife) (c : Command) (begun : HasBegun old new c) where
-  pub begun_starts : Starts (next_op_in old) (state_in old) (state_in new)
-  begun_starts =
-      let state : state_in new ≡ own_after old.counts (state_in old) begun.begin =
-      grows_state old new begun.news begun.more begun.grows ∙ ap (own_state old.counts (state_in old)) begun.events in
-      subst (Starts (next_op_in old) (state_in old)) (sym state) (begin_starts old.counts (next_op_in old) c (state_in old) begun.begin begun.begins)
-
-  pub begun_op : op_in new ≡ next_op_in old
-  begun_op i = record { actor = grows_actor old new begun.news begun.more begun.grows i; number = begun_starts.number i }
-
-  pub begun_shows_nothing : (names : List (List ℕ)) → own_lines old.counts names old.actor (events_in old) (news_events begun.news begun.more) ≡ []
-  begun_shows_nothing names =
-      ap (own_lines old.counts names old.actor (events_in old)) begun.events ∙ begin_shows old.counts names old.actor (events_in old) (next_op_in old) c begun.begin begun.begins
-
 -- ---- a stop
 
-pub record HasStopped (old new : ClientLife) : Type 0 where
+pub record LifeStopped (old new : ClientLife) : Type 0 where
   pub news : List Moment
   pub more : List Event
   pub grows : Grows old new news more
   pub events : news_events news more ≡ Stopped (op_in old) ∷ []
 
-stopped_by : (old new : ClientLife) (silent : List Event) → old.silent ≡ silent → new ≡ stopped_with old silent → HasStopped old new
+stopped_by : (old new : ClientLife) (silent : List Event) → old.silent ≡ silent → new ≡ stopped_with old silent → LifeStopped old new
 stopped_by old new [] none is =
     let m : Moment = Local (old.clock + 1) old.actor (notes.Stopped (op_in old)) in
     let clock : new.clock ≡ old.clock + 1 = ap (λ (w : ClientLife). w.clock) is in
@@ -159,5 +145,5 @@ stopped_by old new (e ∷ es) some is =
       events = refl;
     }
 
-pub has_stopped : (old new : ClientLife) → new ≡ stopped_life old → HasStopped old new
+pub has_stopped : (old new : ClientLife) → new ≡ stopped_life old → LifeStopped old new
 has_stopped old new is = stopped_by old new old.silent refl is
