@@ -1,4 +1,3 @@
-pub mod Replies
 pub mod Following
 pub mod Weaving
 pub mod Shown

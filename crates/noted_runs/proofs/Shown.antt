@@ -26,6 +26,7 @@ use Rattle.world_runs.specs.OwnRuns.{stored_after}
 use Rattle.world_runs.specs.PartReports.{by_client, own_part, part_report, parts_report}
 use Rattle.world_runs.specs.Woven.{Cut, is_early, is_late, woven}
 use Rattle.world_runs.proofs.Actors.{own-append, moment-append, stored_after-append}
+use Rattle.world_runs.proofs.OwnLines.{own_lines_own}
 use Rattle.world_runs.proofs.Owns.{store_is_after}
 use Rattle.noted_runs.proofs.Weaving.{AreSilentCuts, filter_agree_where, keeps, part_concerns, silent_cuts, silent_replies}
 

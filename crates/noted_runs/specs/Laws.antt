@@ -1,21 +1,16 @@
--- What is so of runs and of what each actor and each place keeps of them.
-use Rattle.std.specs.Prelude.{◌≡◌, ℕ, None, Option, List, [], filter, map}
+-- What is so of runs and of what each actor notes of them.
+use Rattle.std.specs.Prelude.{◌≡◌, ℕ, None, Option, List, [], filter}
 use Rattle.std.specs.List.{All}
 use Rattle.tect_ids.specs.declared.ids.Counts.{Counts}
 use Rattle.tect_ids.specs.declared.ids.OpId.{OpId}
 use Rattle.tect_ids.specs.declared.script.Line.{Line}
-use Rattle.tect_ids.specs.Places.{HasPlaces}
 use Rattle.store_rules.specs.Store.{Store, opening_store}
-use Rattle.place_kit.specs.declared.any.AnyKept.{AnyKept}
 use Rattle.entry_words.specs.declared.entry.Moment.{Moment}
-use Rattle.entry_words.specs.declared.entry.Moment.TheVariants.{Act}
-use Rattle.place_kit.specs.Kept.{history_of, place_of}
-use Rattle.entry_words.specs.Moments.{is_at, is_of}
-use Rattle.place_kit.specs.Started.{AreStarted}
+use Rattle.entry_words.specs.Moments.{is_of}
 use Rattle.world_runs.specs.declared.event.Event.{Event}
 use Rattle.world_runs.specs.Moments.{idle_actor, moment, IsWorldRun}
 use Rattle.world_runs.specs.Races.{concerns, line_concerns, race_report, FollowsByClient}
-use Rattle.world_runs.specs.Events.{IsOwnNote, IsPlaced, StampsRise, events_of, own}
+use Rattle.world_runs.specs.Events.{IsOwnNote, StampsRise, events_of, own}
 use Rattle.world_runs.specs.OwnRuns.{OwnRun, own_state, RepliesAre, stored_after}
 use Rattle.world_runs.specs.Limits.{KeepsLimits, OwnLimits}
 use Rattle.world_runs.specs.Woven.{AreSilent, Cut, woven, own_cuts}
@@ -42,12 +37,6 @@ ActorsAreTheirOwn =
 abbrev pub OwnLimitsMakeLimits : Type 0
 OwnLimitsMakeLimits =
     (counts : Counts) (history : List Event) → ((actor : ℕ) → OwnLimits counts [] idle_actor (own actor history)) → KeepsLimits counts history
-
--- at each place the moments are the history that is kept there
-abbrev pub PlacesReply : Type 0
-PlacesReply =
-    (counts : Counts) (ks : List AnyKept) (ms : List Moment) → HasPlaces counts → AreStarted counts ks
-    → All (λ k. filter (is_at (place_of k)) ms ≡ map Act (history_of k)) ks → All (IsPlaced counts) ms → RepliesAre opening_store (events_of ms)
 
 abbrev pub WovenConcerns : Type 0
 WovenConcerns =

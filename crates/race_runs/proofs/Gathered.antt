@@ -24,7 +24,7 @@ use Rattle.world_runs.specs.Woven.{Cut}
 use Rattle.world_runs.proofs.Actors.{other_number}
 use Rattle.world_runs.proofs.Owns.{own_runs_make_run}
 use Rattle.world_runs.proofs.Limits.{own_limits_make_limits}
-use Rattle.noted_runs.proofs.Replies.{places_reply}
+use Rattle.race_runs.proofs.Replies.{places_reply}
 use Rattle.noted_runs.proofs.Weaving.{woven_replies}
 use Rattle.noted_runs.proofs.Following.{clients_follow}
 use Rattle.noted_runs.proofs.Rooms.{own_of_concerns}
