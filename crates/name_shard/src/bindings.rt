@@ -111,11 +111,11 @@ impl NameShard {
     {
         let from = Key {
             dir,
-            name: from.copy(self.alloc)?,
+            name: from.clone()?,
         };
         let to = Key {
             dir,
-            name: to.copy(self.alloc)?,
+            name: to.clone()?,
         };
         Ok((from, to))
     }

@@ -5,3 +5,4 @@ pub mod Store
 pub mod Views
 pub mod Places
 pub mod Dumps
+pub mod ReplyBytes

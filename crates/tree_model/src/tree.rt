@@ -140,7 +140,7 @@ impl Tree {
         let mut items = Items::new(self.alloc);
         for (key, node) in self.entries.within(dir) {
             items.push(Listed {
-                name: key.name.copy(self.alloc)?,
+                name: key.name.clone()?,
                 node: *node,
             })?;
         }
@@ -201,7 +201,7 @@ impl Tree {
     {
         Ok(Key {
             dir,
-            name: name.copy(self.alloc)?,
+            name: name.clone()?,
         })
     }
 
