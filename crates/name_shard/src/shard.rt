@@ -90,7 +90,13 @@ impl NameShard {
                 to,
                 node,
                 hold,
-            } => self.swap(*dir, from, to, *node, *hold),
+            } => {
+                let entry = Entry {
+                    node: *node,
+                    hold: *hold,
+                };
+                self.swap(*dir, from, to, entry)
+            }
             NameReq::Unbind { key, want } => Ok(self.unbind(key, *want)),
             NameReq::Grant { dir, hold, key } => self.grant(*dir, *hold, key),
             NameReq::Release { dir, hold } => Ok(self.release(*dir, *hold)),

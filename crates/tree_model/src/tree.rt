@@ -2,7 +2,8 @@ ghost use Rattle.std.specs.Prelude.{◌≡◌, Some, None, IfOk, OnOk, OnErr, is
 ghost use Rattle.std.specs.FinMap.{get, entries};
 ghost use Rattle.key_maps.specs.Maps.{within};
 ghost use Rattle.tect_ids.specs.Keys.{name_eq};
-ghost use Rattle.tree_model.specs.Tree.{opening_tree, tree_reply, tree_change, tree_next, is_ok, unless, swap_reply, unbind_reply, at_name, as_listed, set_name};
+ghost use Rattle.tree_model.specs.Tree.{opening_tree, tree_reply, tree_change, tree_next, is_ok, unless, swap_reply};
+ghost use Rattle.tree_model.specs.Tree.{unbind_reply, at_name, as_listed, set_name};
 ghost use Rattle.tect_ids.specs.declared.ids.Node.{Node as AnyNode};
 
 use crate::step::{Refusal, Shown, TreeDir, TreeFile, TreeReply, TreeStep};
