@@ -8,29 +8,31 @@ use Rattle.tect_ids.specs.declared.ids.Counts.{Counts}
 use Rattle.tect_ids.specs.declared.ids.OpId.{OpId}
 use Rattle.tect_ids.specs.declared.command.Command.{Command}
 use Rattle.tect_calls.specs.Knowing.{IsActor}
-use Rattle.op_names.specs.declared.program.Program.{Program}
-use Rattle.op_names.specs.Programs.{phase_answer}
-use Rattle.place_kit.specs.declared.entry.Moment.TheVariants.{Local}
-use Rattle.place_kit.specs.declared.entry.Note.TheVariants as notes
+use Rattle.program_rules.specs.declared.program.Program.{Program}
+use Rattle.program_rules.specs.Programs.{phase_answer}
+use Rattle.entry_words.specs.declared.entry.Moment.TheVariants.{Local}
+use Rattle.entry_words.specs.declared.entry.Note.TheVariants as notes
 use Rattle.place_kit.specs.declared.pass.Pass.{Pass}
 use Rattle.place_kit.specs.Commits as passes
 use Rattle.world_runs.specs.declared.event.Event.{Event}
 use Rattle.world_runs.specs.declared.event.Event.TheVariants.{Began, Refused, Ended, Stopped}
-use Rattle.world_runs.specs.Moments.{Actor, idle_actor, no_room, begun, refused, program_of, program_answer}
+use Rattle.program_rules.specs.Lacks.{no_room}
+use Rattle.world_runs.specs.Moments.{Actor, idle_actor, begun, refused, program_of, program_answer}
 use Rattle.world_runs.specs.Report.{transactions}
 use Rattle.world_runs.specs.Served.{IsServed}
-use Rattle.noted_runs.specs.Events.{events_of}
-use Rattle.noted_runs.specs.Limits.{event_cost, used}
-use Rattle.noted_runs.specs.OwnRuns.{own_state}
-use Rattle.noted_runs.specs.Laws.{IsSilent}
-use Rattle.noted_runs.proofs.Actors.{same_number}
-use Rattle.noted_runs.proofs.Limits.{used-append}
-use Rattle.actors.specs.ActorState.{ActorState, op_of, next_op_of}
+use Rattle.world_runs.specs.Events.{events_of}
+use Rattle.world_runs.specs.Limits.{event_cost, used}
+use Rattle.world_runs.specs.OwnRuns.{own_state}
+use Rattle.world_runs.specs.Woven.{IsSilent}
+use Rattle.world_runs.proofs.Actors.{same_number}
+use Rattle.world_runs.proofs.Limits.{used-append}
+use Rattle.clients.specs.ActorState.{ActorState, op_of, next_op_of}
 use Rattle.clients.specs.declared.client.Client.TheInside.{Inside}
 use Rattle.clients.specs.Lives.{events_in, RefusesNext}
-use Rattle.clients.specs.Phases.{RunsIn, op_running, WasRefused}
-use Rattle.clients.specs.Inside.{life_of, IsFullOnce, IsClient}
-use Rattle.clients.proofs.Phases.{smooth_begins}
+use Rattle.program_rules.specs.Asking.{op_running, WasRefused}
+use Rattle.clients.specs.Phases.{RunsIn}
+use Rattle.clients.specs.ClientInside.{life_of, IsFullOnce, IsClient}
+use Rattle.program_rules.proofs.Phases.{smooth_begins}
 use Rattle.clients.proofs.Growing.{quiet, count_other, program_own, some_op}
 use Rattle.clients.proofs.Weights.{pass_use, silent_cost}
 use Rattle.clients.proofs.Stages.{own_events, Stage, Pushed, push_stage, its_own}

@@ -11,17 +11,18 @@ use Rattle.tect_ids.proofs.KeyTests.{op_eq_cases}
 use Rattle.store_rules.specs.declared.any.AnyReq.{AnyReq}
 use Rattle.store_rules.specs.declared.any.AnyReply.{AnyReply}
 use Rattle.store_rules.specs.Views.{is_made}
-use Rattle.op_names.specs.declared.program.Program.{Program}
+use Rattle.program_rules.specs.declared.program.Program.{Program}
 use Rattle.world_runs.specs.declared.event.Event.{Event}
 use Rattle.world_runs.specs.declared.event.Event.TheVariants.{Began, Refused, Acted, Ended, Stopped, Failed, Dumped}
-use Rattle.world_runs.specs.Moments.{Actor, idle_actor, IsLack, program_of, program_ask, heard, next_serial}
+use Rattle.program_rules.specs.Lacks.{IsLack}
+use Rattle.world_runs.specs.Moments.{Actor, idle_actor, program_of, program_ask, heard, next_serial}
 use Rattle.world_runs.specs.Races.{is_own}
 use Rattle.world_runs.specs.Report.{is_act_of, transactions}
-use Rattle.noted_runs.specs.Events.{end_event, own}
-use Rattle.noted_runs.specs.Limits.{KeepsRoom, OwnLimits}
-use Rattle.noted_runs.specs.OwnRuns.{OwnMay, OwnRun, own_after, own_state}
-use Rattle.noted_runs.proofs.Actors.{own_state-append, own_run-append, own-append, own-here}
-use Rattle.noted_runs.proofs.Limits.{own_limits-append}
+use Rattle.world_runs.specs.Events.{end_event, own}
+use Rattle.world_runs.specs.Limits.{KeepsRoom, OwnLimits}
+use Rattle.world_runs.specs.OwnRuns.{OwnMay, OwnRun, own_after, own_state}
+use Rattle.world_runs.proofs.Actors.{own_state-append, own_run-append, own-append, own-here}
+use Rattle.world_runs.proofs.Limits.{own_limits-append}
 
 module _ (counts : Counts) (es : List Event) (e : Event) where
   pub state_push : own_state counts idle_actor (es ++ e ∷ []) ≡ own_after counts (own_state counts idle_actor es) e

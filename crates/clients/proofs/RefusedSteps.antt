@@ -3,17 +3,18 @@ use Rattle.std.proofs.Common.{ℕ, ◌≡◌, ◌≢◌, inl, Option, Some, None
 use Rattle.std.specs.Prelude.{Result}
 use Rattle.tect_ids.specs.declared.ids.OpId.{OpId}
 use Rattle.store_rules.specs.declared.any.AnyReq.{AnyReq}
-use Rattle.op_names.specs.declared.program.Program.{Program}
-use Rattle.place_kit.specs.declared.entry.Entry.{Entry}
-use Rattle.place_kit.specs.declared.entry.Refused.{Refused}
-use Rattle.place_kit.specs.Moments.{running_in}
+use Rattle.program_rules.specs.declared.program.Program.{Program}
+use Rattle.entry_words.specs.declared.entry.Entry.{Entry}
+use Rattle.entry_words.specs.declared.entry.Refused.{Refused}
+use Rattle.entry_words.specs.Moments.{running_in}
 use Rattle.world_runs.specs.declared.event.Event.{Event}
 use Rattle.world_runs.specs.declared.event.Event.TheVariants.{Ended, Stopped}
-use Rattle.world_runs.specs.Moments.{no_room}
-use Rattle.noted_runs.specs.Events.{events_of}
-use Rattle.actors.specs.declared.turned.Turned.TheVariants as turns
+use Rattle.program_rules.specs.Lacks.{no_room}
+use Rattle.world_runs.specs.Events.{events_of}
+use Rattle.clients.specs.declared.turned.Turned.TheVariants as turns
 use Rattle.clients.specs.Lives.{ClientLife, events_in, state_in, op_in, IsLife, stopped_with}
-use Rattle.clients.specs.Phases.{RunsIn, WasRefused}
+use Rattle.program_rules.specs.Asking.{WasRefused}
+use Rattle.clients.specs.Phases.{RunsIn}
 use Rattle.clients.specs.Steps.{Unasked, OwnStep, ended_with, end_events}
 use Rattle.clients.proofs.Begins.{refused_answer}
 

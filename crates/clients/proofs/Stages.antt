@@ -12,28 +12,29 @@ use Rattle.tect_ids.specs.declared.answer.Answer.TheVariants as answers
 use Rattle.store_rules.specs.declared.any.AnyReq.{AnyReq}
 use Rattle.store_rules.specs.declared.any.AnyReply.{AnyReply}
 use Rattle.store_rules.specs.Places.{request_place}
-use Rattle.op_names.specs.declared.program.Program.{Program}
-use Rattle.op_names.specs.Programs.{object_number}
-use Rattle.place_kit.specs.declared.entry.Moment.{Moment}
-use Rattle.place_kit.specs.declared.entry.Moment.TheVariants.{Act, Local}
-use Rattle.place_kit.specs.declared.entry.Note.TheVariants as notes
+use Rattle.program_rules.specs.declared.program.Program.{Program}
+use Rattle.program_rules.specs.Programs.{object_number}
+use Rattle.entry_words.specs.declared.entry.Moment.{Moment}
+use Rattle.entry_words.specs.declared.entry.Moment.TheVariants.{Act, Local}
+use Rattle.entry_words.specs.declared.entry.Note.TheVariants as notes
 use Rattle.place_kit.specs.declared.pass.Pass.{Pass}
 use Rattle.place_kit.specs.Commits as passes
 use Rattle.world_runs.specs.declared.event.Event.{Event}
 use Rattle.world_runs.specs.declared.event.Event.TheVariants.{Acted, Ended, Failed}
-use Rattle.world_runs.specs.Moments.{Actor, idle_actor, IsLack, program_of, program_ask, program_answer, heard, went_on}
+use Rattle.program_rules.specs.Lacks.{IsLack}
+use Rattle.world_runs.specs.Moments.{Actor, idle_actor, program_of, program_ask, program_answer, heard, went_on}
 use Rattle.world_runs.specs.Races.{is_own}
 use Rattle.world_runs.specs.Report.{transactions}
-use Rattle.noted_runs.specs.Events.{end_event, event_of, events_of, own}
-use Rattle.noted_runs.specs.Limits.{KeepsRoom, OwnLimits}
-use Rattle.noted_runs.specs.OwnRuns.{OwnMay, OwnRun, own_after, own_state}
-use Rattle.noted_runs.specs.Laws.{IsPlaced}
-use Rattle.noted_runs.proofs.Actors.{same_number}
-use Rattle.actors.specs.ActorState.{ActorState, op_of}
+use Rattle.world_runs.specs.Events.{end_event, event_of, events_of, own}
+use Rattle.world_runs.specs.Limits.{KeepsRoom, OwnLimits}
+use Rattle.world_runs.specs.OwnRuns.{OwnMay, OwnRun, own_after, own_state}
+use Rattle.world_runs.specs.Events.{IsPlaced}
+use Rattle.world_runs.proofs.Actors.{same_number}
+use Rattle.clients.specs.ActorState.{ActorState, op_of}
 use Rattle.clients.specs.Commits.{Committed, NotedEnd, entry_at}
-use Rattle.clients.specs.Phases.{RunsSmoothly, op_running}
-use Rattle.clients.specs.Turns.{ended}
-use Rattle.clients.proofs.Phases.{smooth_hears, smooth_answers}
+use Rattle.program_rules.specs.Asking.{RunsSmoothly, op_running}
+use Rattle.clients.specs.PassSteps.{ended}
+use Rattle.program_rules.proofs.Phases.{smooth_hears, smooth_answers}
 use Rattle.clients.proofs.Growing.{state_push, run_push, limits_push, own_push, program_own, heard_own, plain_end, count_act, count_other, end_no_act}
 use Rattle.clients.proofs.Weights.{fills, has_room}
 

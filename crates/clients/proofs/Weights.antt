@@ -4,19 +4,19 @@ use Rattle.std.proofs.lemmas.List.Sums.{sum_by-cons}
 use Rattle.tect_ids.specs.declared.ids.OpId.{OpId}
 use Rattle.tect_ids.specs.declared.answer.Answer.{Answer}
 use Rattle.tect_ids.specs.declared.answer.Answer.TheVariants as answers
-use Rattle.place_kit.specs.declared.entry.Note.{Note}
-use Rattle.place_kit.specs.declared.entry.Note.TheVariants as notes
-use Rattle.place_kit.specs.declared.entry.Moment.{Moment}
-use Rattle.place_kit.specs.declared.entry.Moment.TheVariants.{Act, Local}
+use Rattle.entry_words.specs.declared.entry.Note.{Note}
+use Rattle.entry_words.specs.declared.entry.Note.TheVariants as notes
+use Rattle.entry_words.specs.declared.entry.Moment.{Moment}
+use Rattle.entry_words.specs.declared.entry.Moment.TheVariants.{Act, Local}
 use Rattle.place_kit.specs.declared.pass.Pass.{Pass}
-use Rattle.place_kit.specs.ReplyBytes.{reply_bytes}
-use Rattle.place_kit.specs.Moments.{op_of, trail_of, all_of_actor, all_notes_of, all_reply_bytes, moment_cost, moments_cost}
+use Rattle.store_rules.specs.ReplyBytes.{reply_bytes}
+use Rattle.entry_words.specs.Moments.{op_of, trail_of, all_of_actor, all_notes_of, all_reply_bytes, moment_cost, moments_cost}
 use Rattle.place_kit.specs.Commits as passes
 use Rattle.world_runs.specs.declared.event.Event.{Event}
 use Rattle.world_runs.specs.declared.event.Event.TheVariants.{Began, Refused, Acted, Ended, Stopped, Failed, Dumped}
-use Rattle.noted_runs.specs.Events.{end_event, event_of, events_of}
-use Rattle.noted_runs.specs.Limits.{event_cost, event_bytes, used, kept_bytes, IsFull}
-use Rattle.noted_runs.specs.Laws.{IsSilent}
+use Rattle.world_runs.specs.Events.{end_event, event_of, events_of}
+use Rattle.world_runs.specs.Limits.{event_cost, event_bytes, used, kept_bytes, IsFull}
+use Rattle.world_runs.specs.Woven.{IsSilent}
 
 end_cost : (a : ℕ) (op : OpId) (x : Answer) → event_cost a (end_event op x) ≡ 0
 end_cost a op answers.NoMemory = refl

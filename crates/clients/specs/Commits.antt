@@ -4,10 +4,10 @@ use Rattle.tect_ids.specs.declared.ids.Counts.{Counts}
 use Rattle.store_rules.specs.declared.any.AnyReq.{AnyReq}
 use Rattle.store_rules.specs.declared.any.AnyReply.{AnyReply}
 use Rattle.store_rules.specs.Places.{request_place}
-use Rattle.place_kit.specs.declared.entry.Entry.{Entry}
-use Rattle.place_kit.specs.declared.entry.Note.{Note}
-use Rattle.place_kit.specs.declared.entry.Refused.{Refused}
-use Rattle.place_kit.specs.declared.entry.Moment.TheVariants.{Act}
+use Rattle.entry_words.specs.declared.entry.Entry.{Entry}
+use Rattle.entry_words.specs.declared.entry.Note.{Note}
+use Rattle.entry_words.specs.declared.entry.Refused.{Refused}
+use Rattle.entry_words.specs.declared.entry.Moment.TheVariants.{Act}
 use Rattle.place_kit.specs.declared.pass.Pass.{Pass}
 use Rattle.place_kit.specs.Commits.{local_of, op_number}
 

@@ -1,22 +1,23 @@
 -- What contracts see of a client: what it noted, and what it did in ops that were refused. All else is told by that.
-use Rattle.std.specs.Prelude.{◌≡◌, ℕ, ◌+◌, ◌<◌, ◌≤◌, ◌^◌, ◌⊎◌, true, List, [], ◌∷◌, ◌++◌, None}
+use Rattle.std.specs.Prelude.{◌≡◌, ℕ, ◌+◌, ◌-◌, ◌<◌, ◌≤◌, ◌^◌, ◌⊎◌, true, List, [], ◌∷◌, ◌++◌, length, None}
 use Rattle.std.specs.List.{All}
 use Rattle.tect_ids.specs.declared.ids.Counts.{Counts}
 use Rattle.tect_ids.specs.declared.ids.OpId.{OpId}
 use Rattle.tect_ids.specs.declared.command.Command.{Command}
 use Rattle.tect_ids.specs.Places.{HasPlaces}
 use Rattle.tect_calls.specs.Knowing.{IsActor}
-use Rattle.place_kit.specs.declared.entry.Moment.{Moment}
-use Rattle.place_kit.specs.declared.entry.Moment.TheVariants.{Local}
-use Rattle.place_kit.specs.declared.entry.Note.TheVariants as notes
-use Rattle.place_kit.specs.Moments.{rises, all_of_actor, all_notes_of, running_in}
+use Rattle.entry_words.specs.declared.entry.Moment.{Moment}
+use Rattle.entry_words.specs.declared.entry.Moment.TheVariants.{Local}
+use Rattle.entry_words.specs.declared.entry.Note.TheVariants as notes
+use Rattle.entry_words.specs.Moments.{rises, all_of_actor, all_notes_of, running_in}
 use Rattle.world_runs.specs.declared.event.Event.{Event}
 use Rattle.world_runs.specs.declared.event.Event.TheVariants.{Refused, Stopped}
 use Rattle.world_runs.specs.Moments.{Actor, idle_actor}
-use Rattle.noted_runs.specs.Events.{events_of, own}
-use Rattle.noted_runs.specs.OwnRuns.{OwnRun, own_state}
-use Rattle.noted_runs.specs.Limits.{IsFullForBegin, OwnLimits}
-use Rattle.noted_runs.specs.Laws.{IsPlaced, IsSilent}
+use Rattle.world_runs.specs.Events.{events_of, own}
+use Rattle.world_runs.specs.OwnRuns.{OwnRun, own_state}
+use Rattle.world_runs.specs.Limits.{IsFullForBegin, OwnLimits}
+use Rattle.world_runs.specs.Events.{IsPlaced}
+use Rattle.world_runs.specs.Woven.{IsSilent}
 use Rattle.clients.specs.Phases.{RunsIn}
 
 pub record ClientLife : Type 0 where
@@ -70,6 +71,10 @@ stopped_with life (e ∷ es) = record life { silent = life.silent ++ Stopped (op
 abbrev pub stopped_life : ClientLife → ClientLife
 stopped_life life = stopped_with life life.silent
 
+-- how many moments more its pass may have
+abbrev pub left_in : ClientLife → ℕ
+left_in life = 65536 - length life.moments
+
 -- What is so of each client: its events are a run of its own, and keep its limits, unless its clock has come to its own.
 pub record IsLife (life : ClientLife) : Type 0 where
   pub places : HasPlaces life.counts
@@ -77,6 +82,7 @@ pub record IsLife (life : ClientLife) : Type 0 where
   pub run : OwnRun life.counts idle_actor (events_in life)
   pub limits : life.clock < 2 ^ 63 → OwnLimits life.counts [] idle_actor (events_in life)
   pub own : own life.actor (events_in life) ≡ events_in life
+  pub few : length life.moments ≤ 65536
   pub moments_own : all_of_actor life.actor life.moments ≡ true
   pub notes_own : all_notes_of life.actor life.moments ≡ true
   pub rising : rises 0 life.clock life.moments ≡ true

@@ -7,18 +7,18 @@ use Rattle.tect_ids.specs.declared.answer.Answer.TheVariants as answers
 use Rattle.store_rules.specs.declared.any.AnyReq.{AnyReq}
 use Rattle.store_rules.specs.declared.any.AnyReply.{AnyReply}
 use Rattle.store_rules.specs.Places.{request_place}
-use Rattle.place_kit.specs.declared.entry.Entry.{Entry}
-use Rattle.place_kit.specs.declared.entry.Moment.TheVariants.{Act, Local}
-use Rattle.place_kit.specs.declared.entry.Note.TheVariants as notes
-use Rattle.place_kit.specs.declared.entry.Refused.{Refused}
-use Rattle.place_kit.specs.declared.entry.Refused.TheVariants.{NoMemory, HistoryFull, Astray}
-use Rattle.place_kit.specs.Moments.{trail_of}
+use Rattle.entry_words.specs.declared.entry.Entry.{Entry}
+use Rattle.entry_words.specs.declared.entry.Moment.TheVariants.{Act, Local}
+use Rattle.entry_words.specs.declared.entry.Note.TheVariants as notes
+use Rattle.entry_words.specs.declared.entry.Refused.{Refused}
+use Rattle.entry_words.specs.declared.entry.Refused.TheVariants.{NoMemory, HistoryFull, Astray}
+use Rattle.entry_words.specs.Moments.{trail_of}
 use Rattle.world_runs.specs.declared.event.Event.{Event}
 use Rattle.world_runs.specs.declared.event.Event.TheVariants.{Acted, Ended}
 use Rattle.world_runs.specs.Moments.{Actor, program_ask, program_answer, went_on}
-use Rattle.noted_runs.specs.Events.{end_event}
-use Rattle.actors.specs.declared.turned.Turned.{Turned}
-use Rattle.actors.specs.Turns.{turned_by}
+use Rattle.world_runs.specs.Events.{end_event}
+use Rattle.clients.specs.declared.turned.Turned.{Turned}
+use Rattle.clients.specs.Turns.{turned_by}
 use Rattle.clients.specs.Lives.{ClientLife, events_in, state_in, op_in}
 
 -- what came of the command's next request: it made none, or it was done with that reply, or refused

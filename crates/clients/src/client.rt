@@ -1,19 +1,22 @@
 ghost use Rattle.std.specs.Prelude.{◌≡◌, ◌≢◌, ◌+◌, ◌^◌, ◌<◌, ◌≤◌, ◌++◌, [], ◌∷◌, max, IfOk, OnOk, OnErr, IsSome, IsNone, IsTrue, MatchResult, is_some, false, vec_len, vec_capacity};
 ghost use Rattle.tect_ids.specs.Places.{HasPlaces};
 ghost use Rattle.tect_calls.specs.Knowing.{IsActor};
-ghost use Rattle.place_kit.specs.declared.entry.Refused.TheVariants as refusals;
+ghost use Rattle.entry_words.specs.declared.entry.Refused.TheVariants as refusals;
 ghost use Rattle.world_runs.specs.declared.event.Event.TheVariants as events;
-ghost use Rattle.world_runs.specs.Moments.{no_room, program_ask};
+ghost use Rattle.program_rules.specs.Lacks.{no_room};
+ghost use Rattle.world_runs.specs.Moments.{program_ask};
 ghost use Rattle.world_runs.specs.Report.{transactions};
 ghost use Rattle.world_runs.specs.Served.{IsServed};
-ghost use Rattle.actors.specs.Turns.{turned_by};
+ghost use Rattle.clients.specs.Turns.{turned_by};
 ghost use Rattle.clients.specs.Lives.{events_in, state_in, op_in, RefusesNext, idle_life, begun_life, refused_life, Begins, stopped_life, IsLife};
 ghost use Rattle.clients.specs.Steps.{OwnStep, WentAstray};
 
+use crate::actor::Actor;
 use crate::commits::{Astray, Commits};
-use crate::turns::take_turn;
-use actors::{Actor, Turned};
-use place_kit::{Note, Pass};
+use crate::steps::take_step;
+use crate::turned::Turned;
+use entry_words::Note;
+use place_kit::Pass;
 use std::alloc::Global;
 use std::marker::Model;
 use tect_calls::Asked;
@@ -35,7 +38,7 @@ impl Model for Client {
 
     ghost Value = { ClientLife };
 
-    ghost use Rattle.clients.specs.Inside.{life_of, IsClient};
+    ghost use Rattle.clients.specs.ClientInside.{life_of, IsClient};
 
     ghost view = { life_of };
 
@@ -265,9 +268,9 @@ impl Client {
         ensures step { MatchResult result (OwnStep C.done at.old at.new self.old self.new)
             (λ e. WentAstray C.done at.old at.new self.old self.new (refusals.Astray e.want e.found)) }
     {
-        let turn = take_turn(&self.counts, &mut self.actor, &mut self.pass, at)?;
-        self.transactions += turn.transactions;
-        Ok(turned_of(turn.answer))
+        let step = take_step(&self.counts, &mut self.actor, &mut self.pass, at)?;
+        self.transactions += step.transactions;
+        Ok(turned_of(step.answer))
     }
 
     // An op that was refused ends.

@@ -3,12 +3,13 @@ ghost use Rattle.tect_ids.specs.declared.ids.Counts.{Counts};
 ghost use Rattle.tect_ids.specs.declared.ids.Place.{Place};
 ghost use Rattle.store_rules.specs.declared.any.AnyReq.{AnyReq};
 ghost use Rattle.store_rules.specs.Places.{request_place};
-ghost use Rattle.place_kit.specs.declared.entry.Entry.{Entry};
-ghost use Rattle.place_kit.specs.declared.entry.Refused.{Refused};
+ghost use Rattle.entry_words.specs.declared.entry.Entry.{Entry};
+ghost use Rattle.entry_words.specs.declared.entry.Refused.{Refused};
 ghost use Rattle.place_kit.specs.Commits.{IsFull};
 ghost use Rattle.clients.specs.Commits.{Committed, entered};
 
-use place_kit::{Label, Pass, Refused};
+use entry_words::{Label, Refused};
+use place_kit::Pass;
 use store_rules::AnyReply;
 use tect_calls::Asked;
 

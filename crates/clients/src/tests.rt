@@ -2,9 +2,10 @@ ghost use Rattle.std.specs.Prelude.{◌≡◌, OnOk};
 ghost use Rattle.world_runs.specs.Served.{IsServed};
 
 use crate::{Client, Commits, Turned};
+use entry_words::Refused;
 use file_shard::FileShard;
 use name_shard::NameShard;
-use place_kit::{Kept, Pass, Refused};
+use place_kit::{Kept, Pass};
 use std::alloc::Global;
 use std::process::Abort;
 use std::test::Fail;

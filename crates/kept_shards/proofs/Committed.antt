@@ -19,14 +19,15 @@ use Rattle.store_rules.specs.Files.{Files, file_answer, file_step}
 use Rattle.store_rules.specs.Places.{request_place, file_of}
 use Rattle.store_rules.specs.Store.{Store, store_step}
 use Rattle.place_kit.specs.declared.any.AnyKept.{AnyKept}
-use Rattle.place_kit.specs.declared.entry.Entry.{Entry}
-use Rattle.place_kit.specs.declared.entry.Label.{Label}
+use Rattle.entry_words.specs.declared.entry.Entry.{Entry}
+use Rattle.entry_words.specs.declared.entry.Label.{Label}
 use Rattle.place_kit.specs.declared.pass.Pass.{Pass}
-use Rattle.place_kit.specs.declared.entry.Moment.TheVariants.{Act}
+use Rattle.entry_words.specs.declared.entry.Moment.TheVariants.{Act}
 use Rattle.place_kit.specs.Commits.{entry_of, next_stamp}
 use Rattle.place_kit.specs.Kept.{label_of, history_of}
 use Rattle.place_kit.specs.Replay.{stamps_rise}
-use Rattle.place_kit.specs.Started.{AreStarted, has_names, started_label}
+use Rattle.entry_words.specs.Labels.{label_at}
+use Rattle.place_kit.specs.Started.{AreStarted, has_names}
 use Rattle.all_shards.specs.Whole.{together, AreShards}
 use Rattle.all_shards.proofs.Lent.{read_map}
 use Rattle.all_shards.proofs.Stepped.{in_names, name_reply_is, file_reply_is, name_is_done, name_done_stays, file_is_done, file_done_stays, file_index, file_own_place}
@@ -54,8 +55,8 @@ module _ (c : Counts) (all : List AnyKept) (store : Store) (started : AreStarted
       → entry_of label clock p q x ≡ entry_here now p q x
   entry_is p q x label clock same_label same_clock place =
       ap (λ (l : Label). entry_of l clock p q x) (same_label ∙ started.labels n k at)
-      ∙ ap (λ (t : ℕ). entry_of (started_label c n) t p q x) (same_clock ∙ ap (clock_after 0) (sym own_entries))
-      ∙ ap (λ (i : ℕ). entry_of (started_label c i) (clock_at now i) p q x) place
+      ∙ ap (λ (t : ℕ). entry_of (label_at c n) t p q x) (same_clock ∙ ap (clock_after 0) (sym own_entries))
+      ∙ ap (λ (i : ℕ). entry_of (label_at c i) (clock_at now i) p q x) place
 
   pub committed_is : (later : List AnyKept) (l : AnyKept) (after : Store) (e : Entry) → later ≡ set all n l → history_of l ≡ history_of k ++ e ∷ [] → n ≡ e.place.0
       → after ≡ store_step store e.req → ◌≡◌ {A = KeptStore} (record { counts = c; store = after; entries = map history_of later }) (committed now e)
@@ -163,7 +164,7 @@ module _ {K F : Type 0} (c : Counts) (ns : List K) (fs : List F) (nm : K → Nam
     abbrev name_later : KeptStore
     name_later = record { counts = c; store = together (map nm (set ns p.0 x)) (map fm fs); entries = map history_of (map na (set ns p.0 x) ++ map fa fs) }
 
-    pub name_label : label_of (na k) ≡ started_label c p.0
+    pub name_label : label_of (na k) ≡ label_at c p.0
     name_label = started.labels p.0 (na k) (name_at c ns fs nm fm na fa name file is started p (any.Name q) at q refl k read)
 
     pub name_failed : {R E : Type 0} (result : Result R E) (before_pass after : Pass) → OnErr result ((x ≡ k) × (after ≡ before_pass)) → OnErr result ((name_later ≡ before) × (after ≡ before_pass))
@@ -222,7 +223,7 @@ module _ {K F : Type 0} (c : Counts) (ns : List K) (fs : List F) (nm : K → Nam
     abbrev file_later : KeptStore
     file_later = record { counts = c; store = together (map nm ns) (map fm (set fs (p.0 - c.names) x)); entries = map history_of (map na ns ++ map fa (set fs (p.0 - c.names) x)) }
 
-    pub file_label : label_of (fa k) ≡ started_label c p.0
+    pub file_label : label_of (fa k) ≡ label_at c p.0
     file_label = started.labels p.0 (fa k) (file_at c ns fs nm fm na fa name file is started p (any.File q) at q refl k read)
 
     pub file_failed : {R E : Type 0} (result : Result R E) (before_pass after : Pass) → OnErr result ((x ≡ k) × (after ≡ before_pass)) → OnErr result ((file_later ≡ before) × (after ≡ before_pass))

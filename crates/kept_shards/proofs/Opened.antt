@@ -5,9 +5,9 @@ use Rattle.std.proofs.lemmas.Grind.{common_steps}
 use Rattle.tect_ids.specs.declared.ids.Counts.{Counts}
 use Rattle.place_kit.specs.declared.any.AnyKept.{AnyKept}
 use Rattle.place_kit.specs.Kept.{label_of, history_of}
-use Rattle.place_kit.specs.Started.{started_label}
+use Rattle.entry_words.specs.Labels.{label_at}
 use Rattle.std.proofs.lemmas.Bool.Decides.{nat_tests}
-use Rattle.place_kit.specs.declared.entry.Label.{Label}
+use Rattle.entry_words.specs.declared.entry.Label.{Label}
 use Rattle.tect_ids.specs.Places.{id_hash}
 use Rattle.all_shards.proofs.Together.{below}
 use Rattle.store_rules.specs.Names.{Names, root_names, no_names}
@@ -21,13 +21,13 @@ got [] last x (suc n) e = cc
 got (y ∷ ys) last x zero e = inl e
 got (y ∷ ys) last x (suc n) e = elim (got ys last x n e) [ inl h ↦ inl h | inr h ↦ inr (omega (arith, h.0), h.1) ]
 
-pub new_push : (c : Counts) (first n : ℕ) (ks : List AnyKept) (k : AnyKept) → AreNew c first n ks → label_of k ≡ started_label c (first + n) → history_of k ≡ []
+pub new_push : (c : Counts) (first n : ℕ) (ks : List AnyKept) (k : AnyKept) → AreNew c first n ks → label_of k ≡ label_at c (first + n) → history_of k ≡ []
     → AreNew c first (n + 1) (ks ++ k ∷ [])
 new_push c first n ks k new label none = record {
   number = length-append ks (k ∷ []) ∙ omega (arith, new.number);
   labels = λ i x e. elim (got ks k x i e) [
     | inl h ↦ new.labels i x h
-    | inr h ↦ ap label_of (sym h.1) ∙ label ∙ ap (λ (m : ℕ). started_label c (first + m)) (let same : n ≡ i = omega (arith, h.0, new.number) in same)
+    | inr h ↦ ap label_of (sym h.1) ∙ label ∙ ap (λ (m : ℕ). label_at c (first + m)) (let same : n ≡ i = omega (arith, h.0, new.number) in same)
   ];
   histories = λ i x e. elim (got ks k x i e) [ inl h ↦ new.histories i x h | inr h ↦ ap history_of (sym h.1) ∙ none ];
 }
@@ -43,7 +43,7 @@ opening_push c n shards x opens is = record {
 }
 
 -- no file shard is at the root's place
-pub file_label : (c : Counts) (n : ℕ) → 0 < c.names → (let l : Label = record { place = record { 0 = c.names + n }; rooted = false; folded = false } in l ≡ started_label c (c.names + n))
+pub file_label : (c : Counts) (n : ℕ) → 0 < c.names → (let l : Label = record { place = record { 0 = c.names + n }; rooted = false; folded = false } in l ≡ label_at c (c.names + n))
 file_label c n some =
     let lt : id_hash 1 % c.names < c.names = below (id_hash 1) c.names some in
     let apart : eqb (c.names + n) (0 + id_hash 1 % c.names) ≡ false = no_root (c.names + n) (0 + id_hash 1 % c.names) (omega (arith, lt)) in

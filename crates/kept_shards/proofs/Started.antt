@@ -6,9 +6,10 @@ use Rattle.std.proofs.lemmas.List.{length-set, map-append, replicate-append-repl
 use Rattle.std.proofs.lemmas.Option.{slice_get_within}
 use Rattle.tect_ids.specs.declared.ids.Counts.{Counts}
 use Rattle.place_kit.specs.declared.any.AnyKept.{AnyKept}
-use Rattle.place_kit.specs.declared.entry.Entry.{Entry}
+use Rattle.entry_words.specs.declared.entry.Entry.{Entry}
 use Rattle.place_kit.specs.Kept.{label_of, history_of}
-use Rattle.place_kit.specs.Started.{AreStarted, has_names, started_label}
+use Rattle.entry_words.specs.Labels.{label_at}
+use Rattle.place_kit.specs.Started.{AreStarted, has_names}
 use Rattle.kept_shards.specs.Opening.{AreNew}
 
 -- what is read of two lists is read of one of them
@@ -48,7 +49,7 @@ started_set c ks i k l is at label kind = record {
   number = length-set ks i l ∙ is.number;
   labels = λ n x e. elim (got_of_set ks i l n x e) [
     | inl h ↦ is.labels n x h
-    | inr h ↦ ap label_of (sym h.1) ∙ label ∙ is.labels i k at ∙ ap (started_label c) (sym h.0)
+    | inr h ↦ ap label_of (sym h.1) ∙ label ∙ is.labels i k at ∙ ap (label_at c) (sym h.0)
   ];
   kinds = λ n x e. elim (got_of_set ks i l n x e) [
     | inl h ↦ is.kinds n x h
@@ -86,8 +87,8 @@ module _ {K F : Type 0} (c : Counts) (ns : List K) (fs : List F) (na : K → Any
   all_started = record {
     number = length-append (map na ns) (map fa fs) ∙ omega (arith, names.number, files.number);
     labels = λ n k e. elim (got_of_both (map na ns) (map fa fs) n k e) [
-      | inl h ↦ names.labels n k h ∙ ap (started_label c) (let z : 0 + n ≡ n = omega arith in z)
-      | inr h ↦ files.labels h.0 k h.2 ∙ ap (started_label c) (let z : c.names + h.0 ≡ n = omega (arith, h.1, names.number) in z)
+      | inl h ↦ names.labels n k h ∙ ap (label_at c) (let z : 0 + n ≡ n = omega arith in z)
+      | inr h ↦ files.labels h.0 k h.2 ∙ ap (label_at c) (let z : c.names + h.0 ≡ n = omega (arith, h.1, names.number) in z)
     ];
     kinds = λ n k e. elim (got_of_both (map na ns) (map fa fs) n k e) [
       | inl h ↦ kinds_of na true name ns n k h ∙ sym (is_below n c.names (let lt : n < length (map na ns) = slice_get_within (map na ns) n k h in omega (arith, lt, names.number)))

@@ -10,14 +10,14 @@ use Rattle.store_rules.specs.Places.{request_place}
 use Rattle.store_rules.specs.Store.{Store, store_reply, store_step}
 use Rattle.name_shard.specs.Codes.{names_code}
 use Rattle.file_shard.specs.Codes.{files_code}
-use Rattle.place_kit.specs.declared.entry.Entry.{Entry}
-use Rattle.place_kit.specs.contracts.entry.Entry as entry
-use Rattle.place_kit.specs.declared.entry.Moment.TheVariants.{Act}
-use Rattle.place_kit.specs.declared.entry.Refused.{Refused}
-use Rattle.place_kit.specs.declared.entry.Refused.TheVariants.{NoMemory, HistoryFull, Astray}
+use Rattle.entry_words.specs.declared.entry.Entry.{Entry}
+use Rattle.entry_words.specs.contracts.entry.Entry as entry
+use Rattle.entry_words.specs.declared.entry.Moment.TheVariants.{Act}
+use Rattle.entry_words.specs.declared.entry.Refused.{Refused}
+use Rattle.entry_words.specs.declared.entry.Refused.TheVariants.{NoMemory, HistoryFull, Astray}
 use Rattle.place_kit.specs.declared.pass.Pass.{Pass}
 use Rattle.place_kit.specs.Commits.{entry_of}
-use Rattle.place_kit.specs.Started.{started_label}
+use Rattle.entry_words.specs.Labels.{label_at}
 use Rattle.all_shards.specs.Whole.{counts_code}
 
 -- the entries of all places, in their order
@@ -52,7 +52,7 @@ committed w e = record w { store = store_step w.store e.req; entries = slice_set
 abbrev pub entry_here : KeptStore → Pass → AnyReq → AnyReply → Entry
 entry_here w p q x =
     let place = (request_place w.counts q).0 in
-    entry_of (started_label w.counts place) (clock_at w place) p q x
+    entry_of (label_at w.counts place) (clock_at w place) p q x
 
 -- the request was done there with that reply, and the pass has the same entry
 pub record IsDone (old new : KeptStore) (before after : Pass) (q : AnyReq) (x : AnyReply) : Type 0 where

@@ -1,6 +1,7 @@
 use crate::shards::KeptShards;
 use clients::Commits;
-use place_kit::{Pass, Refused};
+use entry_words::Refused;
+use place_kit::Pass;
 use tect_calls::{AnyReply, Asked};
 
 impl Commits for KeptShards {

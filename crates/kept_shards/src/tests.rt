@@ -1,7 +1,8 @@
 ghost use Rattle.std.specs.Prelude.{◌≡◌};
 
 use crate::KeptShards;
-use place_kit::{Pass, Refused};
+use entry_words::Refused;
+use place_kit::Pass;
 use std::process::Abort;
 use std::test::Fail;
 use tect_calls::name_check_dir;

@@ -5,11 +5,11 @@ use Rattle.std.proofs.lemmas.List.Sorted.{Contains-permutation, IsPermutation-sy
 use borrow.Author.Tests.{eqb-true, ltb-true}
 use Rattle.place_kit.specs.declared.any.AnyKept.{AnyKept}
 use Rattle.place_kit.specs.declared.any.AnyKept.TheVariants.{Name, File}
-use Rattle.place_kit.specs.declared.entry.Entry.{Entry}
-use Rattle.place_kit.specs.declared.entry.Moment.TheVariants.{Act}
+use Rattle.entry_words.specs.declared.entry.Entry.{Entry}
+use Rattle.entry_words.specs.declared.entry.Moment.TheVariants.{Act}
 use Rattle.place_kit.specs.declared.pass.Pass.{Pass}
 use Rattle.place_kit.specs.Kept.{history_of, place_of}
-use Rattle.place_kit.specs.Moments.{steps_count}
+use Rattle.entry_words.specs.Moments.{steps_count}
 use Rattle.place_kit.specs.Replay.{stamps_rise}
 use Rattle.merge_runs.specs.Merged.{HaveDifferentActors, StandInOrder, Agree, moments_of, entries_of, trails, histories, IsStored}
 use Rattle.merge_runs.specs.Splits.{IsApart, IsStoredMoment}

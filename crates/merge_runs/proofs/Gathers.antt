@@ -4,12 +4,12 @@ use Rattle.std.specs.List.{flat_map, filter, All, Contains}
 use Rattle.std.specs.List.Sorted.{IsPermutation}
 use Rattle.std.proofs.lemmas.List.Sorted.{IsPermutation-sym}
 use Rattle.place_kit.specs.declared.any.AnyKept.{AnyKept}
-use Rattle.place_kit.specs.declared.entry.Entry.{Entry}
-use Rattle.place_kit.specs.declared.entry.Moment.{Moment}
-use Rattle.place_kit.specs.declared.entry.Moment.TheVariants.{Act}
+use Rattle.entry_words.specs.declared.entry.Entry.{Entry}
+use Rattle.entry_words.specs.declared.entry.Moment.{Moment}
+use Rattle.entry_words.specs.declared.entry.Moment.TheVariants.{Act}
 use Rattle.place_kit.specs.declared.pass.Pass.{Pass}
 use Rattle.place_kit.specs.Kept.{history_of, place_of}
-use Rattle.place_kit.specs.Moments.{is_at, is_of}
+use Rattle.entry_words.specs.Moments.{is_at, is_of}
 use Rattle.merge_runs.specs.Merged.{IsInOrder, moments_of, trails, IsStored, HaveDifferentActors, StandInOrder, RestrictsToTrails, RestrictsToHistories}
 use Rattle.merge_runs.specs.Splits.{IsStoredMoment}
 use Rattle.merge_runs.proofs.Order.{In}

@@ -1,6 +1,6 @@
 -- What a reference that may be there says, and its copy.
 use Rattle.std.proofs.Common.{◌≡◌, Option, Some, None, MatchOption, Bor, sym, subst}
-use Rattle.place_kit.specs.declared.entry.Entry.{Entry}
+use Rattle.entry_words.specs.declared.entry.Entry.{Entry}
 
 pub match_weaker : {X : Type 0} (o : Option X) (P P' : Type 0) (Q Q' : X → Type 0) → MatchOption o P Q → (P → P') → ((x : X) → Q x → Q' x) → MatchOption o P' Q'
 match_weaker None P P' Q Q' m f g = f m

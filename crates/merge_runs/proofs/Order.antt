@@ -5,10 +5,10 @@ use Rattle.std.specs.declared.cmp.Ordering.TheVariants.{Less, Greater}
 use Rattle.std.specs.Cmp.{IsTotalOrder}
 use Rattle.std.proofs.lemmas.Cmp.{nat_cmp_total, on_total, then_total}
 use borrow.Author.Tests.{ltb-true, lt-ltb}
-use Rattle.place_kit.specs.declared.entry.Entry.{Entry}
-use Rattle.place_kit.specs.declared.entry.Moment.{Moment}
-use Rattle.place_kit.specs.declared.entry.Moment.TheVariants.{Act}
-use Rattle.place_kit.specs.Moments.{stamp_of, actor_of, place_of_moment, rises}
+use Rattle.entry_words.specs.declared.entry.Entry.{Entry}
+use Rattle.entry_words.specs.declared.entry.Moment.{Moment}
+use Rattle.entry_words.specs.declared.entry.Moment.TheVariants.{Act}
+use Rattle.entry_words.specs.Moments.{stamp_of, actor_of, place_of_moment, rises}
 use Rattle.place_kit.specs.Replay.{stamps_rise}
 use Rattle.merge_runs.specs.Merged.{moment_cmp, Before, BeforeAll, IsInOrder}
 

@@ -5,7 +5,7 @@ use Rattle.std.proofs.lemmas.List.Sums.{sum_by-cons}
 use Rattle.std.proofs.lemmas.List.Elements.{Contains-get_or}
 use borrow.Author.Tests.{eqb-true}
 use Rattle.place_kit.specs.declared.any.AnyKept.{AnyKept}
-use Rattle.place_kit.specs.declared.entry.Entry.{Entry}
+use Rattle.entry_words.specs.declared.entry.Entry.{Entry}
 use Rattle.place_kit.specs.Kept.{history_of, place_of}
 use Rattle.merge_runs.specs.Merged.{StandInOrder, IsStored, histories}
 use Rattle.merge_runs.proofs.Members.{count_of, in_from_contains, contains_from_in, in_flat, flat_in}

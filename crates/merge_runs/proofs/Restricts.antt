@@ -4,13 +4,13 @@ use Rattle.std.specs.List.{flat_map, filter}
 use Rattle.std.specs.List.Sorted.{IsPermutation}
 use Rattle.std.proofs.lemmas.List.Sorted.{IsPermutation-sym}
 use borrow.Author.Tests.{eq-eqb, eqb-true}
-use Rattle.place_kit.specs.declared.entry.Entry.{Entry}
-use Rattle.place_kit.specs.declared.entry.Moment.{Moment}
-use Rattle.place_kit.specs.declared.entry.Moment.TheVariants.{Act, Local}
+use Rattle.entry_words.specs.declared.entry.Entry.{Entry}
+use Rattle.entry_words.specs.declared.entry.Moment.{Moment}
+use Rattle.entry_words.specs.declared.entry.Moment.TheVariants.{Act, Local}
 use Rattle.place_kit.specs.declared.any.AnyKept.{AnyKept}
 use Rattle.place_kit.specs.declared.any.AnyKept.TheVariants.{Name, File}
 use Rattle.place_kit.specs.declared.pass.Pass.{Pass}
-use Rattle.place_kit.specs.Moments.{actor_of, all_of_actor, is_at, is_of}
+use Rattle.entry_words.specs.Moments.{actor_of, all_of_actor, is_at, is_of}
 use Rattle.place_kit.specs.Replay.{all_at}
 use Rattle.tect_ids.specs.declared.ids.Place.{Place}
 use Rattle.place_kit.specs.Kept.{history_of, place_of}

@@ -4,11 +4,11 @@ use Rattle.std.specs.List.{All, Contains}
 use Rattle.std.proofs.lemmas.List.Elements.{Contains-get_or}
 use borrow.Author.Tests.{eqb-true}
 use Rattle.place_kit.specs.declared.any.AnyKept.{AnyKept}
-use Rattle.place_kit.specs.declared.entry.Entry.{Entry}
-use Rattle.place_kit.specs.declared.entry.Moment.{Moment}
-use Rattle.place_kit.specs.declared.entry.Moment.TheVariants.{Act}
+use Rattle.entry_words.specs.declared.entry.Entry.{Entry}
+use Rattle.entry_words.specs.declared.entry.Moment.{Moment}
+use Rattle.entry_words.specs.declared.entry.Moment.TheVariants.{Act}
 use Rattle.place_kit.specs.declared.pass.Pass.{Pass}
-use Rattle.place_kit.specs.Moments.{steps_count}
+use Rattle.entry_words.specs.Moments.{steps_count}
 use Rattle.merge_runs.specs.Merged.{HaveDifferentActors, moments_of, entries_of, trails, histories, IsStored}
 use Rattle.merge_runs.specs.Splits.{IsInPass, IsOther, IsInPlace, IsApart}
 use Rattle.merge_runs.proofs.Order.{In, both}

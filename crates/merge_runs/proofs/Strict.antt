@@ -9,9 +9,9 @@ use Rattle.std.proofs.lemmas.Cmp.{ranked}
 use Rattle.std.proofs.lemmas.List.Sorted.{sorted_far, ranks_by, sum_by-IsPermutation}
 use Rattle.std.proofs.lemmas.List.Sums.{sum_by-cons, sum_by-append}
 use borrow.Author.Tests.{eq-eqb, eqb-true, ltb-true}
-use Rattle.place_kit.specs.declared.entry.Moment.{Moment}
+use Rattle.entry_words.specs.declared.entry.Moment.{Moment}
 use Rattle.place_kit.specs.declared.pass.Pass.{Pass}
-use Rattle.place_kit.specs.Moments.{stamp_of, actor_of, place_of_moment, rises, all_of_actor}
+use Rattle.entry_words.specs.Moments.{stamp_of, actor_of, place_of_moment, rises, all_of_actor}
 use Rattle.merge_runs.specs.Merged.{moment_cmp, Before, BeforeAll, IsInOrder, moments_of}
 use Rattle.merge_runs.proofs.Order.{total, both}
 use Rattle.merge_runs.proofs.Members.{count_of}

@@ -1,8 +1,8 @@
 -- The numbers by which moments are sorted.
 use Rattle.std.specs.Prelude.{◌≡◌, ℕ}
 use Rattle.std.specs.Coded.{Coded-set, coded_ℕ}
-use Rattle.place_kit.specs.declared.entry.Moment.{Moment}
-use Rattle.place_kit.specs.Moments.{stamp_of, place_of_moment, actor_of}
+use Rattle.entry_words.specs.declared.entry.Moment.{Moment}
+use Rattle.entry_words.specs.Moments.{stamp_of, place_of_moment, actor_of}
 
 -- these are the moment's stamp, place and actor
 pub record IsKeyed (stamp place actor : ℕ) (moment : Moment) : Type 0 where

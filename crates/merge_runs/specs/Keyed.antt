@@ -1,7 +1,7 @@
 -- Moments with the numbers by which they are sorted.
 use Rattle.std.specs.Prelude.{ℕ}
-use Rattle.place_kit.specs.declared.entry.Moment.{Moment}
-use Rattle.place_kit.specs.Moments.{stamp_of, place_of_moment, actor_of}
+use Rattle.entry_words.specs.declared.entry.Moment.{Moment}
+use Rattle.entry_words.specs.Moments.{stamp_of, place_of_moment, actor_of}
 use Rattle.merge_runs.specs.declared.keyed.Keyed.{Keyed}
 
 abbrev pub moment_in : Keyed → Moment

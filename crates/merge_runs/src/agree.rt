@@ -1,21 +1,13 @@
 //! Whether trails and histories have the same entries.
 ghost use Rattle.std.specs.Prelude.{◌≡◌, ◌≢◌, ◌↔◌, IsTrue, All, Contains, MatchOption};
 ghost use Rattle.place_kit.specs.Kept.{history_of};
-ghost use Rattle.place_kit.specs.Moments.{stamp_of};
+ghost use Rattle.entry_words.specs.Moments.{stamp_of};
 ghost use Rattle.merge_runs.specs.Merged.{HaveDifferentActors, StandInOrder, moments_of, entries_of, trails, histories, IsStored};
 ghost use Rattle.merge_runs.specs.Splits.{IsApart, IsStoredMoment};
 
 use crate::same::same_entry;
-use place_kit::{AnyKept, Entry, Moment, Pass};
-
-fn stamp(moment: &Moment) -> u64
-    ensures { result ≡ stamp_of moment.now }
-{
-    match moment {
-        Moment::Act(entry) => entry.stamp,
-        Moment::Local { stamp, .. } => *stamp,
-    }
-}
+use entry_words::{Entry, Moment};
+use place_kit::{AnyKept, Pass};
 
 /// The pass of that actor.
 pub fn pass_of(passes: &[Pass], actor: u32) -> Option<&Pass>
@@ -43,7 +35,7 @@ fn pass_has(pass: &Pass, entry: &Entry) -> bool
     ensures { IsTrue result ↔ Contains (moments_of pass.now) (Moment.Act entry.now) }
 {
     let moments = pass.moments();
-    match moments.binary_search_by_key(&entry.stamp, |m| stamp(m)) {
+    match moments.binary_search_by_key(&entry.stamp, Moment::stamp) {
         Ok(at) => is_act(&moments[at], entry),
         Err(_) => false,
     }

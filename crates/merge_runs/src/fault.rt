@@ -1,4 +1,4 @@
-use place_kit::Entry;
+use entry_words::Entry;
 
 /// Why there is no one history.
 #[derive(Debug, Drop)]

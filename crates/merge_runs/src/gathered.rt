@@ -8,7 +8,8 @@ use crate::agree::first_apart;
 use crate::fault::GatherFault;
 use crate::sorted::merged;
 use crate::split::split;
-use place_kit::{AnyKept, Moment, Pass};
+use entry_words::Moment;
+use place_kit::{AnyKept, Pass};
 use std::alloc::Global;
 use tect_ids::NoMemory;
 

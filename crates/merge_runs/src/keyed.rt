@@ -2,7 +2,7 @@
 ghost use Rattle.std.specs.Prelude.{◌≡◌};
 ghost use Rattle.merge_runs.specs.IsKeyed.{IsKeyed, IsKeyed-prop};
 
-use place_kit::Moment;
+use entry_words::Moment;
 
 /// A moment, with the numbers by which it is sorted.
 #[derive(Drop)]

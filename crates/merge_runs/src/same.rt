@@ -1,7 +1,7 @@
 //! Whether two entries are the same.
 ghost use Rattle.std.specs.Prelude.{◌≡◌, ◌↔◌, IsTrue};
 
-use place_kit::Entry;
+use entry_words::Entry;
 use store_rules::{AnyReply, AnyReq, FileReply, FileReq, NameReply, NameReq};
 use tect_ids::{Items, Key, Listed, Name};
 

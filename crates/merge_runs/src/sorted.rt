@@ -5,7 +5,8 @@ ghost use Rattle.merge_runs.specs.Merged.{moments_of, IsInOrder, HaveDifferentAc
 ghost use Rattle.merge_runs.specs.Keyed.{moment_in, key_in};
 
 use crate::keyed::Keyed;
-use place_kit::{Moment, Pass};
+use entry_words::Moment;
+use place_kit::Pass;
 use std::alloc::Global;
 use tect_ids::NoMemory;
 

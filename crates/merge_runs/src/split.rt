@@ -7,7 +7,8 @@ ghost use Rattle.merge_runs.specs.Splits.{IsApart, IsFault, IsInPass, IsInPlace,
 use crate::agree::{is_stored, pass_of};
 use crate::fault::GatherFault;
 use crate::same::same_entry;
-use place_kit::{AnyKept, Entry, Moment, Pass};
+use entry_words::{Entry, Moment};
+use place_kit::{AnyKept, Pass};
 use std::alloc::Global;
 use tect_ids::NoMemory;
 

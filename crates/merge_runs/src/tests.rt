@@ -2,9 +2,10 @@ ghost use Rattle.std.specs.Prelude.{◌≡◌, OnOk, IfOk, None};
 ghost use Rattle.merge_runs.specs.Merged.{HaveDifferentActors};
 
 use crate::gather;
+use entry_words::{Moment, Note};
 use file_shard::FileShard;
 use name_shard::NameShard;
-use place_kit::{AnyKept, Kept, Moment, Note, Pass};
+use place_kit::{AnyKept, Kept, Pass};
 use std::alloc::{AllocError, Global};
 use std::test::Fail;
 use store_rules::{FileReq, NameReq};

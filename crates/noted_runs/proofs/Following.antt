@@ -8,9 +8,9 @@ use Rattle.tect_ids.specs.declared.script.Line.TheVariants as lines
 use Rattle.world_runs.specs.declared.event.Event.{Event}
 use Rattle.world_runs.specs.Follows.{Busy, DoesLine, FollowsFrom, none_busy, with_busy}
 use Rattle.world_runs.specs.Races.{concerns, line_concerns}
-use Rattle.noted_runs.specs.ClientLines.{DoesLines}
+use Rattle.world_runs.specs.ClientLines.{DoesLines}
 use Rattle.noted_runs.specs.Laws.{ClientsFollow}
-use Rattle.noted_runs.proofs.Actors.{same_number}
+use Rattle.world_runs.proofs.Actors.{same_number}
 
 -- the line is done by its own client
 does_of : (busy : Busy) (actor other : ℕ) (b : Option OpId) (act : Act) (es : List Event) (next : Option OpId) → other ≡ actor → busy actor ≡ b

@@ -6,19 +6,20 @@ use Rattle.std.specs.List.{AllByRecursion, filter}
 use Rattle.tect_ids.specs.declared.answer.Answer.{Answer}
 use Rattle.tect_ids.specs.declared.answer.Answer.TheVariants as answers
 use Rattle.tect_ids.specs.declared.ids.OpId.{OpId}
-use Rattle.place_kit.specs.declared.entry.Moment.{Moment}
-use Rattle.place_kit.specs.declared.entry.Moment.TheVariants.{Act, Local}
-use Rattle.place_kit.specs.declared.entry.Note.{Note}
-use Rattle.place_kit.specs.declared.entry.Note.TheVariants as notes
-use Rattle.place_kit.specs.Moments.{actor_of, all_notes_of, all_of_actor, all_reply_bytes, moment_cost, moments_cost, trail_of}
-use Rattle.place_kit.specs.ReplyBytes.{reply_bytes}
+use Rattle.entry_words.specs.declared.entry.Moment.{Moment}
+use Rattle.entry_words.specs.declared.entry.Moment.TheVariants.{Act, Local}
+use Rattle.entry_words.specs.declared.entry.Note.{Note}
+use Rattle.entry_words.specs.declared.entry.Note.TheVariants as notes
+use Rattle.entry_words.specs.Moments.{actor_of, all_notes_of, all_of_actor, all_reply_bytes, moment_cost, moments_cost, trail_of}
+use Rattle.store_rules.specs.ReplyBytes.{reply_bytes}
 use Rattle.world_runs.specs.declared.event.Event.{Event}
 use Rattle.world_runs.specs.declared.event.Event.TheVariants.{Began, Refused, Acted, Ended, Stopped, Failed, Dumped}
 use Rattle.world_runs.specs.Races.{concerns, is_own}
-use Rattle.noted_runs.specs.Events.{end_event, event_of, events_of, own}
-use Rattle.noted_runs.specs.Laws.{IsOwnNote, IsSilent}
-use Rattle.noted_runs.specs.Limits.{event_bytes, event_cost, kept_bytes, used}
-use Rattle.noted_runs.proofs.Actors.{one_number}
+use Rattle.world_runs.specs.Events.{end_event, event_of, events_of, own}
+use Rattle.world_runs.specs.Events.{IsOwnNote}
+use Rattle.world_runs.specs.Woven.{IsSilent}
+use Rattle.world_runs.specs.Limits.{event_bytes, event_cost, kept_bytes, used}
+use Rattle.world_runs.proofs.Actors.{one_number}
 
 -- ---- what a pass says of its notes
 

@@ -8,18 +8,20 @@ use Rattle.tect_ids.specs.declared.answer.Answer.{Answer}
 use Rattle.tect_ids.specs.declared.answer.Answer.TheVariants as answers
 use Rattle.tect_ids.specs.declared.ids.OpId.{OpId}
 use Rattle.store_rules.specs.Store.{Store}
-use Rattle.place_kit.specs.declared.entry.Moment.{Moment}
-use Rattle.place_kit.specs.declared.entry.Moment.TheVariants.{Act, Local}
-use Rattle.place_kit.specs.declared.entry.Note.TheVariants as notes
-use Rattle.place_kit.specs.Moments.{stamp_of, is_of}
+use Rattle.entry_words.specs.declared.entry.Moment.{Moment}
+use Rattle.entry_words.specs.declared.entry.Moment.TheVariants.{Act, Local}
+use Rattle.entry_words.specs.declared.entry.Note.TheVariants as notes
+use Rattle.entry_words.specs.Moments.{stamp_of, is_of}
 use Rattle.world_runs.specs.declared.event.Event.{Event}
 use Rattle.world_runs.specs.declared.event.Event.TheVariants.{Began, Refused, Acted, Ended, Stopped, Failed, Dumped}
 use Rattle.world_runs.specs.Races.{concerns, is_own}
-use Rattle.noted_runs.specs.Events.{end_event, event_of, events_of, own}
-use Rattle.noted_runs.specs.Laws.{AreSilent, IsOwnNote, IsSilent, StampsRise, WovenConcerns, WovenReplies}
-use Rattle.noted_runs.specs.OwnRuns.{RepliesAre, stored_after}
-use Rattle.noted_runs.specs.Woven.{Cut, is_early, is_late, own_cuts, woven}
-use Rattle.noted_runs.proofs.Actors.{replies-append, replies-front, replies-rest, stored_after-append}
+use Rattle.world_runs.specs.Events.{end_event, event_of, events_of, own}
+use Rattle.world_runs.specs.Events.{IsOwnNote, StampsRise}
+use Rattle.world_runs.specs.Woven.{AreSilent, IsSilent}
+use Rattle.noted_runs.specs.Laws.{WovenConcerns, WovenReplies}
+use Rattle.world_runs.specs.OwnRuns.{RepliesAre, stored_after}
+use Rattle.world_runs.specs.Woven.{Cut, is_early, is_late, own_cuts, woven}
+use Rattle.world_runs.proofs.Actors.{replies-append, replies-front, replies-rest, stored_after-append}
 
 -- ---- what a list keeps
 

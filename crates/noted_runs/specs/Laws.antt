@@ -1,29 +1,21 @@
--- What is so of runs and of what each actor and each place keeps of them.
-use Rattle.std.specs.Prelude.{◌≡◌, ℕ, ◌≤◌, None, Option, List, [], ◌∷◌, filter, map}
+-- What is so of runs and of what each actor notes of them.
+use Rattle.std.specs.Prelude.{◌≡◌, ℕ, None, Option, List, [], filter}
 use Rattle.std.specs.List.{All}
 use Rattle.tect_ids.specs.declared.ids.Counts.{Counts}
 use Rattle.tect_ids.specs.declared.ids.OpId.{OpId}
 use Rattle.tect_ids.specs.declared.script.Line.{Line}
-use Rattle.tect_ids.specs.Places.{HasPlaces}
-use Rattle.store_rules.specs.Places.{request_place}
 use Rattle.store_rules.specs.Store.{Store, opening_store}
-use Rattle.place_kit.specs.declared.any.AnyKept.{AnyKept}
-use Rattle.place_kit.specs.declared.entry.Moment.{Moment}
-use Rattle.place_kit.specs.declared.entry.Moment.TheVariants.{Act, Local}
-use Rattle.place_kit.specs.declared.entry.Note.TheVariants as notes
-use Rattle.place_kit.specs.Kept.{history_of, place_of}
-use Rattle.place_kit.specs.Moments.{stamp_of, is_at, is_of}
-use Rattle.place_kit.specs.Started.{AreStarted}
+use Rattle.entry_words.specs.declared.entry.Moment.{Moment}
+use Rattle.entry_words.specs.Moments.{is_of}
 use Rattle.world_runs.specs.declared.event.Event.{Event}
-use Rattle.world_runs.specs.declared.event.Event.TheVariants.{Began, Refused, Acted, Ended, Stopped, Failed, Dumped}
 use Rattle.world_runs.specs.Moments.{idle_actor, moment, IsWorldRun}
 use Rattle.world_runs.specs.Races.{concerns, line_concerns, race_report, FollowsByClient}
-use Rattle.noted_runs.specs.Events.{events_of, own}
-use Rattle.noted_runs.specs.OwnRuns.{OwnRun, own_state, RepliesAre, stored_after}
-use Rattle.noted_runs.specs.Limits.{KeepsLimits, OwnLimits}
-use Rattle.noted_runs.specs.Woven.{Cut, woven, own_cuts}
-use Rattle.noted_runs.specs.ClientLines.{DoesLines}
-use Rattle.noted_runs.specs.Reports.{parts_report}
+use Rattle.world_runs.specs.Events.{IsOwnNote, StampsRise, events_of, own}
+use Rattle.world_runs.specs.OwnRuns.{OwnRun, own_state, RepliesAre, stored_after}
+use Rattle.world_runs.specs.Limits.{KeepsLimits, OwnLimits}
+use Rattle.world_runs.specs.Woven.{AreSilent, Cut, woven, own_cuts}
+use Rattle.world_runs.specs.ClientLines.{DoesLines}
+use Rattle.world_runs.specs.PartReports.{parts_report}
 
 abbrev pub OwnRunsMakeRun : Type 0
 OwnRunsMakeRun =
@@ -46,46 +38,10 @@ abbrev pub OwnLimitsMakeLimits : Type 0
 OwnLimitsMakeLimits =
     (counts : Counts) (history : List Event) → ((actor : ℕ) → OwnLimits counts [] idle_actor (own actor history)) → KeepsLimits counts history
 
--- each transaction is at the place of its request
-abbrev pub IsPlaced : Counts → Moment → Type 0
-IsPlaced counts (Act e) = e.place ≡ request_place counts e.req
-IsPlaced counts (Local stamp actor note) = Unit {0}
-
--- at each place the moments are the history that is kept there
-abbrev pub PlacesReply : Type 0
-PlacesReply =
-    (counts : Counts) (ks : List AnyKept) (ms : List Moment) → HasPlaces counts → AreStarted counts ks
-    → All (λ k. filter (is_at (place_of k)) ms ≡ map Act (history_of k)) ks → All (IsPlaced counts) ms → RepliesAre opening_store (events_of ms)
-
--- each note is of an op of its actor
-abbrev pub IsOwnNote : Moment → Type 0
-IsOwnNote (Act e) = Unit {0}
-IsOwnNote (Local stamp actor (notes.Began op c)) = op.actor ≡ actor
-IsOwnNote (Local stamp actor (notes.Ended op a)) = op.actor ≡ actor
-IsOwnNote (Local stamp actor (notes.Stopped op)) = op.actor ≡ actor
-
--- the event is of an op that was refused, or may be: no transaction, no begin and no dump
-abbrev pub IsSilent : Event → Type 0
-IsSilent (Refused op c) = Unit {0}
-IsSilent (Ended op a) = Unit {0}
-IsSilent (Stopped op) = Unit {0}
-IsSilent (Failed op a) = Unit {0}
-IsSilent (Began op c) = ⊥
-IsSilent (Acted op q x) = ⊥
-IsSilent Dumped = ⊥
-
-abbrev pub AreSilent : List Cut → List Event → Type 0
-AreSilent cuts last = All (λ c. All IsSilent c.silent) cuts × All IsSilent last
-
 abbrev pub WovenConcerns : Type 0
 WovenConcerns =
     (actor : ℕ) (cuts : List Cut) (last : List Event) (ms : List Moment) → All IsOwnNote ms → AreSilent cuts last
     → filter (concerns actor) (woven cuts last ms) ≡ woven (own_cuts actor cuts) (own actor last) (filter (is_of actor) ms)
-
--- the stamps do not fall
-abbrev pub StampsRise : List Moment → Type 0
-StampsRise [] = Unit {0}
-StampsRise (m ∷ ms) = All (λ n. stamp_of m ≤ stamp_of n) ms × StampsRise ms
 
 -- what is woven has the transactions in the same order
 abbrev pub WovenReplies : Type 0

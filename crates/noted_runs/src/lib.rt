@@ -1,8 +1,17 @@
-//! What each actor notes of its own, and each shard of the requests that it did, is a run of the world: the laws that make one
-//! history of many, for any order of the shards' transactions. Nothing here is called: each function's contract is a law.
+//! What each actor notes of its own makes a run of the world: the laws that make one history of many, for any order of the
+//! transactions. Nothing here is called: each function's contract is a law.
 #![tactic(auto)]
 
-ghost use Rattle.noted_runs.specs.Laws.{OwnRunsMakeRun, RunIsOwnRuns, ActorsAreTheirOwn, OwnLimitsMakeLimits, PlacesReply, WovenConcerns, WovenReplies, WovenReports, ClientsFollow};
+ghost use Rattle.noted_runs.specs.Laws.{
+  ActorsAreTheirOwn,
+  ClientsFollow,
+  OwnLimitsMakeLimits,
+  OwnRunsMakeRun,
+  RunIsOwnRuns,
+  WovenConcerns,
+  WovenReplies,
+  WovenReports,
+};
 
 /// Where each actor's own events are a run of its programs, and each reply is the one that the store gives after the requests
 /// before it, the whole is a run of the world.
@@ -20,12 +29,6 @@ pub fn run_is_own_runs()
 /// Where each actor's own events keep its limits, the whole history does.
 pub fn own_limits_make_limits()
     ensures { OwnLimitsMakeLimits }
-{}
-
-/// Where the moments at each place are the history of the machine that it keeps, each at the place of its request, the replies
-/// are those of the whole store.
-pub fn places_reply()
-    ensures { PlacesReply }
 {}
 
 /// What concerns an actor of a history that is woven of moments, refusals and dumps, is woven of its own moments and refusals,

@@ -2,8 +2,8 @@
 use Rattle.std.proofs.Common.{◌≡◌, ◌≢◌, ℕ, zero, suc, ◌+◌, ◌-◌, ◌<◌, ◌≤◌, Bool, true, false, List, [], ◌∷◌, length, take, get_or, slice_index_or, Option, Some, None, refl, sym, ap, ◌∙◌, arith}
 use Rattle.tect_ids.specs.Keys.{name_eq}
 use Rattle.tect_ids.proofs.KeyTests.{name_eq_cases}
-use Rattle.op_names.specs.Paths.{but_last, last_name}
-use Rattle.op_names.specs.Programs.{at_last}
+use Rattle.program_rules.specs.Paths.{but_last, last_name}
+use Rattle.program_rules.specs.Programs.{at_last}
 
 -- what stands last is the last name
 pub last_at : (p : List (List ℕ)) (x : List ℕ) → 1 ≤ length p → x ≡ slice_index_or p (length p - 1) x → x ≡ last_name p

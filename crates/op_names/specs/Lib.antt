@@ -1,3 +1,4 @@
-pub mod Paths
-pub mod Programs
 pub mod Walking
+pub mod Carrying
+pub mod Needs
+pub mod Serials

@@ -1,8 +1,8 @@
 ghost use Rattle.std.specs.Prelude.{◌≡◌, IfOk, Some, None};
-ghost use Rattle.op_names.specs.Programs.{own_hold, look_ask, first_ask, grant_ask, release_ask, phase_ask, new_path, at_last};
+ghost use Rattle.program_rules.specs.Programs.{own_hold, look_ask, first_ask, grant_ask, release_ask, phase_ask, new_path, at_last};
 
 use crate::paths::{key_at, last_key, last_of};
-use crate::program::Phase;
+use program_rules::{Phase, Program};
 use std::alloc::Global;
 use store_rules::{AnyReq, FileReq, NameReq};
 use tect_ids::{Command, DirId, FileId, Hold, Key, Name, NoMemory, Node, OpId, Path, Want};
@@ -118,7 +118,7 @@ fn new_name_of(alloc: Global, command: &Command) -> Result<Option<Name>, NoMemor
 }
 
 /// The request of a phase.
-pub fn ask_of(
+fn ask_of(
     alloc: Global,
     op: OpId,
     number: u64,
@@ -158,4 +158,12 @@ pub fn ask_of(
         Phase::Release { node, hold, .. } => Ok(Some(release_of(*node, *hold))),
         Phase::End { .. } => Ok(None),
     }
+}
+
+/// The request that the program makes next, where `number` is the one of the next object that its actor makes. None where it
+/// has its answer.
+pub fn ask(program: &Program, alloc: Global, number: u64) -> Result<Option<AnyReq>, NoMemory>
+    ensures { IfOk result (λ req. req ≡ phase_ask program.now.op number program.now.command program.now.phase) }
+{
+    ask_of(alloc, program.op, number, &program.command, &program.phase)
 }

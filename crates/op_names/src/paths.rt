@@ -1,6 +1,6 @@
 ghost use Rattle.std.specs.Prelude.{◌≡◌, IfOk, drop, List, ℕ, Option, Some, None};
-ghost use Rattle.op_names.specs.Paths.{but_last, last_name};
-ghost use Rattle.op_names.specs.Programs.{at_last};
+ghost use Rattle.program_rules.specs.Paths.{but_last, last_name};
+ghost use Rattle.program_rules.specs.Programs.{at_last};
 ghost use Rattle.store_rules.specs.Names.{key_in};
 
 use std::alloc::Global;

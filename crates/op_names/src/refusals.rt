@@ -1,5 +1,5 @@
 ghost use Rattle.std.specs.Prelude.{◌≡◌, IfOk};
-ghost use Rattle.op_names.specs.Programs.{refusal, name_refusal, file_refusal, dir_refusal};
+ghost use Rattle.program_rules.specs.Programs.{refusal, name_refusal, file_refusal, dir_refusal};
 
 use std::alloc::Global;
 use store_rules::{AnyReply, FileReply, NameReply};

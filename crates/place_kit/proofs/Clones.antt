@@ -4,9 +4,9 @@ use Rattle.tect_ids.specs.declared.answer.Answer.{Answer}
 use Rattle.tect_ids.specs.declared.command.Command.{Command}
 use Rattle.tect_ids.specs.declared.ids.OpId.{OpId}
 use Rattle.tect_ids.proofs.Clones.{same_answer, same_command}
-use Rattle.place_kit.specs.contracts.entry.NoteClone.TheImpl as note_clone
-use Rattle.place_kit.specs.declared.entry.Note.{Note}
-use Rattle.place_kit.specs.declared.entry.Note.TheVariants.{Began, Ended, Stopped}
+use Rattle.entry_words.specs.contracts.entry.NoteClone.TheImpl as note_clone
+use Rattle.entry_words.specs.declared.entry.Note.{Note}
+use Rattle.entry_words.specs.declared.entry.Note.TheVariants.{Began, Ended, Stopped}
 
 tie_began : (o p : OpId) (c d : Command) → o ≡ p → c ≡ d → Began o c ≡ Began p d
 tie_began o p c d e f = cc

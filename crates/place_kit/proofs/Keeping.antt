@@ -7,20 +7,20 @@ use Rattle.std.specs.declared.snapshot.Snapshot.{Snapshot}
 use Rattle.tect_ids.specs.declared.ids.OpId.{OpId}
 use Rattle.store_rules.specs.declared.any.AnyReq.{AnyReq}
 use Rattle.store_rules.specs.declared.any.AnyReply.{AnyReply}
-use Rattle.place_kit.specs.declared.entry.Entry.{Entry}
-use Rattle.place_kit.specs.declared.entry.Label.{Label}
-use Rattle.place_kit.specs.declared.entry.Note.{Note}
-use Rattle.place_kit.specs.declared.entry.Note.TheVariants.{Began, Ended, Stopped}
-use Rattle.place_kit.specs.declared.entry.Moment.{Moment}
-use Rattle.place_kit.specs.declared.entry.Moment.TheVariants.{Act, Local}
+use Rattle.entry_words.specs.declared.entry.Entry.{Entry}
+use Rattle.entry_words.specs.declared.entry.Label.{Label}
+use Rattle.entry_words.specs.declared.entry.Note.{Note}
+use Rattle.entry_words.specs.declared.entry.Note.TheVariants.{Began, Ended, Stopped}
+use Rattle.entry_words.specs.declared.entry.Moment.{Moment}
+use Rattle.entry_words.specs.declared.entry.Moment.TheVariants.{Act, Local}
 use Rattle.place_kit.specs.declared.pass.Pass.{Pass}
 use Rattle.place_kit.specs.declared.kept.Kept.{Kept}
 use Rattle.place_kit.specs.declared.machine.Machine.{Ghosts}
 use Rattle.place_kit.specs.Logged.{Logged}
 use Rattle.place_kit.specs.Passes.{IsPass, IsPass-prop, aside, is_run_by}
 use Rattle.place_kit.specs.Commits.{spare_of, begins}
-use Rattle.place_kit.specs.ReplyBytes.{reply_bytes}
-use Rattle.place_kit.specs.Moments.{trail_of, running_in, running_after, op_of, moment_cost}
+use Rattle.store_rules.specs.ReplyBytes.{reply_bytes}
+use Rattle.entry_words.specs.Moments.{trail_of, running_in, running_after, op_of, moment_cost}
 use Rattle.place_kit.specs.Replay.{IsKept, IsKept-prop}
 use Rattle.place_kit.proofs.Pushes.{rises-raised, rises-push, all_of_actor-push, trail_of-act, trail_of-local, trail_of-len, all_notes_of-act, all_notes_of-note, steps_count-push, steps_count-len, all_reply_bytes-push, running_in-push, state_after-push, IsLegal-push, all_at-push, stamps_rise-push}
 

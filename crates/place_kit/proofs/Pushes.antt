@@ -6,12 +6,12 @@ use Rattle.tect_ids.specs.declared.ids.OpId.{OpId}
 use Rattle.tect_ids.specs.declared.ids.Place.{Place}
 use Rattle.store_rules.specs.declared.any.AnyReq.{AnyReq}
 use Rattle.store_rules.specs.declared.any.AnyReply.{AnyReply}
-use Rattle.place_kit.specs.declared.entry.Entry.{Entry}
-use Rattle.place_kit.specs.declared.entry.Note.{Note}
-use Rattle.place_kit.specs.declared.entry.Moment.{Moment}
-use Rattle.place_kit.specs.declared.entry.Moment.TheVariants.{Act, Local}
-use Rattle.place_kit.specs.ReplyBytes.{reply_bytes}
-use Rattle.place_kit.specs.Moments.{stamp_of, actor_of, trail_of, rises, all_of_actor, steps_count, all_reply_bytes, running_after, running_in, op_of, all_notes_of}
+use Rattle.entry_words.specs.declared.entry.Entry.{Entry}
+use Rattle.entry_words.specs.declared.entry.Note.{Note}
+use Rattle.entry_words.specs.declared.entry.Moment.{Moment}
+use Rattle.entry_words.specs.declared.entry.Moment.TheVariants.{Act, Local}
+use Rattle.store_rules.specs.ReplyBytes.{reply_bytes}
+use Rattle.entry_words.specs.Moments.{stamp_of, actor_of, trail_of, rises, all_of_actor, steps_count, all_reply_bytes, running_after, running_in, op_of, all_notes_of}
 use Rattle.place_kit.specs.Replay.{state_after, IsLegal, all_at, stamps_rise}
 
 pub rises-raised : (low high more : ℕ) (ms : List Moment) → rises low high ms ≡ true → high ≤ more → rises low more ms ≡ true

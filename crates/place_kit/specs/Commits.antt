@@ -4,12 +4,12 @@ use Rattle.tect_ids.specs.declared.ids.OpId.{OpId}
 use Rattle.tect_ids.specs.declared.ids.Place.{Place}
 use Rattle.store_rules.specs.declared.any.AnyReq.{AnyReq}
 use Rattle.store_rules.specs.declared.any.AnyReply.{AnyReply}
-use Rattle.place_kit.specs.declared.entry.Entry.{Entry}
-use Rattle.place_kit.specs.declared.entry.Label.{Label}
-use Rattle.place_kit.specs.declared.entry.Note.{Note}
-use Rattle.place_kit.specs.declared.entry.Note.TheVariants.{Began, Ended, Stopped}
-use Rattle.place_kit.specs.declared.entry.Moment.{Moment}
-use Rattle.place_kit.specs.declared.entry.Moment.TheVariants.{Local}
+use Rattle.entry_words.specs.declared.entry.Entry.{Entry}
+use Rattle.entry_words.specs.declared.entry.Label.{Label}
+use Rattle.entry_words.specs.declared.entry.Note.{Note}
+use Rattle.entry_words.specs.declared.entry.Note.TheVariants.{Began, Ended, Stopped}
+use Rattle.entry_words.specs.declared.entry.Moment.{Moment}
+use Rattle.entry_words.specs.declared.entry.Moment.TheVariants.{Local}
 use Rattle.place_kit.specs.declared.pass.Pass.{Pass}
 use Rattle.place_kit.specs.declared.pass.TheConstants.{MOST_MOMENTS, MOST_BYTES}
 use Rattle.place_kit.specs.Passes.{aside}

@@ -1,9 +1,8 @@
 pub mod Logged
-pub mod Moments
 pub mod Passes
-pub mod ReplyBytes
 pub mod Replay
 pub mod Commits
 pub mod Machines
 pub mod Kept
 pub mod Started
+pub mod AnyMachines

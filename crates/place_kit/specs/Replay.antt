@@ -5,8 +5,8 @@ use Rattle.tect_ids.specs.declared.ids.Place.{Place}
 use Rattle.store_rules.specs.declared.any.AnyReq.{AnyReq}
 use Rattle.store_rules.specs.declared.any.AnyReply.{AnyReply}
 use Rattle.store_rules.specs.contracts.AnyReply as any_reply
-use Rattle.place_kit.specs.declared.entry.Entry.{Entry}
-use Rattle.place_kit.specs.declared.entry.Label.{Label}
+use Rattle.entry_words.specs.declared.entry.Entry.{Entry}
+use Rattle.entry_words.specs.declared.entry.Label.{Label}
 
 -- the state after the requests of a history
 abbrev pub state_after : {S : Type 0} → (S → AnyReq → S) → S → List Entry → S

@@ -1,5 +1,5 @@
-use crate::entry::{Entry, Label};
 use crate::kept::Kept;
+use entry_words::{Entry, Label};
 use file_shard::FileShard;
 use name_shard::NameShard;
 

@@ -1,13 +1,13 @@
 ghost use Rattle.std.specs.Prelude.{◌≡◌, ◌+◌, ◌-◌, ◌<◌, ◌≤◌, ◌^◌, [], ◌∷◌, ◌++◌, true, false, length, IfOk, OnOk, OnErr, IsOk, ◌↔◌};
 ghost use Rattle.place_kit.specs.Replay.{IsKept, IsKept-prop};
 ghost use Rattle.place_kit.specs.Commits.{IsFull, entry_of, next_stamp, spare_of, used};
-ghost use Rattle.place_kit.specs.ReplyBytes.{reply_bytes};
+ghost use Rattle.store_rules.specs.ReplyBytes.{reply_bytes};
 
-use crate::entry::{Entry, Label, Moment, Refused};
 use crate::log::Log;
 use crate::machine::Machine;
 use crate::pass::{MOST_BYTES, MOST_MOMENTS, Pass};
 use crate::prepared::Prepared;
+use entry_words::{Entry, Label, Moment, Refused};
 use std::alloc::Global;
 use std::snapshot::Snapshot;
 use tect_ids::{NoMemory, Place};

@@ -2,8 +2,8 @@
 #![tactic(auto)]
 
 mod any;
+mod any_machine;
 mod copies;
-mod entry;
 mod files;
 mod kept;
 mod log;
@@ -16,7 +16,7 @@ mod prepared;
 mod reply_bytes;
 
 pub use any::AnyKept;
-pub use entry::{Entry, Label, Moment, Note, Refused};
+pub use any_machine::AnyMachine;
 pub use kept::Kept;
 pub use machine::Machine;
 pub use pass::{MOST_BYTES, MOST_MOMENTS, Pass};

@@ -1,7 +1,7 @@
 ghost use Rattle.std.specs.Prelude.{◌≡◌, IfOk};
 
 use crate::copies::{copy_file_reply, copy_file_req, copy_name_reply, copy_name_req};
-use crate::entry::{Entry, Moment};
+use entry_words::{Entry, Moment};
 use std::alloc::Global;
 use tect_calls::{AnyReply, AnyReq};
 use tect_ids::NoMemory;

@@ -1,10 +1,10 @@
 ghost use Rattle.std.specs.Prelude.{◌≡◌, ◌+◌, ◌-◌, ◌<◌, ◌≤◌, ◌^◌, [], ◌∷◌, ◌++◌, length, Some, None, max, OnOk, OnErr, IsOk, IsTrue, ◌↔◌, false, true};
 ghost use Rattle.place_kit.specs.Passes.{IsPass, IsPass-prop, aside};
-ghost use Rattle.place_kit.specs.ReplyBytes.{reply_bytes};
+ghost use Rattle.store_rules.specs.ReplyBytes.{reply_bytes};
 
-use crate::entry::{Entry, Moment, Note, Refused};
 use crate::log::Log;
 use crate::reply_bytes::reply_bytes;
+use entry_words::{CLOCK_LIMIT, Entry, Moment, Note, Refused};
 use std::alloc::Global;
 use tect_calls::{AnyReply, AnyReq};
 use tect_ids::{Command, NoMemory, OpId, Place};
@@ -29,7 +29,7 @@ pub struct Pass {
 
 impl Pass {
     ghost use Rattle.place_kit.specs.Commits.{IsFull, IsFullForBegin, MayNote, begins, local_of, op_number, pass_place, spare_of, used};
-    ghost use Rattle.place_kit.specs.Moments.{running_after, op_of, moment_cost};
+    ghost use Rattle.entry_words.specs.Moments.{running_after, op_of, moment_cost};
 
     /// A pass in which nothing was done. It takes no memory.
     pub fn start(alloc: Global, actor: u32) -> Pass
@@ -134,7 +134,9 @@ impl Pass {
     pub fn is_full(&self) -> bool
         ensures { IsTrue result ↔ IsFull self.now }
     {
-        self.used() >= MOST_MOMENTS as usize || self.bytes >= MOST_BYTES || self.clock >= 1 << 63
+        self.used() >= MOST_MOMENTS as usize
+            || self.bytes >= MOST_BYTES
+            || self.clock >= CLOCK_LIMIT
     }
 
     /// Whether the beginning of an op would be refused as full: there is not room for it and for the end of the op, or the
@@ -143,7 +145,7 @@ impl Pass {
         ensures { IsTrue result ↔ IsFullForBegin self.now }
     {
         self.is_small();
-        self.used() + 1 >= MOST_MOMENTS as usize || self.clock >= 1 << 63
+        self.used() + 1 >= MOST_MOMENTS as usize || self.clock >= CLOCK_LIMIT
     }
 
     /// Makes the sure room at least `n` commits. For want of memory nothing is changed.

@@ -1,6 +1,7 @@
 ghost use Rattle.std.specs.Prelude.{◌≡◌, None, OnOk};
 
-use crate::{AnyKept, Kept, MOST_MOMENTS, Note, Pass, Refused};
+use crate::{AnyKept, Kept, MOST_MOMENTS, Pass};
+use entry_words::{Note, Refused};
 use file_shard::FileShard;
 use name_shard::NameShard;
 use std::alloc::Global;

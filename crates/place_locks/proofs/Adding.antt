@@ -6,7 +6,8 @@ use Rattle.tect_ids.specs.declared.ids.Counts.{Counts}
 use Rattle.tect_ids.specs.declared.ids.Layer.TheVariants.{Names, Files}
 use Rattle.place_kit.specs.declared.any.AnyKept.{AnyKept}
 use Rattle.place_kit.specs.Kept.{label_of}
-use Rattle.place_locks.specs.Started.{StandFirst, label_at, layer_at, layer_of}
+use Rattle.entry_words.specs.Labels.{label_at}
+use Rattle.place_locks.specs.Started.{StandFirst, layer_at, layer_of}
 
 -- what is read of a list with one item more is read of the list, or it is that item
 got : {X : Type 0} (xs : List X) (last x : X) (n : ℕ) → slice_get (xs ++ last ∷ []) n ≡ Some x → (slice_get xs n ≡ Some x) ⊎ ((n ≡ length xs) × (last ≡ x))

@@ -3,13 +3,13 @@ use Rattle.std.specs.Prelude.{◌≡◌, ◌≢◌, ◌+◌, ◌<◌, ◌++◌, 
 use Rattle.tect_ids.specs.declared.ids.Place.{Place}
 use Rattle.store_rules.specs.declared.any.AnyReq.{AnyReq}
 use Rattle.store_rules.specs.declared.any.AnyReply.{AnyReply}
-use Rattle.place_kit.specs.declared.entry.Label.{Label}
-use Rattle.place_kit.specs.declared.entry.Moment.TheVariants.{Act}
-use Rattle.place_kit.specs.declared.entry.Refused.{Refused}
-use Rattle.place_kit.specs.declared.entry.Refused.TheVariants.{NoMemory, HistoryFull, Astray}
+use Rattle.entry_words.specs.declared.entry.Label.{Label}
+use Rattle.entry_words.specs.declared.entry.Moment.TheVariants.{Act}
+use Rattle.entry_words.specs.declared.entry.Refused.{Refused}
+use Rattle.entry_words.specs.declared.entry.Refused.TheVariants.{NoMemory, HistoryFull, Astray}
 use Rattle.place_kit.specs.declared.pass.Pass.{Pass}
 use Rattle.place_kit.specs.Commits.{op_number}
-use Rattle.place_kit.specs.ReplyBytes.{reply_bytes}
+use Rattle.store_rules.specs.ReplyBytes.{reply_bytes}
 
 -- the pass grew by the one entry of that request at that place, with that reply; its stamp alone is left open, and rises
 pub record HasCommitted (before now : Pass) (place : Place) (req : AnyReq) (reply : AnyReply) : Type 0 where

@@ -1,15 +1,13 @@
 -- The machines with which the places were started: name shards first, and then file shards.
-use Rattle.std.specs.Prelude.{◌≡◌, ◌≢◌, ℕ, ◌+◌, ◌<◌, ◌==◌, nat_lt, false, if◌then◌else◌, List, length, Some, slice_get}
+use Rattle.std.specs.Prelude.{◌≡◌, ◌≢◌, ℕ, ◌+◌, ◌<◌, nat_lt, false, if◌then◌else◌, List, length, Some, slice_get}
 use Rattle.tect_ids.specs.declared.ids.Counts.{Counts}
 use Rattle.tect_ids.specs.declared.ids.Layer.{Layer}
 use Rattle.tect_ids.specs.declared.ids.Layer.TheVariants.{Names, Files}
-use Rattle.tect_ids.specs.declared.ids.TheConstants.{ROOT}
-use Rattle.tect_ids.specs.Places.{place_number}
 use Rattle.place_kit.specs.declared.any.AnyKept.{AnyKept}
 use Rattle.place_kit.specs.declared.any.AnyKept.TheVariants.{Name, File}
-use Rattle.place_kit.specs.declared.entry.Label.{Label}
-use Rattle.place_kit.specs.declared.entry.Refused.{Refused}
-use Rattle.place_kit.specs.declared.entry.Refused.TheVariants.{NoMemory, HistoryFull, Astray}
+use Rattle.entry_words.specs.Labels.{label_at}
+use Rattle.entry_words.specs.declared.entry.Refused.{Refused}
+use Rattle.entry_words.specs.declared.entry.Refused.TheVariants.{NoMemory, HistoryFull, Astray}
 use Rattle.place_kit.specs.Kept.{label_of}
 
 abbrev pub layer_of : AnyKept → Layer
@@ -19,10 +17,6 @@ layer_of (File k) = Files
 -- the layer of the place with that number
 abbrev pub layer_at : Counts → ℕ → Layer
 layer_at c n = if nat_lt n c.names then Names else Files
-
--- the label that the place with that number was started with: the root stands at one place
-abbrev pub label_at : Counts → ℕ → Label
-label_at c n = record { place = record { 0 = n }; rooted = n == place_number c Names ROOT.0; folded = false }
 
 -- these stand at the first places, in order
 pub record StandFirst (c : Counts) (count : ℕ) (kepts : List AnyKept) : Type 0 where

@@ -3,7 +3,8 @@ ghost use Rattle.place_kit.specs.Commits.{IsFull, used};
 ghost use Rattle.place_locks.specs.Commits.{HasCommitted, IsRefusalFor};
 ghost use Rattle.place_locks.specs.Serving.{IsNext};
 
-use place_kit::{Entry, Kept, Label, MOST_BYTES, MOST_MOMENTS, Machine, Pass, Prepared, Refused};
+use entry_words::{Entry, Label, Refused};
+use place_kit::{Kept, MOST_BYTES, MOST_MOMENTS, Machine, Pass, Prepared};
 use std::alloc::Global;
 use std::hint::spin_loop;
 use std::sync::{Mutex, MutexGuard, Wait};

@@ -5,7 +5,6 @@
 #![tactic(auto)]
 
 mod commits;
-mod labels;
 mod opening;
 mod places;
 mod taking;

@@ -1,7 +1,7 @@
 ghost use Rattle.std.specs.Prelude.{◌≡◌, IfOk, vec_len};
 ghost use Rattle.tect_ids.specs.Places.{HasPlaces};
 
-use crate::labels::label_at;
+use entry_words::label_at;
 use crossbeam_utils::CachePadded;
 use file_shard::FileShard;
 use name_shard::NameShard;

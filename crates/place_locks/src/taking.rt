@@ -1,12 +1,14 @@
 ghost use Rattle.std.specs.Prelude.{◌≡◌, ◌+◌, ◌<◌, ◌++◌, ◌∷◌, [], IfOk, IfErr, OnOk, vec_len};
 ghost use Rattle.tect_ids.specs.Places.{HasPlaces};
-ghost use Rattle.place_locks.specs.Started.{AreStarted, IsLoss, StandFirst, label_at};
+ghost use Rattle.entry_words.specs.Labels.{label_at};
+ghost use Rattle.place_locks.specs.Started.{AreStarted, IsLoss, StandFirst};
 
-use crate::labels::label_at;
+use entry_words::label_at;
 use crossbeam_utils::CachePadded;
 use file_shard::FileShard;
 use name_shard::NameShard;
-use place_kit::{AnyKept, Kept, Machine, Refused};
+use entry_words::Refused;
+use place_kit::{AnyKept, Kept, Machine};
 use std::sync::Mutex;
 use tect_ids::{Counts, Place};
 

@@ -1,7 +1,8 @@
 ghost use Rattle.std.specs.Prelude.{◌≡◌, IfOk};
 
 use crate::Places;
-use place_kit::{AnyKept, MOST_MOMENTS, Pass, Refused};
+use entry_words::Refused;
+use place_kit::{AnyKept, MOST_MOMENTS, Pass};
 use std::alloc::Global;
 use std::process::Abort;
 use std::sync::Wait;

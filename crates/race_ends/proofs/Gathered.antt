@@ -8,9 +8,9 @@ use Rattle.tect_ids.specs.declared.ids.Counts.{Counts}
 use Rattle.tect_ids.specs.declared.script.Line.{Line}
 use Rattle.tect_ids.specs.declared.script.ReportLine.{ReportLine}
 use Rattle.place_kit.specs.declared.any.AnyKept.{AnyKept}
-use Rattle.place_kit.specs.declared.entry.Moment.{Moment}
+use Rattle.entry_words.specs.declared.entry.Moment.{Moment}
 use Rattle.place_kit.specs.declared.pass.Pass.{Pass}
-use Rattle.place_kit.specs.Moments.{actor_of, is_of}
+use Rattle.entry_words.specs.Moments.{actor_of, is_of}
 use Rattle.place_kit.specs.Started.{AreStarted}
 use Rattle.merge_runs.specs.Merged.{HaveDifferentActors, moments_of}
 use Rattle.merge_runs.proofs.Order.{In}

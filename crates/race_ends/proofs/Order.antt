@@ -5,14 +5,14 @@ use Rattle.std.proofs.lemmas.List.Elements.{All-from_recursion}
 use Rattle.std.specs.List.{AllByRecursion, slice_get}
 use Rattle.tect_ids.specs.declared.ids.Counts.{Counts}
 use Rattle.place_kit.specs.declared.any.AnyKept.{AnyKept}
-use Rattle.place_kit.specs.declared.entry.Label.{Label}
-use Rattle.place_kit.specs.declared.entry.Moment.{Moment}
+use Rattle.entry_words.specs.declared.entry.Label.{Label}
+use Rattle.entry_words.specs.declared.entry.Moment.{Moment}
 use Rattle.place_kit.specs.Kept.{place_of}
-use Rattle.place_kit.specs.Moments.{stamp_of}
+use Rattle.entry_words.specs.Moments.{stamp_of}
 use Rattle.place_kit.specs.Started.{AreStarted}
 use Rattle.merge_runs.specs.Merged.{Before, BeforeAll, IsInOrder, StandInOrder}
 use Rattle.merge_runs.proofs.Order.{one_way, stamp_before}
-use Rattle.noted_runs.specs.Laws.{StampsRise}
+use Rattle.world_runs.specs.Events.{StampsRise}
 
 stamp_no_later : (x y : Moment) → Before x y → stamp_of x ≤ stamp_of y
 stamp_no_later x y b = elim (cases_lt (stamp_of y) (stamp_of x)) [ inl h ↦ absurd (one_way x y b (stamp_before y x h)) | inr h ↦ h ]

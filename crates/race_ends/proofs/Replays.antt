@@ -8,16 +8,16 @@ use Rattle.tect_ids.specs.declared.ids.OpId.{OpId}
 use Rattle.tect_ids.specs.declared.answer.Answer.{Answer}
 use Rattle.tect_ids.specs.declared.answer.Answer.TheVariants as answers
 use Rattle.store_rules.specs.Store.{Store, opening_store}
-use Rattle.place_kit.specs.declared.entry.Moment.{Moment}
-use Rattle.place_kit.specs.declared.entry.Moment.TheVariants.{Act, Local}
-use Rattle.place_kit.specs.declared.entry.Note.TheVariants as notes
-use Rattle.place_kit.specs.Moments.{stamp_of}
+use Rattle.entry_words.specs.declared.entry.Moment.{Moment}
+use Rattle.entry_words.specs.declared.entry.Moment.TheVariants.{Act, Local}
+use Rattle.entry_words.specs.declared.entry.Note.TheVariants as notes
+use Rattle.entry_words.specs.Moments.{stamp_of}
 use Rattle.world_runs.specs.declared.event.Event.{Event}
-use Rattle.noted_runs.specs.Events.{event_of, events_of, end_event}
-use Rattle.noted_runs.specs.Laws.{StampsRise}
-use Rattle.noted_runs.specs.OwnRuns.{stored_after}
-use Rattle.noted_runs.specs.Woven.{is_early, is_late}
-use Rattle.noted_runs.proofs.Actors.{stored_after-append}
+use Rattle.world_runs.specs.Events.{event_of, events_of, end_event}
+use Rattle.world_runs.specs.Events.{StampsRise}
+use Rattle.world_runs.specs.OwnRuns.{stored_after}
+use Rattle.world_runs.specs.Woven.{is_early, is_late}
+use Rattle.world_runs.proofs.Actors.{stored_after-append}
 use Rattle.race_runs.specs.Gathered.{store_at}
 use Rattle.race_runs.proofs.Lists.{every-append, every_weaker, filter_all, filter_none}
 use Rattle.race_runs.proofs.Stores.{all_moments_stay, next_up_to, past_up_to}

@@ -3,9 +3,9 @@ use Rattle.std.proofs.Common.{◌≡◌, ℕ, List, [], ◌∷◌, ◌++◌, len
 use Rattle.std.specs.List.{filter}
 use Rattle.tect_ids.specs.declared.script.ReportLine.{ReportLine}
 use Rattle.store_rules.specs.Store.{Store, opening_store}
-use Rattle.place_kit.specs.declared.entry.Moment.{Moment}
-use Rattle.noted_runs.specs.Laws.{StampsRise}
-use Rattle.noted_runs.specs.Woven.{is_late}
+use Rattle.entry_words.specs.declared.entry.Moment.{Moment}
+use Rattle.world_runs.specs.Events.{StampsRise}
+use Rattle.world_runs.specs.Woven.{is_late}
 use Rattle.race_ends.specs.declared.ended.EndedPart.{EndedPart}
 use Rattle.race_ends.specs.Told.{DumpsRise, shown, stored_up_to, told_by}
 use Rattle.race_ends.proofs.Replays.{Replayed, none_replayed, later_rise, next_replayed, next_store}

@@ -4,8 +4,8 @@ use Rattle.std.proofs.lemmas.List.Elements.{All-from_recursion}
 use Rattle.tect_ids.specs.declared.script.ReportLine.{ReportLine}
 use Rattle.tect_ids.specs.declared.script.ReportLine.TheVariants.{Dump}
 use Rattle.store_rules.specs.Dumps.{store_dump}
-use Rattle.place_kit.specs.declared.entry.Moment.{Moment}
-use Rattle.place_kit.specs.Moments.{stamp_of}
+use Rattle.entry_words.specs.declared.entry.Moment.{Moment}
+use Rattle.entry_words.specs.Moments.{stamp_of}
 use Rattle.race_runs.specs.Gathered.{answers_now, rest_of, store_at, told}
 use Rattle.race_runs.specs.Stories.{Story}
 use Rattle.race_runs.proofs.Stores.{ClocksRise}

@@ -5,12 +5,12 @@ use Rattle.tect_ids.specs.declared.script.ReportLine.{ReportLine}
 use Rattle.tect_ids.specs.declared.script.ReportLine.TheVariants.{Dump}
 use Rattle.store_rules.specs.Dumps.{store_dump}
 use Rattle.store_rules.specs.Store.{Store, store_step}
-use Rattle.place_kit.specs.declared.entry.Moment.{Moment}
-use Rattle.place_kit.specs.declared.entry.Moment.TheVariants.{Act, Local}
-use Rattle.place_kit.specs.Moments.{stamp_of}
-use Rattle.noted_runs.specs.Events.{events_of}
-use Rattle.noted_runs.specs.OwnRuns.{stored_after}
-use Rattle.noted_runs.specs.Woven.{is_early}
+use Rattle.entry_words.specs.declared.entry.Moment.{Moment}
+use Rattle.entry_words.specs.declared.entry.Moment.TheVariants.{Act, Local}
+use Rattle.entry_words.specs.Moments.{stamp_of}
+use Rattle.world_runs.specs.Events.{events_of}
+use Rattle.world_runs.specs.OwnRuns.{stored_after}
+use Rattle.world_runs.specs.Woven.{is_early}
 use Rattle.race_runs.specs.Gathered.{store_at}
 use Rattle.race_ends.specs.declared.ended.EndedPart.{EndedPart}
 

@@ -1,4 +1,4 @@
-use place_kit::{Entry, Label};
+use entry_words::{Entry, Label};
 use tect_ids::NoMemory;
 
 /// Why a race came to no end.

@@ -1,22 +1,13 @@
 ghost use Rattle.std.specs.Prelude.{◌≡◌, ◌≤◌, IfOk, OnOk, drop, filter, length, map};
-ghost use Rattle.place_kit.specs.Moments.{stamp_of};
-ghost use Rattle.noted_runs.specs.Events.{event_of};
-ghost use Rattle.noted_runs.specs.Laws.{StampsRise};
-ghost use Rattle.noted_runs.specs.Woven.{is_late};
+ghost use Rattle.entry_words.specs.Moments.{stamp_of};
+ghost use Rattle.world_runs.specs.Events.{event_of};
+ghost use Rattle.world_runs.specs.Events.{StampsRise};
+ghost use Rattle.world_runs.specs.Woven.{is_late};
 ghost use Rattle.race_ends.specs.Told.{after_moment, stored_up_to};
 
 use all_shards::Shards;
-use place_kit::Moment;
+use entry_words::Moment;
 use tect_ids::NoMemory;
-
-fn stamp(moment: &Moment) -> u64
-    ensures { result ≡ stamp_of moment.now }
-{
-    match moment {
-        Moment::Act(entry) => entry.stamp,
-        Moment::Local { stamp, .. } => *stamp,
-    }
-}
 
 // Does a moment's transaction again, if it is one.
 fn redo(shards: &mut Shards, moment: &Moment) -> Result<(), NoMemory>
@@ -40,7 +31,7 @@ pub(crate) fn redo_up_to(
     ensures later { IfOk result (λ done. drop done (map (λ m. m.now) moments.now) ≡ filter (is_late clock) (map (λ m. m.now) moments.now)) }
 {
     for (done, moment) in moments.iter().enumerate() {
-        if stamp(moment) > clock {
+        if moment.stamp() > clock {
             return Ok(done);
         }
         redo(shards, moment)?;

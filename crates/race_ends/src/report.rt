@@ -1,13 +1,13 @@
 ghost use Rattle.std.specs.Prelude.{◌≡◌, ◌++◌, IfOk, OnOk, map};
 ghost use Rattle.store_rules.specs.Dumps.{store_dump};
 ghost use Rattle.tect_ids.specs.Places.{HasPlaces};
-ghost use Rattle.noted_runs.specs.Laws.{StampsRise};
+ghost use Rattle.world_runs.specs.Events.{StampsRise};
 ghost use Rattle.race_ends.specs.Told.{DumpsRise, told_by, shown};
 
 use crate::ended::EndedPart;
 use crate::replay::redo_up_to;
 use all_shards::Shards;
-use place_kit::Moment;
+use entry_words::Moment;
 use std::alloc::Global;
 use tect_ids::{Counts, DumpLine, NoMemory, ReportLine};
 

@@ -12,8 +12,8 @@ use Rattle.world_runs.specs.declared.event.Event.{Event}
 use Rattle.world_runs.specs.declared.event.Event.TheVariants.{Began, Refused, Acted, Ended, Stopped, Failed, Dumped}
 use Rattle.world_runs.specs.Races.{concerns, line_concerns}
 use Rattle.world_runs.specs.Follows.{Acts, IsEndOf, EndsAfter, IsBeginOf, DoesLine}
-use Rattle.noted_runs.specs.ClientLines.{DoesLines}
-use Rattle.noted_runs.proofs.Actors.{same_number, other_number}
+use Rattle.world_runs.specs.ClientLines.{DoesLines}
+use Rattle.world_runs.proofs.Actors.{same_number, other_number}
 use Rattle.race_runs.specs.Gathered.{IsLineOf, is_dump}
 use Rattle.race_runs.proofs.Lists.{every-append}
 use Rattle.race_runs.proofs.Owned.{AllConcern}

@@ -5,15 +5,16 @@ use Rattle.std.proofs.lemmas.Option.{slice_get-map}
 use Rattle.std.specs.Option.{option_map}
 use Rattle.std.specs.List.{AllByRecursion, filter, slice_get}
 use Rattle.tect_ids.specs.declared.ids.Counts.{Counts}
-use Rattle.place_kit.specs.declared.entry.Moment.{Moment}
-use Rattle.place_kit.specs.Moments.{is_of}
+use Rattle.entry_words.specs.declared.entry.Moment.{Moment}
+use Rattle.entry_words.specs.Moments.{is_of}
 use Rattle.world_runs.specs.declared.event.Event.{Event}
 use Rattle.world_runs.specs.declared.event.Event.TheVariants.{Dumped}
 use Rattle.world_runs.specs.Races.{concerns}
-use Rattle.noted_runs.specs.Events.{events_of, own}
-use Rattle.noted_runs.specs.Laws.{IsOwnNote, IsSilent}
-use Rattle.noted_runs.specs.Woven.{is_early, is_late, woven}
-use Rattle.noted_runs.proofs.Actors.{own-append}
+use Rattle.world_runs.specs.Events.{events_of, own}
+use Rattle.world_runs.specs.Events.{IsOwnNote}
+use Rattle.world_runs.specs.Woven.{IsSilent}
+use Rattle.world_runs.specs.Woven.{is_early, is_late, woven}
+use Rattle.world_runs.proofs.Actors.{own-append}
 use Rattle.noted_runs.proofs.Shown.{IsNoDump, silent_no_dump}
 use Rattle.race_runs.specs.Stories.{Part, Story, part_events, all_moments, with_dumps}
 use Rattle.race_runs.specs.Gathered.{part_of, rest_of, silent_now, silent_last, cuts_of, history_of_race}

@@ -9,21 +9,22 @@ use Rattle.tect_ids.specs.declared.ids.OpId.{OpId}
 use Rattle.tect_ids.specs.declared.script.Line.{Line}
 use Rattle.store_rules.specs.Store.{opening_store}
 use Rattle.place_kit.specs.declared.any.AnyKept.{AnyKept}
-use Rattle.place_kit.specs.declared.entry.Moment.{Moment}
-use Rattle.place_kit.specs.Moments.{actor_of, is_of}
+use Rattle.entry_words.specs.declared.entry.Moment.{Moment}
+use Rattle.entry_words.specs.Moments.{actor_of, is_of}
 use Rattle.world_runs.specs.declared.event.Event.{Event}
 use Rattle.world_runs.specs.Moments.{idle_actor}
 use Rattle.world_runs.specs.Races.{concerns, line_concerns}
-use Rattle.noted_runs.specs.ClientLines.{DoesLines}
-use Rattle.noted_runs.specs.Events.{own}
-use Rattle.noted_runs.specs.Laws.{IsOwnNote, IsPlaced, IsSilent, AreSilent}
-use Rattle.noted_runs.specs.Limits.{OwnLimits}
-use Rattle.noted_runs.specs.OwnRuns.{OwnRun, RepliesAre}
-use Rattle.noted_runs.specs.Woven.{Cut}
-use Rattle.noted_runs.proofs.Actors.{other_number}
-use Rattle.noted_runs.proofs.Owns.{own_runs_make_run}
-use Rattle.noted_runs.proofs.Limits.{own_limits_make_limits}
-use Rattle.noted_runs.proofs.Replies.{places_reply}
+use Rattle.world_runs.specs.ClientLines.{DoesLines}
+use Rattle.world_runs.specs.Events.{own}
+use Rattle.world_runs.specs.Events.{IsOwnNote, IsPlaced}
+use Rattle.world_runs.specs.Woven.{IsSilent, AreSilent}
+use Rattle.world_runs.specs.Limits.{OwnLimits}
+use Rattle.world_runs.specs.OwnRuns.{OwnRun, RepliesAre}
+use Rattle.world_runs.specs.Woven.{Cut}
+use Rattle.world_runs.proofs.Actors.{other_number}
+use Rattle.world_runs.proofs.Owns.{own_runs_make_run}
+use Rattle.world_runs.proofs.Limits.{own_limits_make_limits}
+use Rattle.race_runs.proofs.Replies.{places_reply}
 use Rattle.noted_runs.proofs.Weaving.{woven_replies}
 use Rattle.noted_runs.proofs.Following.{clients_follow}
 use Rattle.noted_runs.proofs.Rooms.{own_of_concerns}

@@ -7,17 +7,18 @@ use Rattle.tect_ids.specs.declared.ids.Counts.{Counts}
 use Rattle.tect_ids.specs.declared.ids.OpId.{OpId}
 use Rattle.tect_ids.specs.declared.script.Line.{Line}
 use Rattle.tect_ids.specs.declared.script.Line.TheVariants as lines
-use Rattle.place_kit.specs.declared.entry.Moment.{Moment}
-use Rattle.place_kit.specs.Moments.{stamp_of}
+use Rattle.entry_words.specs.declared.entry.Moment.{Moment}
+use Rattle.entry_words.specs.Moments.{stamp_of}
 use Rattle.world_runs.specs.declared.event.Event.{Event}
 use Rattle.world_runs.specs.declared.event.Event.TheVariants.{Dumped}
 use Rattle.world_runs.specs.Moments.{idle_actor}
 use Rattle.world_runs.specs.Races.{line_concerns, own_lines}
-use Rattle.noted_runs.specs.ClientLines.{DoesLines}
-use Rattle.noted_runs.specs.Events.{event_of, events_of}
-use Rattle.noted_runs.specs.Laws.{IsPlaced, IsOwnNote, IsSilent}
-use Rattle.noted_runs.specs.Limits.{OwnLimits}
-use Rattle.noted_runs.specs.OwnRuns.{OwnRun}
+use Rattle.world_runs.specs.ClientLines.{DoesLines}
+use Rattle.world_runs.specs.Events.{event_of, events_of}
+use Rattle.world_runs.specs.Events.{IsPlaced, IsOwnNote}
+use Rattle.world_runs.specs.Woven.{IsSilent}
+use Rattle.world_runs.specs.Limits.{OwnLimits}
+use Rattle.world_runs.specs.OwnRuns.{OwnRun}
 use Rattle.noted_runs.proofs.Following.{does_lines-append}
 use Rattle.race_runs.specs.Stories.{Part, Story, IsStory, Timely, Answers, AllSilent, part_events, all_moments, all_events, with_dumps}
 

@@ -7,5 +7,6 @@ pub mod Stores
 pub mod Parts
 pub mod Cuts
 pub mod Told
+pub mod Replies
 pub mod Gathered
 pub mod Growing

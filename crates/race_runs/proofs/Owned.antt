@@ -4,15 +4,15 @@ use Rattle.std.specs.List.{AllByRecursion, filter}
 use Rattle.tect_ids.specs.declared.ids.OpId.{OpId}
 use Rattle.tect_ids.specs.declared.answer.Answer.{Answer}
 use Rattle.tect_ids.specs.declared.answer.Answer.TheVariants as answers
-use Rattle.place_kit.specs.declared.entry.Moment.{Moment}
-use Rattle.place_kit.specs.declared.entry.Moment.TheVariants.{Act, Local}
-use Rattle.place_kit.specs.declared.entry.Note.TheVariants as notes
-use Rattle.place_kit.specs.Moments.{is_of}
+use Rattle.entry_words.specs.declared.entry.Moment.{Moment}
+use Rattle.entry_words.specs.declared.entry.Moment.TheVariants.{Act, Local}
+use Rattle.entry_words.specs.declared.entry.Note.TheVariants as notes
+use Rattle.entry_words.specs.Moments.{is_of}
 use Rattle.world_runs.specs.declared.event.Event.{Event}
 use Rattle.world_runs.specs.Races.{is_own, concerns}
-use Rattle.noted_runs.specs.Events.{end_event, event_of, events_of, own}
-use Rattle.noted_runs.specs.Laws.{IsOwnNote}
-use Rattle.noted_runs.proofs.Actors.{actor_of_own}
+use Rattle.world_runs.specs.Events.{end_event, event_of, events_of, own}
+use Rattle.world_runs.specs.Events.{IsOwnNote}
+use Rattle.world_runs.proofs.Actors.{actor_of_own}
 use Rattle.noted_runs.proofs.Shown.{IsNoDump, moment_no_dump, no_dump_own}
 use Rattle.noted_runs.proofs.Weaving.{filter_agree_where}
 use Rattle.race_runs.proofs.Lists.{filter_all, filter_none, every_weaker}

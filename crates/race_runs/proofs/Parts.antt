@@ -3,15 +3,15 @@ use Rattle.std.proofs.Common.{◌≡◌, ◌≢◌, ℕ, ◌+◌, true, Some, Li
 use Rattle.std.proofs.lemmas.List.{append-nil}
 use Rattle.std.specs.List.{AllByRecursion, filter, flat_map, slice_get}
 use Rattle.tect_ids.specs.declared.ids.Counts.{Counts}
-use Rattle.place_kit.specs.declared.entry.Moment.{Moment}
-use Rattle.place_kit.specs.Moments.{is_of}
+use Rattle.entry_words.specs.declared.entry.Moment.{Moment}
+use Rattle.entry_words.specs.Moments.{is_of}
 use Rattle.world_runs.specs.declared.event.Event.{Event}
 use Rattle.world_runs.specs.declared.event.Event.TheVariants.{Dumped}
 use Rattle.world_runs.specs.Races.{is_own, concerns}
-use Rattle.noted_runs.specs.Events.{events_of, own}
-use Rattle.noted_runs.specs.Laws.{IsSilent}
-use Rattle.noted_runs.specs.Woven.{is_early, is_late}
-use Rattle.noted_runs.proofs.Actors.{own-append}
+use Rattle.world_runs.specs.Events.{events_of, own}
+use Rattle.world_runs.specs.Woven.{IsSilent}
+use Rattle.world_runs.specs.Woven.{is_early, is_late}
+use Rattle.world_runs.proofs.Actors.{own-append}
 use Rattle.noted_runs.proofs.Shown.{IsNoDump, silent_no_dump}
 use Rattle.noted_runs.proofs.Weaving.{filter-swap}
 use Rattle.race_runs.specs.Stories.{Part, Story, Timely, Answers, part_events, all_moments, all_events, with_dumps}

@@ -4,15 +4,16 @@ use Rattle.std.proofs.lemmas.List.Elements.{filter-append}
 use Rattle.std.proofs.lemmas.List.{append_assoc, map-append}
 use Rattle.std.specs.List.{AllByRecursion, filter}
 use Rattle.store_rules.specs.Store.{Store, opening_store}
-use Rattle.place_kit.specs.declared.entry.Moment.{Moment}
-use Rattle.place_kit.specs.Moments.{stamp_of}
+use Rattle.entry_words.specs.declared.entry.Moment.{Moment}
+use Rattle.entry_words.specs.Moments.{stamp_of}
 use Rattle.world_runs.specs.declared.event.Event.{Event}
 use Rattle.world_runs.specs.declared.event.Event.TheVariants.{Dumped}
-use Rattle.noted_runs.specs.Events.{event_of, events_of}
-use Rattle.noted_runs.specs.Laws.{IsSilent, StampsRise}
-use Rattle.noted_runs.specs.OwnRuns.{stored_after}
-use Rattle.noted_runs.specs.Woven.{is_early, is_late}
-use Rattle.noted_runs.proofs.Actors.{stored_after-append}
+use Rattle.world_runs.specs.Events.{event_of, events_of}
+use Rattle.world_runs.specs.Events.{StampsRise}
+use Rattle.world_runs.specs.Woven.{IsSilent}
+use Rattle.world_runs.specs.OwnRuns.{stored_after}
+use Rattle.world_runs.specs.Woven.{is_early, is_late}
+use Rattle.world_runs.proofs.Actors.{stored_after-append}
 use Rattle.noted_runs.proofs.Weaving.{silent_replies, stamps_split}
 use Rattle.race_runs.specs.Gathered.{store_at}
 use Rattle.race_runs.specs.Stories.{Part, Timely}

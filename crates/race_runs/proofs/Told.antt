@@ -4,17 +4,18 @@ use Rattle.std.proofs.lemmas.List.{length-map}
 use Rattle.std.specs.List.{AllByRecursion, filter}
 use Rattle.tect_ids.specs.declared.ids.Counts.{Counts}
 use Rattle.store_rules.specs.Store.{opening_store}
-use Rattle.place_kit.specs.declared.entry.Moment.{Moment}
+use Rattle.entry_words.specs.declared.entry.Moment.{Moment}
 use Rattle.world_runs.specs.declared.event.Event.{Event}
 use Rattle.world_runs.specs.declared.event.Event.TheVariants.{Dumped}
 use Rattle.world_runs.specs.Moments.{moment}
 use Rattle.world_runs.specs.Races.{own_lines, part_lines, race_report_after}
-use Rattle.noted_runs.specs.Events.{events_of, own}
-use Rattle.noted_runs.specs.Laws.{IsOwnNote, IsSilent, StampsRise}
-use Rattle.noted_runs.specs.OwnRuns.{stored_after}
-use Rattle.noted_runs.specs.Woven.{is_early, is_late}
-use Rattle.noted_runs.proofs.Owns.{states_are_their_own}
-use Rattle.noted_runs.proofs.Shown.{own_lines_own}
+use Rattle.world_runs.specs.Events.{events_of, own}
+use Rattle.world_runs.specs.Events.{IsOwnNote, StampsRise}
+use Rattle.world_runs.specs.Woven.{IsSilent}
+use Rattle.world_runs.specs.OwnRuns.{stored_after}
+use Rattle.world_runs.specs.Woven.{is_early, is_late}
+use Rattle.world_runs.proofs.Owns.{states_are_their_own}
+use Rattle.world_runs.proofs.OwnLines.{own_lines_own}
 use Rattle.noted_runs.proofs.Weaving.{stamps_rise-filter}
 use Rattle.race_runs.specs.Stories.{Part, Story, Answers, part_events}
 use Rattle.race_runs.specs.Gathered.{part_of, rest_of, silent_now, answers_now, answers_last, history_of_race, store_at, told}

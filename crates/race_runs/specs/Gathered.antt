@@ -10,19 +10,19 @@ use Rattle.tect_ids.specs.Places.{HasPlaces}
 use Rattle.store_rules.specs.Dumps.{store_dump}
 use Rattle.store_rules.specs.Store.{Store, opening_store}
 use Rattle.place_kit.specs.declared.any.AnyKept.{AnyKept}
-use Rattle.place_kit.specs.declared.entry.Moment.{Moment}
-use Rattle.place_kit.specs.declared.entry.Moment.TheVariants.{Act}
+use Rattle.entry_words.specs.declared.entry.Moment.{Moment}
+use Rattle.entry_words.specs.declared.entry.Moment.TheVariants.{Act}
 use Rattle.place_kit.specs.Kept.{history_of, place_of}
-use Rattle.place_kit.specs.Moments.{actor_of, is_at, is_of}
+use Rattle.entry_words.specs.Moments.{actor_of, is_at, is_of}
 use Rattle.place_kit.specs.Started.{AreStarted}
 use Rattle.world_runs.specs.declared.event.Event.{Event}
 use Rattle.world_runs.specs.Moments.{IsWorldRun}
 use Rattle.world_runs.specs.Races.{FollowsByClient, race_report}
-use Rattle.noted_runs.specs.Events.{events_of}
-use Rattle.noted_runs.specs.OwnRuns.{stored_after}
-use Rattle.noted_runs.specs.Limits.{KeepsLimits}
-use Rattle.noted_runs.specs.Laws.{StampsRise}
-use Rattle.noted_runs.specs.Woven.{Cut, is_early, woven}
+use Rattle.world_runs.specs.Events.{events_of}
+use Rattle.world_runs.specs.OwnRuns.{stored_after}
+use Rattle.world_runs.specs.Limits.{KeepsLimits}
+use Rattle.world_runs.specs.Events.{StampsRise}
+use Rattle.world_runs.specs.Woven.{Cut, is_early, woven}
 use Rattle.race_runs.specs.Stories.{Part, Story, IsStory, all_moments}
 
 -- the part of each story before the next dump, and the stories from then on

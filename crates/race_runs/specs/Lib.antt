@@ -1,2 +1,3 @@
+pub mod PlacesReply
 pub mod Stories
 pub mod Gathered

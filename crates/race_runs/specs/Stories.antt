@@ -5,17 +5,18 @@ use Rattle.tect_ids.specs.declared.ids.Counts.{Counts}
 use Rattle.tect_ids.specs.declared.ids.OpId.{OpId}
 use Rattle.tect_ids.specs.declared.script.Line.{Line}
 use Rattle.tect_ids.specs.declared.script.ReportLine.{ReportLine}
-use Rattle.place_kit.specs.declared.entry.Moment.{Moment}
-use Rattle.place_kit.specs.Moments.{stamp_of}
+use Rattle.entry_words.specs.declared.entry.Moment.{Moment}
+use Rattle.entry_words.specs.Moments.{stamp_of}
 use Rattle.world_runs.specs.declared.event.Event.{Event}
 use Rattle.world_runs.specs.declared.event.Event.TheVariants.{Dumped}
 use Rattle.world_runs.specs.Moments.{idle_actor}
 use Rattle.world_runs.specs.Races.{line_concerns, own_lines}
-use Rattle.noted_runs.specs.Events.{events_of}
-use Rattle.noted_runs.specs.OwnRuns.{OwnRun}
-use Rattle.noted_runs.specs.Limits.{OwnLimits}
-use Rattle.noted_runs.specs.ClientLines.{DoesLines}
-use Rattle.noted_runs.specs.Laws.{IsPlaced, IsOwnNote, IsSilent}
+use Rattle.world_runs.specs.Events.{events_of}
+use Rattle.world_runs.specs.OwnRuns.{OwnRun}
+use Rattle.world_runs.specs.Limits.{OwnLimits}
+use Rattle.world_runs.specs.ClientLines.{DoesLines}
+use Rattle.world_runs.specs.Events.{IsPlaced, IsOwnNote}
+use Rattle.world_runs.specs.Woven.{IsSilent}
 
 -- the moments that were noted in a part; the events of the ops that were refused in it, which come last; and the lines of its answers
 pub record Part : Type 0 where

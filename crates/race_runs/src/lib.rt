@@ -1,11 +1,18 @@
-//! The law of races: what clients did side by side, each by its own story, and what the places kept of it, is one run of the
-//! world that follows the script. Nothing here is called: the function's contract is the law.
+//! The laws of races: what clients did side by side, each by its own story, and what the places kept of it, is one run of the
+//! world that follows the script. Nothing here is called: each function's contract is a law.
 #![tactic(auto)]
 
 ghost use Rattle.race_runs.specs.Gathered.{GatheredStoriesAreRun};
+ghost use Rattle.race_runs.specs.PlacesReply.{PlacesReply};
 
-/// Where each client's story is a run of its own programs, and one list of all their moments says of each place what it keeps, the history that is
-/// woven of them is a run of the world.
+/// Where each client's story is a run of its own programs, and one list of all their moments says of each place what it keeps,
+/// the history that is woven of them is a run of the world.
 pub fn gathered_stories_are_run()
     ensures { GatheredStoriesAreRun }
+{}
+
+/// Where the moments at each place are the history of the machine that it keeps, each at the place of its request, the replies
+/// are those of the whole store.
+pub fn places_reply()
+    ensures { PlacesReply }
 {}

@@ -4,17 +4,17 @@ use Rattle.std.proofs.lemmas.List.{append-nil}
 use Rattle.tect_ids.specs.declared.ids.Counts.{Counts}
 use Rattle.tect_ids.specs.declared.ids.OpId.{OpId}
 use Rattle.tect_ids.specs.declared.command.Command.{Command}
-use Rattle.op_names.specs.declared.program.Program.{Program}
-use Rattle.place_kit.specs.declared.entry.Moment.{Moment}
-use Rattle.place_kit.specs.declared.entry.Moment.TheVariants.{Local}
-use Rattle.place_kit.specs.declared.entry.Note.TheVariants as notes
-use Rattle.place_kit.specs.Moments.{rises, running_in, running_after}
+use Rattle.program_rules.specs.declared.program.Program.{Program}
+use Rattle.entry_words.specs.declared.entry.Moment.{Moment}
+use Rattle.entry_words.specs.declared.entry.Moment.TheVariants.{Local}
+use Rattle.entry_words.specs.declared.entry.Note.TheVariants as notes
+use Rattle.entry_words.specs.Moments.{rises, running_in, running_after}
 use Rattle.world_runs.specs.declared.event.Event.{Event}
 use Rattle.world_runs.specs.declared.event.Event.TheVariants.{Began, Refused, Acted, Ended, Stopped, Failed, Dumped}
 use Rattle.world_runs.specs.Follows.{IsBeginOf}
 use Rattle.world_runs.specs.Moments.{Actor}
 use Rattle.world_runs.specs.Races.{own_lines}
-use Rattle.noted_runs.specs.OwnRuns.{own_after, own_state}
+use Rattle.world_runs.specs.OwnRuns.{own_after, own_state}
 use Rattle.clients.specs.Lives.{ClientLife, events_in, state_in, op_in, next_op_in, IsLife, begun_life, refused_life, Begins, stopped_with, stopped_life}
 use Rattle.clients.specs.Phases.{RunsIn}
 use Rattle.racers.specs.Lives.{news_events}

@@ -5,13 +5,13 @@ use Rattle.std.proofs.lemmas.List.{length-map}
 use Rattle.std.proofs.lemmas.List.Elements.{recursion_from_All}
 use Rattle.std.proofs.lemmas.List.Sums.{count_by-le-length}
 use Rattle.tect_ids.specs.declared.ids.OpId.{OpId}
-use Rattle.place_kit.specs.declared.entry.Moment.{Moment}
+use Rattle.entry_words.specs.declared.entry.Moment.{Moment}
 use Rattle.world_runs.specs.declared.event.Event.{Event}
 use Rattle.world_runs.specs.declared.event.Event.TheVariants.{Began, Refused, Acted, Ended, Stopped, Failed, Dumped}
 use Rattle.world_runs.specs.Report.{is_act_of, transactions}
-use Rattle.noted_runs.specs.Events.{event_of, events_of}
-use Rattle.noted_runs.specs.Laws.{IsSilent}
-use Rattle.noted_runs.proofs.Shown.{transactions-append}
+use Rattle.world_runs.specs.Events.{event_of, events_of}
+use Rattle.world_runs.specs.Woven.{IsSilent}
+use Rattle.world_runs.proofs.OwnLines.{transactions-append}
 
 silent_event : (op : OpId) (e : Event) → IsSilent e → transactions (e ∷ []) op ≡ 0
 silent_event op (Refused other c) is = refl

@@ -1,21 +1,21 @@
 -- Steps of a client's command, one after another.
-use Rattle.std.proofs.Common.{◌≡◌, ℕ, ◌+◌, ◌<◌, ◌≤◌, Some, IsSome, List, [], ◌∷◌, ◌++◌, refl, sym, ap, subst, ◌∙◌, append_assoc, arith}
+use Rattle.std.proofs.Common.{◌≡◌, ℕ, ◌+◌, ◌≤◌, Some, IsSome, List, [], ◌∷◌, ◌++◌, refl, sym, ap, subst, ◌∙◌, append_assoc, arith}
 use Rattle.std.specs.Prelude.{Result}
 use Rattle.tect_ids.specs.declared.ids.OpId.{OpId}
 use Rattle.tect_ids.specs.declared.answer.Answer.{Answer}
 use Rattle.store_rules.specs.declared.any.AnyReq.{AnyReq}
-use Rattle.place_kit.specs.declared.entry.Entry.{Entry}
-use Rattle.place_kit.specs.declared.entry.Refused.{Refused}
+use Rattle.entry_words.specs.declared.entry.Entry.{Entry}
+use Rattle.entry_words.specs.declared.entry.Refused.{Refused}
 use Rattle.world_runs.specs.declared.event.Event.{Event}
 use Rattle.world_runs.specs.Follows.{Acts}
-use Rattle.actors.specs.declared.turned.Turned.TheVariants.{Going, Done}
+use Rattle.clients.specs.declared.turned.Turned.TheVariants.{Going, Done}
 use Rattle.clients.specs.Lives.{ClientLife, state_in, op_in, IsLife}
 use Rattle.clients.specs.Steps.{OwnStep}
 use Rattle.racers.specs.Lives.{news_events}
 use Rattle.racers.specs.Steps.{GoesOn, EndsWith, ComesToEnd, StepsUpTo}
 use Rattle.racers.proofs.Growths.{grows_actor, grows_counts, grows_state, grows_none, grows_both, added_events}
 use Rattle.racers.proofs.Transactions.{Keeps, acts_keep, acts-append}
-use Rattle.racers.proofs.OneStep.{left_of, step_goes_on, step_nearer, step_ends}
+use Rattle.racers.proofs.OneStep.{step_goes_on, step_ends}
 
 -- ---- a command that goes on
 
@@ -84,9 +84,6 @@ module _ {W : Type 0} (done : W → W → ℕ → AnyReq → Result Entry Refuse
 
   pub stepped_counts : OwnStep done x y v u Going → u.counts ≡ v.counts
   stepped_counts step = let one = step_goes_on done x y v u stepped.life step in grows_counts v u one.news one.more one.grows
-
-  pub stepped_nearer : OwnStep done x y v u Going → left_of (state_in u).running < left_of (state_in v).running
-  stepped_nearer step = step_nearer done x y v u stepped.life step
 
 -- fewer steps are as many at most
 pub steps_within : (k n : ℕ) (w u : ClientLife) (a : Answer) → k ≤ n → StepsUpTo k w u (Some a) → StepsUpTo n w u (Some a)

@@ -3,13 +3,13 @@ use Rattle.std.proofs.Common.{◌≡◌, ℕ, ◌≤◌, ◌⊎◌, inl, inr, tr
 use Rattle.std.proofs.lemmas.Grind.{common_steps}
 use Rattle.std.proofs.lemmas.List.{append-nil, map-append}
 use Rattle.tect_ids.specs.declared.ids.Counts.{Counts}
-use Rattle.place_kit.specs.declared.entry.Moment.{Moment}
-use Rattle.place_kit.specs.Moments.{rises, stamp_of}
+use Rattle.entry_words.specs.declared.entry.Moment.{Moment}
+use Rattle.entry_words.specs.Moments.{rises, stamp_of}
 use Rattle.world_runs.specs.declared.event.Event.{Event}
 use Rattle.world_runs.specs.Moments.{idle_actor}
-use Rattle.noted_runs.specs.Events.{event_of, events_of}
-use Rattle.noted_runs.specs.OwnRuns.{own_state}
-use Rattle.noted_runs.proofs.Actors.{own_state-append}
+use Rattle.world_runs.specs.Events.{event_of, events_of}
+use Rattle.world_runs.specs.OwnRuns.{own_state}
+use Rattle.world_runs.proofs.Actors.{own_state-append}
 use Rattle.clients.specs.Lives.{ClientLife, events_in, state_in}
 use Rattle.racers.specs.Lives.{grown, news_events}
 use Rattle.racers.specs.Steps.{Grows}

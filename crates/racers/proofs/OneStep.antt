@@ -1,37 +1,33 @@
 -- One step of a client's command: a transaction, after which it goes on, or its end.
-use Rattle.std.proofs.Common.{◌≡◌, ℕ, ◌+◌, ◌<◌, ◌≤◌, inl, inr, Bool, true, false, not, nat_lt, nat_le, ◌&&◌, Option, Some, None, List, [], ◌∷◌, ◌++◌, refl, sym, ap, subst, ◌∙◌, append_assoc, arith}
+use Rattle.std.proofs.Common.{◌≡◌, ℕ, ◌+◌, ◌<◌, ◌≤◌, inl, inr, Bool, true, nat_lt, nat_le, ◌&&◌, Option, Some, None, List, [], ◌∷◌, ◌++◌, refl, sym, ap, subst, ◌∙◌, append_assoc, arith}
 use Rattle.std.specs.Prelude.{Result}
 use Rattle.std.proofs.lemmas.Grind.{common_steps}
 use Rattle.std.proofs.lemmas.List.{append-nil}
-use Rattle.tect_ids.specs.declared.ids.Counts.{Counts}
 use Rattle.tect_ids.specs.declared.ids.OpId.{OpId}
 use Rattle.tect_ids.specs.declared.answer.Answer.{Answer}
 use Rattle.store_rules.specs.declared.any.AnyReq.{AnyReq}
 use Rattle.store_rules.specs.declared.any.AnyReply.{AnyReply}
-use Rattle.store_rules.specs.Places.{request_place}
-use Rattle.op_names.specs.declared.program.Phase.{Phase}
-use Rattle.op_names.specs.declared.program.Phase.TheVariants.{End}
-use Rattle.op_names.specs.declared.program.Program.{Program}
-use Rattle.op_names.specs.Programs.{object_number, phase_ask, phase_hear}
-use Rattle.place_kit.specs.declared.entry.Entry.{Entry}
-use Rattle.place_kit.specs.declared.entry.Moment.{Moment}
-use Rattle.place_kit.specs.declared.entry.Moment.TheVariants.{Act, Local}
-use Rattle.place_kit.specs.declared.entry.Note.TheVariants as notes
-use Rattle.place_kit.specs.declared.entry.Refused.{Refused}
-use Rattle.place_kit.specs.Moments.{rises, running_in}
+use Rattle.program_rules.specs.declared.program.Phase.TheVariants.{End}
+use Rattle.program_rules.specs.declared.program.Program.{Program}
+use Rattle.program_rules.specs.Programs.{object_number, phase_ask}
+use Rattle.entry_words.specs.declared.entry.Entry.{Entry}
+use Rattle.entry_words.specs.declared.entry.Moment.{Moment}
+use Rattle.entry_words.specs.declared.entry.Moment.TheVariants.{Act, Local}
+use Rattle.entry_words.specs.declared.entry.Note.TheVariants as notes
+use Rattle.entry_words.specs.declared.entry.Refused.{Refused}
+use Rattle.entry_words.specs.Moments.{rises, running_in}
 use Rattle.world_runs.specs.declared.event.Event.{Event}
 use Rattle.world_runs.specs.declared.event.Event.TheVariants.{Ended, Acted}
-use Rattle.world_runs.specs.Moments.{Actor, no_room, program_ask, heard, went_on}
-use Rattle.noted_runs.specs.Events.{end_event}
-use Rattle.run_bounds.specs.Bounds.{is_look}
-use Rattle.run_bounds.proofs.PhasesLeft.{looks_left, others_left, looks_asked, others_asked, one_if, Falls, phase_falls}
-use Rattle.actors.specs.declared.turned.Turned.TheVariants.{Going, Done}
-use Rattle.actors.specs.Turns.{turned_by}
+use Rattle.program_rules.specs.Lacks.{no_room}
+use Rattle.world_runs.specs.Moments.{program_ask}
+use Rattle.world_runs.specs.Events.{end_event}
+use Rattle.clients.specs.declared.turned.Turned.TheVariants.{Going, Done}
+use Rattle.clients.specs.Turns.{turned_by}
 use Rattle.clients.specs.Lives.{ClientLife, state_in, op_in, IsLife}
 use Rattle.clients.specs.Phases.{RunsIn}
 use Rattle.clients.specs.Steps.{Tried, Unasked, Did, Denied, Asks, state_after, entry_in, tried_life, ended_with, ended_life, is_later, EndsSo, OwnStep}
 use Rattle.racers.specs.Steps.{Grows, GoesOn, ComesToEnd}
-use Rattle.racers.proofs.Growths.{rises_here, grows_state}
+use Rattle.racers.proofs.Growths.{rises_here}
 use Rattle.racers.proofs.Transactions.{end_event_ends}
 
 -- ---- a command that asks is not one that was refused
@@ -43,28 +39,6 @@ asks_noted : (silent : List Event) (op : Option OpId) (serial : ℕ) (o : Option
 asks_noted [] op serial o q runs asks = refl
 asks_noted (e ∷ es) op serial None q runs asks = absurd cc
 asks_noted (e ∷ es) op serial (Some p) q runs asks = absurd (end_asks_nothing p.op (object_number p.op.actor serial) p q runs.1 asks)
-
--- ---- each transaction leaves fewer
-
--- at most how many transactions are to come
-abbrev pub left_of : Option Program → ℕ
-left_of None = 0
-left_of (Some p) = looks_left p.command p.phase + others_left p.phase
-
-one_of : (q : AnyReq) (a b c d : ℕ) → looks_asked (Some q) + a ≤ b → others_asked (Some q) + c ≤ d → a + c < b + d
-one_of q a b c d looks others =
-    elim (is_look q) as (λ t. one_if t + a ≤ b → one_if (not t) + c ≤ d → a + c < b + d) [ true ↦ λ l o. omega arith | false ↦ λ l o. omega arith ] looks others
-
-heard_falls : (counts : Counts) (serial : ℕ) (q : AnyReq) (x : AnyReply) (o : Option Program) → program_ask serial o ≡ Some q → left_of (heard counts serial q x o) < left_of o
-heard_falls counts serial q x None asks = absurd cc
-heard_falls counts serial q x (Some p) asks =
-    let number : ℕ = object_number p.op.actor serial in
-    let next : Phase = phase_hear (request_place counts q) p.op number p.command p.phase x in
-    let falls : Falls p.command (phase_ask p.op number p.command p.phase) next (looks_left p.command p.phase) (others_left p.phase) =
-    phase_falls (request_place counts q) p.op number p.command p.phase x in
-    let one : Falls p.command (Some q) next (looks_left p.command p.phase) (others_left p.phase) =
-    subst (λ (a : Option AnyReq). Falls p.command a next (looks_left p.command p.phase) (others_left p.phase)) asks falls in
-    one_of q (looks_left p.command next) (looks_left p.command p.phase) (others_left next) (others_left p.phase) one.looks one.others
 
 -- ---- stamps
 
@@ -176,15 +150,6 @@ module _ (old new : ClientLife) where
         let noted = asks_silent q asks in
         acted_ends stamp q x a noted later (life ∙ ap (λ (s : List Event). ended_with (tried_life old stamp (Did q x)) s (op_in old) a) noted)
 
-    nearer_by : (tried : Tried) (stamp : ℕ) → Asks (state_in old) tried → is_later old.clock stamp tried → new ≡ ended_life (tried_life old stamp tried) (op_in old) None
-        → EndsSo (state_after old.counts (state_in old) tried) tried None → left_of (state_in new).running < left_of (state_in old).running
-    nearer_by Unasked stamp asks later life ends = absurd ends
-    nearer_by (Denied q e) stamp asks later life ends = absurd ends
-    nearer_by (Did q x) stamp asks later life ends =
-        let grows = acted_grows stamp q x (asks_silent q asks) later life in
-        let state : state_in new ≡ went_on old.counts (state_in old) q x = grows_state old new (Act (entry_in old stamp q x) ∷ []) [] grows in
-        subst (λ (s : Actor). left_of s.running < left_of (state_in old).running) (sym state) (heard_falls old.counts (state_in old).serial q x (state_in old).running asks)
-
 -- ---- a step
 
 not_done : (o : Option Answer) → Going ≡ turned_by o → o ≡ None
@@ -208,9 +173,6 @@ module _ {W : Type 0} (done : W → W → ℕ → AnyReq → Result Entry Refuse
 
     pub step_goes_on : GoesOn 1 old new
     step_goes_on = goes_by old new is step.tried step.stamp step.asks step.later life_on ends_on
-
-    pub step_nearer : left_of (state_in new).running < left_of (state_in old).running
-    step_nearer = nearer_by old new is step.tried step.stamp step.asks step.later life_on ends_on
 
   pub step_ends : (a : Answer) → OwnStep done w v old new (Done a) → (end : ComesToEnd old new a) × (end.count ≤ 1)
   step_ends a step =

@@ -8,7 +8,7 @@ use Rattle.tect_ids.specs.declared.command.Command.{Command}
 use Rattle.tect_ids.specs.declared.script.Act.{Act}
 use Rattle.tect_ids.specs.declared.script.Act.TheVariants as acts
 use Rattle.tect_ids.specs.declared.script.ReportLine.{ReportLine}
-use Rattle.place_kit.specs.declared.entry.Moment.{Moment}
+use Rattle.entry_words.specs.declared.entry.Moment.{Moment}
 use Rattle.world_runs.specs.declared.event.Event.{Event}
 use Rattle.world_runs.specs.declared.event.Event.TheVariants.{Stopped}
 use Rattle.world_runs.specs.Follows.{EndsAfter, RunsToEnd, DoesLine}
@@ -16,9 +16,9 @@ use Rattle.world_runs.specs.Moments.{Actor}
 use Rattle.world_runs.specs.Races.{own_lines}
 use Rattle.world_runs.specs.Report.{answer_line}
 use Rattle.world_runs.specs.Turns.{turn_after}
-use Rattle.script_runs.specs.Standing.{op_of, AtTurn}
-use Rattle.noted_runs.specs.OwnRuns.{own_after, own_state}
-use Rattle.noted_runs.proofs.Shown.{own_lines-append}
+use Rattle.world_runs.specs.Standing.{op_of, AtTurn}
+use Rattle.world_runs.specs.OwnRuns.{own_after, own_state}
+use Rattle.world_runs.proofs.OwnLines.{own_lines-append}
 use Rattle.clients.specs.Lives.{ClientLife, events_in, state_in, op_in, next_op_in, IsLife}
 use Rattle.racers.specs.declared.racer.Racer.{Racer}
 use Rattle.racers.specs.Lives.{busy_in, news_events}

@@ -6,15 +6,15 @@ use Rattle.tect_ids.specs.declared.ids.Counts.{Counts}
 use Rattle.tect_ids.specs.declared.ids.OpId.{OpId}
 use Rattle.store_rules.specs.declared.any.AnyReq.{AnyReq}
 use Rattle.store_rules.specs.declared.any.AnyReply.{AnyReply}
-use Rattle.op_names.specs.declared.program.Program.{Program}
+use Rattle.program_rules.specs.declared.program.Program.{Program}
 use Rattle.world_runs.specs.declared.event.Event.{Event}
 use Rattle.world_runs.specs.declared.event.Event.TheVariants.{Began, Refused, Acted, Ended, Stopped, Failed, Dumped}
 use Rattle.world_runs.specs.Moments.{Actor, idle_actor, heard}
 use Rattle.world_runs.specs.Races.{is_own}
-use Rattle.script_runs.specs.Standing.{op_of}
-use Rattle.noted_runs.specs.Events.{own}
-use Rattle.noted_runs.specs.OwnRuns.{own_after, own_state}
-use Rattle.noted_runs.proofs.Actors.{one_number}
+use Rattle.world_runs.specs.Standing.{op_of}
+use Rattle.world_runs.specs.Events.{own}
+use Rattle.world_runs.specs.OwnRuns.{own_after, own_state}
+use Rattle.world_runs.proofs.Actors.{one_number}
 use Rattle.clients.specs.Lives.{ClientLife, events_in, state_in, op_in, IsLife}
 use Rattle.racers.specs.Lives.{busy_in}
 

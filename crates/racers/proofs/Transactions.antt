@@ -8,17 +8,17 @@ use Rattle.tect_ids.specs.declared.script.ReportLine.{ReportLine}
 use Rattle.tect_ids.specs.declared.script.ReportLine.TheVariants as report_lines
 use Rattle.store_rules.specs.declared.any.AnyReq.{AnyReq}
 use Rattle.store_rules.specs.declared.any.AnyReply.{AnyReply}
-use Rattle.op_names.specs.declared.program.Program.{Program}
+use Rattle.program_rules.specs.declared.program.Program.{Program}
 use Rattle.world_runs.specs.declared.event.Event.{Event}
 use Rattle.world_runs.specs.declared.event.Event.TheVariants.{Began, Refused, Acted, Ended, Stopped, Failed, Dumped}
 use Rattle.world_runs.specs.Follows.{Acts, IsEndOf}
 use Rattle.world_runs.specs.Moments.{Actor, heard, went_on}
 use Rattle.world_runs.specs.Races.{own_lines}
 use Rattle.world_runs.specs.Report.{answer_line, client_name, transactions}
-use Rattle.noted_runs.specs.Events.{end_event}
-use Rattle.noted_runs.specs.OwnRuns.{own_after, own_state}
-use Rattle.noted_runs.proofs.Actors.{same_number, own_state-append}
-use Rattle.noted_runs.proofs.Shown.{own_lines-append, transactions-append}
+use Rattle.world_runs.specs.Events.{end_event}
+use Rattle.world_runs.specs.OwnRuns.{own_after, own_state}
+use Rattle.world_runs.proofs.Actors.{same_number, own_state-append}
+use Rattle.world_runs.proofs.OwnLines.{own_lines-append, transactions-append}
 use Rattle.racers.specs.Steps.{EndsWith}
 
 -- ---- transactions one after another

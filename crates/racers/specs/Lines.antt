@@ -3,15 +3,15 @@ use Rattle.std.specs.Prelude.{◌≡◌, ℕ, ◌+◌, ◌≤◌, ◌⊎◌, tru
 use Rattle.tect_ids.specs.declared.ids.Counts.{Counts}
 use Rattle.tect_ids.specs.declared.script.Act.{Act}
 use Rattle.store_rules.specs.declared.any.AnyReq.{AnyReq}
-use Rattle.place_kit.specs.declared.entry.Entry.{Entry}
-use Rattle.place_kit.specs.declared.entry.Moment.{Moment}
-use Rattle.place_kit.specs.declared.entry.Refused.{Refused}
-use Rattle.place_kit.specs.Moments.{rises}
+use Rattle.entry_words.specs.declared.entry.Entry.{Entry}
+use Rattle.entry_words.specs.declared.entry.Moment.{Moment}
+use Rattle.entry_words.specs.declared.entry.Refused.{Refused}
+use Rattle.entry_words.specs.Moments.{rises}
 use Rattle.world_runs.specs.declared.event.Event.{Event}
 use Rattle.world_runs.specs.Follows.{DoesLine}
 use Rattle.world_runs.specs.Races.{own_lines}
 use Rattle.world_runs.specs.Turns.{turn_after}
-use Rattle.script_runs.specs.Standing.{AtTurn}
+use Rattle.world_runs.specs.Standing.{AtTurn}
 use Rattle.clients.specs.Lives.{events_in, state_in}
 use Rattle.racers.specs.declared.fault.RacerFault.{RacerFault}
 use Rattle.racers.specs.declared.fault.RacerFault.TheVariants as faults

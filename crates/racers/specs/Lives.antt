@@ -1,10 +1,10 @@
 -- What a client's history says of it.
 use Rattle.std.specs.Prelude.{ℕ, Option, List, ◌++◌}
 use Rattle.tect_ids.specs.declared.ids.OpId.{OpId}
-use Rattle.place_kit.specs.declared.entry.Moment.{Moment}
+use Rattle.entry_words.specs.declared.entry.Moment.{Moment}
 use Rattle.world_runs.specs.declared.event.Event.{Event}
-use Rattle.script_runs.specs.Standing.{op_of}
-use Rattle.noted_runs.specs.Events.{events_of}
+use Rattle.world_runs.specs.Standing.{op_of}
+use Rattle.world_runs.specs.Events.{events_of}
 use Rattle.clients.specs.Lives.{ClientLife, state_in}
 
 -- its op that has begun and not ended

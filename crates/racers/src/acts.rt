@@ -2,7 +2,7 @@ ghost use Rattle.std.specs.Prelude.{◌≡◌, ℕ, ◌+◌, ◌<◌, ◌≤◌,
 ghost use Rattle.world_runs.specs.Report.{transactions, answer_line as line_of};
 ghost use Rattle.world_runs.specs.Served.{IsServed};
 ghost use Rattle.world_runs.specs.Turns.{ClientTurn, TakesAct};
-ghost use Rattle.script_runs.specs.Standing.{AtTurn};
+ghost use Rattle.world_runs.specs.Standing.{AtTurn};
 ghost use Rattle.clients.specs.Lives.{events_in, state_in, op_in, Begins, IsLife};
 ghost use Rattle.racers.specs.Lines.{Plays, IsFaultOf};
 

@@ -1,5 +1,5 @@
 use clients::Astray;
-use place_kit::Label;
+use entry_words::Label;
 use tect_ids::NoMemory;
 
 /// Why a client did not do its line.

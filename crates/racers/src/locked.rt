@@ -1,7 +1,8 @@
 ghost use Rattle.std.specs.Prelude.{◌≡◌};
 
 use clients::Commits;
-use place_kit::{Pass, Refused};
+use entry_words::Refused;
+use place_kit::Pass;
 use place_locks::Places;
 use std::sync::Wait;
 use store_rules::AnyReply;

@@ -19,10 +19,10 @@ use Rattle.store_rules.specs.declared.names.Replaced.{Replaced}
 use Rattle.store_rules.specs.declared.any.AnyReq.{AnyReq}
 use Rattle.store_rules.specs.declared.any.AnyReply.{AnyReply}
 use Rattle.store_rules.specs.Views.{as_found, as_listing, is_made, is_granted, as_bound, as_unbound, as_swapped}
-use Rattle.op_names.specs.declared.program.Phase.{Phase}
-use Rattle.op_names.specs.declared.program.Phase.TheVariants.{Walk, Bind, Grant, Swap, Release, End}
-use Rattle.op_names.specs.Paths.{but_last, last_name}
-use Rattle.op_names.specs.Programs.{new_path, at_last, grant_ask, release_ask, phase_ask, phase_hear, first_ask, first_phase, walked, looked, checked, entries_heard, made_heard, unbound_heard, source_heard, first_hear, then_release, bound_heard, swapped_heard, refusal}
+use Rattle.program_rules.specs.declared.program.Phase.{Phase}
+use Rattle.program_rules.specs.declared.program.Phase.TheVariants.{Walk, Bind, Grant, Swap, Release, End}
+use Rattle.program_rules.specs.Paths.{but_last, last_name}
+use Rattle.program_rules.specs.Programs.{new_path, at_last, grant_ask, release_ask, phase_ask, phase_hear, first_ask, first_phase, walked, looked, checked, entries_heard, made_heard, unbound_heard, source_heard, first_hear, then_release, bound_heard, swapped_heard, refusal}
 use Rattle.run_bounds.specs.Bounds.{is_look, most_looks}
 
 -- a look at the last name comes after the walk

@@ -5,11 +5,11 @@ use Rattle.tect_ids.specs.declared.ids.Counts.{Counts}
 use Rattle.tect_ids.specs.declared.ids.OpId.{OpId}
 use Rattle.tect_ids.specs.declared.command.Command.{Command}
 use Rattle.tect_ids.specs.Keys.{op_eq}
-use Rattle.op_names.specs.declared.program.Program.{Program}
-use Rattle.op_names.specs.Programs.{started, first_phase}
+use Rattle.program_rules.specs.declared.program.Program.{Program}
+use Rattle.program_rules.specs.Programs.{started, first_phase}
 use Rattle.world_runs.specs.declared.event.Event.{Event}
 use Rattle.world_runs.specs.declared.event.Event.TheVariants.{Began, Refused, Acted, Ended, Stopped, Failed, Dumped}
-use Rattle.world_runs.specs.Moments.{Moment, RunFrom, IsWorldRun, opening, after}
+use Rattle.world_runs.specs.Moments.{WorldState, RunFrom, IsWorldRun, opening, after}
 use Rattle.world_runs.specs.Headline.{or_later, command_of}
 use Rattle.world_runs.specs.Report.{is_act_of, transactions}
 use Rattle.run_bounds.specs.Bounds.{is_look, is_look_of, is_other_of, looks_of, others_of, most_looks, IsShort}
@@ -50,7 +50,7 @@ none_more op e es looks others none rest =
     record { looks = omega (arith, looks_more op e es, no_look, rest.looks); others = omega (arith, others_more op e es, no_other, rest.others) }
 
 -- an op that is past takes nothing more
-past_takes : (es : List Event) (m : Moment) (op : OpId) → RunFrom m es → IsPast m op → Takes es op 0 0
+past_takes : (es : List Event) (m : WorldState) (op : OpId) → RunFrom m es → IsPast m op → Takes es op 0 0
 past_takes [] m op run past = nothing_takes op 0 0
 past_takes (e ∷ es) m op run past =
     let step : Rests m e op = past_step m e run.0 op past in
@@ -59,7 +59,7 @@ past_takes (e ∷ es) m op run past =
 -- ---- an op that runs
 
 -- an op that runs takes at most what its phase leaves
-running_takes : (es : List Event) (m : Moment) (op : OpId) (p : Program) → RunFrom m es → Runs m op p → Takes es op (looks_left p.command p.phase) (others_left p.phase)
+running_takes : (es : List Event) (m : WorldState) (op : OpId) (p : Program) → RunFrom m es → Runs m op p → Takes es op (looks_left p.command p.phase) (others_left p.phase)
 running_takes [] m op p run r = nothing_takes op _ _
 running_takes (e ∷ es) m op p run r =
     elim (running_step m e run.0 op p r) [
@@ -80,13 +80,13 @@ begun_takes es op c t =
     record { looks = omega (arith, l.looks, t.looks); others = omega (arith, l.others, t.others) }
 
 -- an op that is refused takes nothing
-declined_takes : (es : List Event) (m : Moment) (e : Event) (op : OpId) → RunFrom (after m e) es → Declines m e op → Takes (e ∷ es) op 0 0
+declined_takes : (es : List Event) (m : WorldState) (e : Event) (op : OpId) → RunFrom (after m e) es → Declines m e op → Takes (e ∷ es) op 0 0
 declined_takes es m e op run d =
     let rest : Takes es op (looks_left d.program.command d.program.phase) (others_left d.program.phase) = running_takes es (after m e) op d.program run d.runs in
     none_more op e es 0 0 d.none record { looks = omega (arith, rest.looks, d.looks); others = omega (arith, rest.others, d.others) }
 
 -- an op that has not begun takes at most the most of the command that it will begin
-ahead_takes : (es : List Event) (m : Moment) (op : OpId) (c : Command) → RunFrom m es → IsAhead m op → command_of es op ≡ Some c → Takes es op (most_looks c) 4
+ahead_takes : (es : List Event) (m : WorldState) (op : OpId) (c : Command) → RunFrom m es → IsAhead m op → command_of es op ≡ Some c → Takes es op (most_looks c) 4
 ahead_takes [] m op c run ahead began = nothing_takes op _ _
 ahead_takes (e ∷ es) m op c run ahead began =
     elim (ahead_step m e run.0 op ahead) [
@@ -104,7 +104,7 @@ ahead_takes (e ∷ es) m op c run ahead began =
     ]
 
 -- an op that begins no command
-idle_takes : (es : List Event) (m : Moment) (op : OpId) → RunFrom m es → IsAhead m op → command_of es op ≡ None → Takes es op 0 0
+idle_takes : (es : List Event) (m : WorldState) (op : OpId) → RunFrom m es → IsAhead m op → command_of es op ≡ None → Takes es op 0 0
 idle_takes [] m op run ahead idle = nothing_takes op 0 0
 idle_takes (e ∷ es) m op run ahead idle =
     elim (ahead_step m e run.0 op ahead) [

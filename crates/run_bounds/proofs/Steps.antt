@@ -9,12 +9,13 @@ use Rattle.tect_ids.proofs.KeyTests.{op_eq_cases}
 use Rattle.store_rules.specs.declared.any.AnyReq.{AnyReq}
 use Rattle.store_rules.specs.declared.any.AnyReply.{AnyReply}
 use Rattle.store_rules.specs.Places.{request_place}
-use Rattle.op_names.specs.declared.program.Phase.TheVariants.{End}
-use Rattle.op_names.specs.declared.program.Program.{Program}
-use Rattle.op_names.specs.Programs.{object_number, phase_ask, phase_hear, started}
+use Rattle.program_rules.specs.declared.program.Phase.TheVariants.{End}
+use Rattle.program_rules.specs.declared.program.Program.{Program}
+use Rattle.program_rules.specs.Programs.{object_number, phase_ask, phase_hear, started}
 use Rattle.world_runs.specs.declared.event.Event.{Event}
 use Rattle.world_runs.specs.declared.event.Event.TheVariants.{Began, Refused, Acted, Ended, Stopped, Failed, Dumped}
-use Rattle.world_runs.specs.Moments.{Moment, Actor, May, after, program_of, running, program_ask, program_answer, begun, refused, no_room, went_on, heard}
+use Rattle.program_rules.specs.Lacks.{no_room}
+use Rattle.world_runs.specs.Moments.{WorldState, Actor, May, after, program_of, running, program_ask, program_answer, begun, refused, went_on, heard}
 use Rattle.world_runs.specs.Headline.{begun_by}
 use Rattle.sound_runs.proofs.MomentsKeep.{RunsAs, runs_as}
 use Rattle.tree_runs.proofs.Histories.{numbers_grow}
@@ -25,17 +26,17 @@ use Rattle.run_bounds.proofs.PhasesLeft.{looks_left, others_left, one_if, looks_
 -- ---- where an op stands at a moment
 
 -- the op has begun and runs no more
-pub record IsPast (m : Moment) (op : OpId) : Type 0 where
+pub record IsPast (m : WorldState) (op : OpId) : Type 0 where
   pub old : op.number ≤ (m.actors op.actor).number
   pub idle : running m op ≡ None
 
 -- the op runs as this program
-pub record Runs (m : Moment) (op : OpId) (p : Program) : Type 0 where
+pub record Runs (m : WorldState) (op : OpId) (p : Program) : Type 0 where
   pub old : op.number ≤ (m.actors op.actor).number
   pub is : running m op ≡ Some p
 
 -- the op has not begun
-pub record IsAhead (m : Moment) (op : OpId) : Type 0 where
+pub record IsAhead (m : WorldState) (op : OpId) : Type 0 where
   pub new : (m.actors op.actor).number < op.number
   pub idle : running m op ≡ None
 
@@ -86,7 +87,7 @@ answers_runs None a e = absurd (let k : None ≡ Some a = e in cc)
 answers_runs (Some p) a e = (p, refl)
 
 -- an actor runs one op at a time
-runs_alone : (m : Moment) (other op : OpId) (p : Program) → running m other ≡ Some p → op_eq other op ≡ false → op.actor ≡ other.actor → running m op ≡ None
+runs_alone : (m : WorldState) (other op : OpId) (p : Program) → running m other ≡ Some p → op_eq other op ≡ false → op.actor ≡ other.actor → running m op ≡ None
 runs_alone m other op p e t same =
     let r : RunsAs (m.actors other.actor).running other p = runs_as (m.actors other.actor).running other p e in
     let there : (m.actors op.actor).running ≡ Some p = rw same r.is in
@@ -102,7 +103,7 @@ heard_alone counts serial q x o other op p e t =
     rw (there, no) refl
 
 -- an event of another op leaves the op's program
-other_keeps : (m : Moment) (e : Event) → May m e → (op : OpId) → op_eq (op_of e) op ≡ false → running (after m e) op ≡ running m op
+other_keeps : (m : WorldState) (e : Event) → May m e → (op : OpId) → op_eq (op_of e) op ≡ false → running (after m e) op ≡ running m op
 other_keeps m (Began other c) may op t =
     actor_cases (λ st. program_of st.running op ≡ running m op) m.actors other.actor (begun (m.actors other.actor) other c) op.actor
     (λ same. let idle : (m.actors op.actor).running ≡ None = rw same (may.0).idle in rw (t, idle) refl) (λ d. refl)
@@ -132,7 +133,7 @@ own_actor P actors a state h = actor_cases P actors a state a (λ e. h) (λ d. a
 -- ---- an op that is past
 
 -- an op that is past has no event of its own
-own_not_past : (m : Moment) (e : Event) → HasOp e → May m e → IsPast m (op_of e) → ⊥
+own_not_past : (m : WorldState) (e : Event) → HasOp e → May m e → IsPast m (op_of e) → ⊥
 own_not_past m (Began op c) has may past = omega (arith, (may.0).next, past.old)
 own_not_past m (Refused op c) has may past = omega (arith, (may.0).next, past.old)
 own_not_past m (Acted op q x) has may past =
@@ -146,12 +147,12 @@ own_not_past m (Failed op a) has may past = let k : None ≡ Some (may.1).0 = sy
 own_not_past m Dumped has may past = has
 
 -- the op stays past, and the event is none of its transactions
-pub record Rests (m : Moment) (e : Event) (op : OpId) : Type 0 where
+pub record Rests (m : WorldState) (e : Event) (op : OpId) : Type 0 where
   pub past : IsPast (after m e) op
   pub none : IsNone op e
 
 -- so it is after each event of an op
-op_past_step : (m : Moment) (e : Event) → HasOp e → May m e → (op : OpId) → IsPast m op → Rests m e op
+op_past_step : (m : WorldState) (e : Event) → HasOp e → May m e → (op : OpId) → IsPast m op → Rests m e op
 op_past_step m e has may op past =
     elim (op_eq_cases (op_of e) op) [
       | inl (t, same) ↦ absurd (own_not_past m e has may (subst (λ (o : OpId). IsPast m o) (sym same) past))
@@ -162,25 +163,25 @@ op_past_step m e has may op past =
     ]
 
 -- and after any event
-pub past_step : (m : Moment) (e : Event) → May m e → (op : OpId) → IsPast m op → Rests m e op
+pub past_step : (m : WorldState) (e : Event) → May m e → (op : OpId) → IsPast m op → Rests m e op
 past_step m Dumped may op past = record { past = past; none = record { looks = refl; others = refl } }
 past_step m e may op past = op_past_step m e tt may op past
 
 -- ---- an op that runs
 
 -- the op goes on, and the event is within what was left
-pub record GoesOn (m : Moment) (e : Event) (op : OpId) (p : Program) : Type 0 where
+pub record GoesOn (m : WorldState) (e : Event) (op : OpId) (p : Program) : Type 0 where
   pub next : Program
   pub runs : Runs (after m e) op next
   pub looks : one_if (is_look_of op e) + looks_left next.command next.phase ≤ looks_left p.command p.phase
   pub others : one_if (is_other_of op e) + others_left next.phase ≤ others_left p.phase
 
 -- it goes on or it ends
-abbrev pub Steps : Moment → Event → OpId → Program → Type 0
+abbrev pub Steps : WorldState → Event → OpId → Program → Type 0
 Steps m e op p = GoesOn m e op p ⊎ Rests m e op
 
 -- the program after a reply
-abbrev hears : Moment → OpId → AnyReq → AnyReply → Program → Program
+abbrev hears : WorldState → OpId → AnyReq → AnyReply → Program → Program
 hears m op q x p = record p { phase = phase_hear (request_place m.counts q) p.op (object_number p.op.actor (m.actors op.actor).serial) p.command p.phase x }
 
 -- the op runs on when its program heard a reply
@@ -193,7 +194,7 @@ heard_runs counts serial q x o op p e =
     rw (there, yes) refl
 
 -- the op's own transaction
-pub own_acts : (m : Moment) (op : OpId) (q : AnyReq) (x : AnyReply) → May m (Acted op q x) → (p : Program) → Runs m op p → GoesOn m (Acted op q x) op p
+pub own_acts : (m : WorldState) (op : OpId) (q : AnyReq) (x : AnyReply) → May m (Acted op q x) → (p : Program) → Runs m op p → GoesOn m (Acted op q x) op p
 own_acts m op q x may p r =
     let serial : ℕ = (m.actors op.actor).serial in
     let f : Falls p.command (phase_ask p.op (object_number p.op.actor serial) p.command p.phase) (hears m op q x p).phase (looks_left p.command p.phase) (others_left p.phase) =
@@ -211,7 +212,7 @@ own_acts m op q x may p r =
     }
 
 -- the op's own event
-own_step : (m : Moment) (e : Event) → HasOp e → May m e → (p : Program) → Runs m (op_of e) p → Steps m e (op_of e) p
+own_step : (m : WorldState) (e : Event) → HasOp e → May m e → (p : Program) → Runs m (op_of e) p → Steps m e (op_of e) p
 own_step m (Began op c) has may p r =
     let none : running m op ≡ None = rw (may.0).idle refl in
     let k : None ≡ Some p = sym none ∙ r.is in absurd (cc)
@@ -243,7 +244,7 @@ own_step m (Failed op a) has may p r = inr record {
 own_step m Dumped has may p r = absurd has
 
 -- any event of an op
-op_running_step : (m : Moment) (e : Event) → HasOp e → May m e → (op : OpId) (p : Program) → Runs m op p → Steps m e op p
+op_running_step : (m : WorldState) (e : Event) → HasOp e → May m e → (op : OpId) (p : Program) → Runs m op p → Steps m e op p
 op_running_step m e has may op p r =
     elim (op_eq_cases (op_of e) op) [
       | inl (t, same) ↦ subst (λ (o : OpId). Steps m e o p) same (own_step m e has may p (subst (λ (o : OpId). Runs m o p) (sym same) r))
@@ -258,21 +259,21 @@ op_running_step m e has may op p r =
     ]
 
 -- any event
-pub running_step : (m : Moment) (e : Event) → May m e → (op : OpId) (p : Program) → Runs m op p → Steps m e op p
+pub running_step : (m : WorldState) (e : Event) → May m e → (op : OpId) (p : Program) → Runs m op p → Steps m e op p
 running_step m Dumped may op p r = inl record { next = p; runs = r; looks = omega arith; others = omega arith }
 running_step m e may op p r = op_running_step m e tt may op p r
 
 -- ---- an op that has not begun
 
 -- it begins
-pub record Begins (m : Moment) (e : Event) (op : OpId) : Type 0 where
+pub record Begins (m : WorldState) (e : Event) (op : OpId) : Type 0 where
   pub command : Command
   pub begins : begun_by e op ≡ Some command
   pub runs : Runs (after m e) op (started op command)
   pub none : IsNone op e
 
 -- it is refused: it runs with nothing left to do
-pub record Declines (m : Moment) (e : Event) (op : OpId) : Type 0 where
+pub record Declines (m : WorldState) (e : Event) (op : OpId) : Type 0 where
   pub program : Program
   pub runs : Runs (after m e) op program
   pub looks : looks_left program.command program.phase ≡ 0
@@ -280,7 +281,7 @@ pub record Declines (m : Moment) (e : Event) (op : OpId) : Type 0 where
   pub none : IsNone op e
 
 -- the one or the other
-abbrev pub Starts : Moment → Event → OpId → Type 0
+abbrev pub Starts : WorldState → Event → OpId → Type 0
 Starts m e op = Begins m e op ⊎ Declines m e op
 
 -- the program of an op that was refused
@@ -288,13 +289,13 @@ abbrev declined : OpId → Command → Program
 declined op c = record { op = op; command = c; phase = End no_room }
 
 -- it has not begun yet
-pub record Waits (m : Moment) (e : Event) (op : OpId) : Type 0 where
+pub record Waits (m : WorldState) (e : Event) (op : OpId) : Type 0 where
   pub begins : begun_by e op ≡ None
   pub ahead : IsAhead (after m e) op
   pub none : IsNone op e
 
 -- the op's own event is its begin or its refusal
-own_starts : (m : Moment) (e : Event) → HasOp e → May m e → IsAhead m (op_of e) → Starts m e (op_of e)
+own_starts : (m : WorldState) (e : Event) → HasOp e → May m e → IsAhead m (op_of e) → Starts m e (op_of e)
 own_starts m (Began op c) has may ahead =
     let own : op_eq op op ≡ true = same_op op op refl in
     inl record {
@@ -334,7 +335,7 @@ unfolding op_eq
 numbers_differ a b t same e = grind (arith, t, same, e)
 
 -- another op's event leaves the number of one that waits ahead
-still_new : (m : Moment) (e : Event) → May m e → (op : OpId) → op_eq (op_of e) op ≡ false → (m.actors op.actor).number < op.number → ((after m e).actors op.actor).number < op.number
+still_new : (m : WorldState) (e : Event) → May m e → (op : OpId) → op_eq (op_of e) op ≡ false → (m.actors op.actor).number < op.number → ((after m e).actors op.actor).number < op.number
 still_new m (Began other c) may op t new =
     actor_cases (λ st. st.number < op.number) m.actors other.actor (begun (m.actors other.actor) other c) op.actor
     (λ same.
@@ -368,7 +369,7 @@ other_begins op (Failed other a) t = refl
 other_begins op Dumped t = refl
 
 -- any event of an op
-op_ahead_step : (m : Moment) (e : Event) → HasOp e → May m e → (op : OpId) → IsAhead m op → Starts m e op ⊎ Waits m e op
+op_ahead_step : (m : WorldState) (e : Event) → HasOp e → May m e → (op : OpId) → IsAhead m op → Starts m e op ⊎ Waits m e op
 op_ahead_step m e has may op ahead =
     elim (op_eq_cases (op_of e) op) [
       | inl (t, same) ↦ inl (subst (λ (o : OpId). Starts m e o) same (own_starts m e has may (subst (λ (o : OpId). IsAhead m o) (sym same) ahead)))
@@ -380,6 +381,6 @@ op_ahead_step m e has may op ahead =
     ]
 
 -- any event
-pub ahead_step : (m : Moment) (e : Event) → May m e → (op : OpId) → IsAhead m op → Starts m e op ⊎ Waits m e op
+pub ahead_step : (m : WorldState) (e : Event) → May m e → (op : OpId) → IsAhead m op → Starts m e op ⊎ Waits m e op
 ahead_step m Dumped may op ahead = inr record { begins = refl; ahead = ahead; none = record { looks = refl; others = refl } }
 ahead_step m e may op ahead = op_ahead_step m e tt may op ahead

@@ -1,12 +1,12 @@
 -- How many transactions a command may take.
-use Rattle.std.specs.Prelude.{ℕ, ◌+◌, ◌≤◌, max, Bool, true, false, not, ◌&&◌, List, [], length, count_by}
+use Rattle.std.specs.Prelude.{ℕ, ◌+◌, ◌≤◌, max, Bool, true, false, not, ◌&&◌, List, length, count_by}
 use Rattle.tect_ids.specs.declared.ids.OpId.{OpId}
 use Rattle.tect_ids.specs.declared.command.Command.{Command}
-use Rattle.tect_ids.specs.declared.command.Command.TheVariants as commands
 use Rattle.tect_ids.specs.Keys.{op_eq}
 use Rattle.store_rules.specs.declared.names.NameReq.TheVariants as names
 use Rattle.store_rules.specs.declared.any.AnyReq.{AnyReq}
 use Rattle.store_rules.specs.declared.any.AnyReq.TheVariants as any
+use Rattle.program_rules.specs.Programs.{first_path}
 use Rattle.world_runs.specs.declared.event.Event.{Event}
 use Rattle.world_runs.specs.declared.event.Event.TheVariants.{Began, Refused, Acted, Ended, Stopped, Failed, Dumped}
 use Rattle.world_runs.specs.Report.{transactions}
@@ -44,16 +44,6 @@ looks_of history op = count_by (is_look_of op) history
 -- how many transactions beside its looks the op took
 abbrev pub others_of : List Event → OpId → ℕ
 others_of history op = count_by (is_other_of op) history
-
--- the path that a command on names walks; of a rename the one of the old name
-abbrev pub first_path : Command → List (List ℕ)
-first_path (commands.Look p) = p
-first_path (commands.List p) = p
-first_path (commands.Create p) = p
-first_path (commands.Mkdir p) = p
-first_path (commands.Delete p) = p
-first_path (commands.Rename p to) = p
-first_path _ = []
 
 -- one look for each name of its path, and one for a path without names
 abbrev pub most_looks : Command → ℕ

@@ -8,14 +8,14 @@ use Rattle.tect_ids.specs.declared.answer.Answer.{Answer}
 use Rattle.tect_ids.specs.declared.answer.Answer.TheVariants.{Odd}
 use Rattle.world_runs.specs.declared.event.Event.{Event}
 use Rattle.world_runs.specs.declared.event.Event.TheVariants.{Ended}
-use Rattle.world_runs.specs.Moments.{Moment, IsWorldRun, May, RunFrom, after, after_all, answered, moment, opening}
+use Rattle.world_runs.specs.Moments.{WorldState, IsWorldRun, May, RunFrom, after, after_all, answered, moment, opening}
 use Rattle.sound_runs.proofs.RunsKeep.{front_runs, no_run_answers_odd, sound_at_each_moment}
 use Rattle.tree_runs.proofs.Headlines.{run_headline}
 use Rattle.run_bounds.proofs.RunsShort.{each_is_short}
 use Rattle.run_claims.specs.Claims.{EveryRunIsClaimed}
 
 -- each event of a run may happen at the moment after those before it
-may_at : (m : Moment) (es : List Event) (n : ℕ) (e : Event) → RunFrom m es → slice_get es n ≡ Some e → May (after_all m (take n es)) e
+may_at : (m : WorldState) (es : List Event) (n : ℕ) (e : Event) → RunFrom m es → slice_get es n ≡ Some e → May (after_all m (take n es)) e
 may_at m [] n e run at = absurd cc
 may_at m (f ∷ es) zero e run at = let same : f ≡ e = cc in subst (λ (x : Event). May m x) same run.0
 may_at m (f ∷ es) (suc n) e run at = may_at (after m f) es n e run.1 at

@@ -11,7 +11,7 @@ use Rattle.world_runs.specs.declared.event.Event.TheVariants.{Ended}
 use Rattle.world_runs.specs.Headline.{Headline, command_of}
 use Rattle.world_runs.specs.Moments.{AtEachMoment, IsWorldRun}
 use Rattle.world_runs.specs.Sound.{IsSound}
-use Rattle.noted_runs.specs.Limits.{KeepsLimits}
+use Rattle.world_runs.specs.Limits.{KeepsLimits}
 use Rattle.run_bounds.specs.Bounds.{IsShort}
 
 -- It is a run of the world, within the limits of its actors' histories. The store is sound at each moment; each answer is the one

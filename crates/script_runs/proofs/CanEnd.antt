@@ -6,10 +6,10 @@ use Rattle.tect_ids.specs.Keys.{op_eq}
 use Rattle.tect_ids.proofs.KeyTests.{op_eq_cases}
 use Rattle.store_rules.specs.declared.any.AnyReq.{AnyReq}
 use Rattle.store_rules.specs.Store.{store_reply}
-use Rattle.op_names.specs.declared.program.Program.{Program}
+use Rattle.program_rules.specs.declared.program.Program.{Program}
 use Rattle.world_runs.specs.declared.event.Event.{Event}
 use Rattle.world_runs.specs.declared.event.Event.TheVariants.{Began, Refused, Acted, Ended, Stopped, Failed, Dumped}
-use Rattle.world_runs.specs.Moments.{Moment, after, running, asked, answered, program_of}
+use Rattle.world_runs.specs.Moments.{WorldState, after, running, asked, answered, program_of}
 use Rattle.world_runs.specs.Follows.{Acts, EndsAfter, NoneFails}
 use Rattle.world_runs.specs.Report.{is_act_of}
 use Rattle.store_world.specs.Worlds.{Ghost}
@@ -36,28 +36,28 @@ itself op = grind (arith, op_eq_cases op op)
 pub runs_as_its_op : (o : Option Program) (p : Program) (op : OpId) → o ≡ Some p → p.op ≡ op → program_of o op ≡ Some p
 runs_as_its_op o p op is its = let yes : op_eq p.op op ≡ true = rw its (itself op) in rw (is, yes) refl
 
-pub busy_runs : (m : Moment) (a : ℕ) (op : OpId) → (b : IsBusy m a op) → running m op ≡ Some b.program
+pub busy_runs : (m : WorldState) (a : ℕ) (op : OpId) → (b : IsBusy m a op) → running m op ≡ Some b.program
 busy_runs m a op b = runs_as_its_op (m.actors op.actor).running b.program op (rw b.own b.runs) b.its
 
 -- a transaction leaves one less
-falls : (m : Moment) (op : OpId) (q : AnyReq) (p : Program) (g : GoesOn m (Acted op q (store_reply m.store q)) op p) → left g.next + 1 ≤ left p
+falls : (m : WorldState) (op : OpId) (q : AnyReq) (p : Program) (g : GoesOn m (Acted op q (store_reply m.store q)) op p) → left g.next + 1 ≤ left p
 falls m op q p g =
     let e : Event = Acted op q (store_reply m.store q) in
     let one : 1 ≡ one_if (is_look_of op e) + one_if (is_other_of op e) = let own : one_if (is_act_of op e) ≡ 1 = rw (itself op) refl in sym own ∙ event_splits e op in
     omega (arith, one, g.looks, g.others)
 
 -- the op's number is one that its actor came to
-pub runs_old : (m : Moment) (g : Ghost) → AllSound m g → (op : OpId) (p : Program) → running m op ≡ Some p → Runs m op p
+pub runs_old : (m : WorldState) (g : Ghost) → AllSound m g → (op : OpId) (p : Program) → running m op ≡ Some p → Runs m op p
 runs_old m g s op p is =
     let r : RunsAs (m.actors op.actor).running op p = running_is_of m op p is in
     let k : Knows (world_of m g) op.actor (m.actors op.actor).serial (m.actors op.actor).number p = knows_of m g s op.actor p r.is in
     let last : op.number ≡ (m.actors op.actor).number = subst (λ (o : OpId). o.number ≡ (m.actors op.actor).number) r.same k.last in
     record { old = omega (arith, last); is = is }
 
-end_now : (m : Moment) (op : OpId) (a : Answer) → answered m op ≡ Some a → CanEnd m op
+end_now : (m : WorldState) (op : OpId) (a : Answer) → answered m op ≡ Some a → CanEnd m op
 end_now m op a is = record { front = []; count = 0; answer = a; acts = refl; run = (is, tt) }
 
-act_then : (m : Moment) (op : OpId) (q : AnyReq) → asked m op ≡ Some q → CanEnd (after m (Acted op q (store_reply m.store q))) op → CanEnd m op
+act_then : (m : WorldState) (op : OpId) (q : AnyReq) → asked m op ≡ Some q → CanEnd (after m (Acted op q (store_reply m.store q))) op → CanEnd m op
 act_then m op q asks e = record {
   front = Acted op q (store_reply m.store q) ∷ e.front;
   count = e.count + 1;
@@ -67,7 +67,7 @@ act_then m op q asks e = record {
 }
 
 -- the op's own transaction
-goes_on : (m : Moment) (g : Ghost) → AllSound m g → (op : OpId) (p : Program) → running m op ≡ Some p → (q : AnyReq) → asked m op ≡ Some q → GoesOn m (Acted op q (store_reply m.store q)) op p
+goes_on : (m : WorldState) (g : Ghost) → AllSound m g → (op : OpId) (p : Program) → running m op ≡ Some p → (q : AnyReq) → asked m op ≡ Some q → GoesOn m (Acted op q (store_reply m.store q)) op p
 goes_on m g s op p is q asks = own_acts m op q (store_reply m.store q) (asks, refl) p (runs_old m g s op p is)
 
 -- it asks, or has its answer
@@ -77,7 +77,7 @@ asks_or_says None (Some a) does = inr (a, refl)
 asks_or_says None None does = absurd (let k : false ≡ true = does in cc)
 
 -- with so many transactions left, or fewer
-pub ends_within : (bound : ℕ) (m : Moment) (g : Ghost) → AllSound m g → (op : OpId) (p : Program) → running m op ≡ Some p → left p ≤ bound → CanEnd m op
+pub ends_within : (bound : ℕ) (m : WorldState) (g : Ghost) → AllSound m g → (op : OpId) (p : Program) → running m op ≡ Some p → left p ≤ bound → CanEnd m op
 ends_within zero m g s op p is few =
     elim (asks_or_says (asked m op) (answered m op) (running_does m g s op p is)) [
       | inl ask ↦ absurd (omega (arith, falls m op ask.0 p (goes_on m g s op p is ask.0 ask.1), few))
@@ -92,17 +92,17 @@ ends_within (suc bound) m g s op p is few =
       | inr say ↦ end_now m op say.0 say.1
     ]
 
-pub running_ends : (m : Moment) (g : Ghost) → AllSound m g → (op : OpId) (p : Program) → running m op ≡ Some p → CanEnd m op
+pub running_ends : (m : WorldState) (g : Ghost) → AllSound m g → (op : OpId) (p : Program) → running m op ≡ Some p → CanEnd m op
 running_ends m g s op p is = ends_within (left p) m g s op p is (omega arith)
 
 -- the events to its end
-abbrev pub to_end : (m : Moment) (op : OpId) → CanEnd m op → List Event
+abbrev pub to_end : (m : WorldState) (op : OpId) → CanEnd m op → List Event
 to_end m op e = e.front ++ Ended op e.answer ∷ []
 
-pub end_follows : (m : Moment) (op : OpId) (e : CanEnd m op) → EndsAfter op e.count (to_end m op e)
+pub end_follows : (m : WorldState) (op : OpId) (e : CanEnd m op) → EndsAfter op e.count (to_end m op e)
 end_follows m op e = (e.front, Ended op e.answer, refl, e.acts, refl)
 
-pub end_none_fails : (m : Moment) (op : OpId) (e : CanEnd m op) → NoneFails (to_end m op e)
+pub end_none_fails : (m : WorldState) (op : OpId) (e : CanEnd m op) → NoneFails (to_end m op e)
 end_none_fails m op e = none_fails-append e.front (Ended op e.answer ∷ []) (acts_none_fail op e.count e.front e.acts) (tt, tt)
 
 -- the first of its transactions

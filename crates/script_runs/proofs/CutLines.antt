@@ -9,7 +9,7 @@ use Rattle.tect_ids.specs.declared.script.Line.{Line}
 use Rattle.tect_ids.specs.declared.script.Line.TheVariants as lines
 use Rattle.world_runs.specs.declared.event.Event.{Event}
 use Rattle.world_runs.specs.declared.event.Event.TheVariants.{Began, Refused, Acted, Ended, Stopped, Failed, Dumped}
-use Rattle.world_runs.specs.Moments.{Moment, May, opening, after, after_all, RunFrom, moment}
+use Rattle.world_runs.specs.Moments.{WorldState, May, opening, after, after_all, RunFrom, moment}
 use Rattle.world_runs.specs.Follows.{Acts, IsEndOf, EndsAfter, IsBeginOf, DoesLine, Busy, with_busy, FollowsFrom}
 use Rattle.world_runs.specs.Turns.{Turns, all_idle, with_turn, turn_after, InTurnFrom}
 use Rattle.store_world.specs.Worlds.{Ghost, opening_ghost}
@@ -18,8 +18,8 @@ use Rattle.sound_runs.specs.Pasts.{ghost_after, ghosts_after}
 use Rattle.sound_runs.proofs.MomentsKeep.{event_sound, opening_all_sound}
 use Rattle.sound_runs.proofs.RunsKeep.{run_keeps}
 use Rattle.tree_runs.proofs.Histories.{after_all-append, run-front, run-rest, run-append}
-use Rattle.script_runs.specs.Standing.{busy_at}
-use Rattle.script_runs.specs.Smooth.{EndsAtOnce}
+use Rattle.world_runs.specs.Standing.{busy_at}
+use Rattle.world_runs.specs.Smooth.{EndsAtOnce}
 use Rattle.script_runs.specs.RunningOut.{RefusesAsFull}
 use Rattle.script_runs.specs.Laws.{EachCutLineCanBeRunOut}
 use Rattle.script_runs.proofs.Moves.{Keeps, acts_move, begin_moves}
@@ -90,10 +90,10 @@ ends_front op n h tail e =
           inl (e.0, b.first, b.parts ∙ ap (λ (l : List Event). e.0 ++ b.first ∷ l) none, e.3, subst (λ (d : Event). IsEndOf op d) same e.4)
     ]
 
-ends_once : (m : Moment) (op : OpId) (n : ℕ) (es : List Event) → EndsAfter op n es → RunFrom m es → EndsAtOnce m es
+ends_once : (m : WorldState) (op : OpId) (n : ℕ) (es : List Event) → EndsAfter op n es → RunFrom m es → EndsAtOnce m es
 ends_once m op n es e run = rw e.2 (end_at_once op m n e.0 e.1 e.4 e.3 (rw e.2 at run))
 
-begin_once : (m : Moment) (op : OpId) (c : Command) (begin : Event) (es : List Event) → IsBeginOf op c begin → EndsAtOnce (after m begin) es → EndsAtOnce m (begin ∷ es)
+begin_once : (m : WorldState) (op : OpId) (c : Command) (begin : Event) (es : List Event) → IsBeginOf op c begin → EndsAtOnce (after m begin) es → EndsAtOnce m (begin ∷ es)
 begin_once m op c (Began o d) es is then = (tt, then)
 begin_once m op c (Refused o d) es is then = (tt, then)
 begin_once m op c (Acted o q x) es is then = absurd is
@@ -106,7 +106,7 @@ module _ (full : List Event → ℕ → Bool) where
   -- ---- a line that began
 
   -- with at most an end behind them, these events do the line
-  record Completes (m : Moment) (a : ℕ) (busy : Option OpId) (act : Act) (h : List Event) : Type 0 where
+  record Completes (m : WorldState) (a : ℕ) (busy : Option OpId) (act : Act) (h : List Event) : Type 0 where
     tail : List Event
     next : Option OpId
     run : RunFrom m (h ++ tail)
@@ -115,7 +115,7 @@ module _ (full : List Event → ℕ → Bool) where
     refuses : (before : List Event) → RefusesAsFull full before tail
 
   -- they did it
-  whole : (m : Moment) (a : ℕ) (busy : Option OpId) (act : Act) (h : List Event) (next : Option OpId) → RunFrom m h → DoesLine a busy act h next → EndsAtOnce m h → Completes m a busy act h
+  whole : (m : WorldState) (a : ℕ) (busy : Option OpId) (act : Act) (h : List Event) (next : Option OpId) → RunFrom m h → DoesLine a busy act h next → EndsAtOnce m h → Completes m a busy act h
   whole m a busy act h next run does at_once = record {
     tail = [];
     next = next;
@@ -126,20 +126,20 @@ module _ (full : List Event → ℕ → Bool) where
   }
 
   -- what an op that runs comes to: transactions, and an end
-  record ToEnd (m : Moment) (op : OpId) (n : ℕ) (h : List Event) : Type 0 where
+  record ToEnd (m : WorldState) (op : OpId) (n : ℕ) (h : List Event) : Type 0 where
     end : Event
     run : RunFrom m (h ++ end ∷ [])
     ends : EndsAfter op n (h ++ end ∷ [])
     refuses : (before : List Event) → RefusesAsFull full before (end ∷ [])
 
-  to_end : (m : Moment) (g : Ghost) → AllSound m g → (op : OpId) (n : ℕ) (h : List Event) → busy_at m op.actor ≡ Some op → RunFrom m h → Acts op n h → ToEnd m op n h
+  to_end : (m : WorldState) (g : Ghost) → AllSound m g → (op : OpId) (n : ℕ) (h : List Event) → busy_at m op.actor ≡ Some op → RunFrom m h → Acts op n h → ToEnd m op n h
   to_end m g s op n h busy run acts =
-      let k : Moment = after_all m h in
+      let k : WorldState = after_all m h in
       let moved : Keeps m k op.actor (busy_at m op.actor) = acts_move m op n h acts in
       let e : EndsNow full k op = busy_ends full k (ghosts_after m g h) (run_keeps h m g s run) op.actor op (moved.busy ∙ busy) in
       record { end = e.end; run = run-append m h (e.end ∷ []) run (e.may, tt); ends = (h, e.end, refl, acts, e.ends); refuses = e.refuses }
 
-  module _ (m : Moment) (g : Ghost) (s : AllSound m g) (a : ℕ) where
+  module _ (m : WorldState) (g : Ghost) (s : AllSound m g) (a : ℕ) where
     -- a command that began
     module _ (c : Command) (op : OpId) (begin : Event) (own : op.actor ≡ a) (is : IsBeginOf op c begin) where
       does_whole : (n : ℕ) (h : List Event) → RunFrom m (begin ∷ h) → EndsAfter op n h → Completes m a None (acts.Do c) (begin ∷ h)
@@ -236,7 +236,7 @@ module _ (full : List Event → ℕ → Bool) where
   -- ---- lines
 
   -- with these events behind it the front follows the lines
-  record CanFinish (before h : List Event) (m : Moment) (ls : List Line) : Type 0 where
+  record CanFinish (before h : List Event) (m : WorldState) (ls : List Line) : Type 0 where
     events : List Event
     run : RunFrom m (h ++ events)
     follows : FollowsFrom (busy_at m) ls (h ++ events)
@@ -244,16 +244,16 @@ module _ (full : List Event → ℕ → Bool) where
     refuses : RefusesAsFull full before events
 
   -- none of the lines began
-  from_here : (before : List Event) (m : Moment) (ls : List Line) → CanRunOut full before m ls → CanFinish before [] m ls
+  from_here : (before : List Event) (m : WorldState) (ls : List Line) → CanRunOut full before m ls → CanFinish before [] m ls
   from_here before m ls c = record { events = c.events; run = c.run; follows = c.follows; at_once = refuses_at_once full before m c.events c.refuses; refuses = c.refuses }
 
-  module _ (client : List ℕ) (a : ℕ) (act : Act) (ls : List Line) (before : List Event) (m : Moment) (g : Ghost) (turns : Turns) (k : ℕ) (s : AllSound m g)
+  module _ (client : List ℕ) (a : ℕ) (act : Act) (ls : List Line) (before : List Event) (m : WorldState) (g : Ghost) (turns : Turns) (k : ℕ) (s : AllSound m g)
       (in_turn : InTurnFrom turns (lines.Client client a act ∷ ls)) (all : AllStand m turns k) where
     -- the first line began, and the others did not
     line_then : (h : List Event) → k + 1 + length ls < 2 ^ 31 → Completes m a (busy_at m a) act h → CanFinish before h m (lines.Client client a act ∷ ls)
     line_then h few c =
         let part : List Event = h ++ c.tail in
-        let n : Moment = after_all m part in
+        let n : WorldState = after_all m part in
         let done : IsDone m n a act c.next = line_does m g s a act part c.next c.run c.does in
         let rest : CanRunOut full (before ++ c.tail) n ls =
         lines_run_out full ls (before ++ c.tail) n (ghosts_after m g part) (with_turn turns a (turn_after act)) (k + 1) (run_keeps part m g s c.run) in_turn.3
@@ -271,7 +271,7 @@ module _ (full : List Event → ℕ → Bool) where
     line_done_then : (h rest part : List Event) (next : Option OpId) (d : Event) (tail : List Event) → h ≡ part ++ d ∷ tail → RunFrom m part → DoesLine a (busy_at m a) act part next
         → EndsAtOnce m (h ++ rest) → CanFinish before (d ∷ tail) (after_all m part) ls → CanFinish before h m (lines.Client client a act ∷ ls)
     line_done_then h rest part next d tail parts mine does at_once f =
-        let n : Moment = after_all m part in
+        let n : WorldState = after_all m part in
         let done : IsDone m n a act next = line_does m g s a act part next mine does in
         let behind : (es : List Event) → h ++ es ≡ part ++ (d ∷ tail ++ es) = λ es. ap (λ (l : List Event). l ++ es) parts ∙ append_assoc part (d ∷ tail) es in
         let so_far : EndsAtOnce m (part ++ (d ∷ tail ++ rest)) = subst (λ (l : List Event). EndsAtOnce m l) (behind rest) at_once in
@@ -283,7 +283,7 @@ module _ (full : List Event → ℕ → Bool) where
           refuses = f.refuses;
         }
 
-  cut_run_out : (front back : List Line) (before h rest : List Event) (m : Moment) (g : Ghost) (turns : Turns) (k : ℕ) → AllSound m g → InTurnFrom turns (front ++ back) → AllStand m turns k
+  cut_run_out : (front back : List Line) (before h rest : List Event) (m : WorldState) (g : Ghost) (turns : Turns) (k : ℕ) → AllSound m g → InTurnFrom turns (front ++ back) → AllStand m turns k
       → k + length (front ++ back) < 2 ^ 31 → RunFrom m h → FollowsFrom (busy_at m) front (h ++ rest) → EndsAtOnce m (h ++ rest) → CanFinish before h m (front ++ back)
   cut_run_out front back before [] rest m g turns k s in_turn all few run f at_once = from_here before m (front ++ back) (lines_run_out full (front ++ back) before m g turns k s in_turn all few)
   cut_run_out [] back before (d ∷ h) rest m g turns k s in_turn all few run f at_once = absurd (let z : d ∷ h ++ rest ≡ [] = f in cc)
@@ -294,7 +294,7 @@ module _ (full : List Event → ℕ → Bool) where
             (line_on m g s a d h w.tail run (busy_at m a) act f.2 refl (λ op is. (busy_is m g s a op is).own) (subst (λ (l : List Event). DoesLine a (busy_at m a) act l f.2) w.parts f.4))
         | inr b ↦
             let part : List Event = f.0 in
-            let n : Moment = after_all m part in
+            let n : WorldState = after_all m part in
             let both : RunFrom m (part ++ b.first ∷ b.tail) = subst (λ (l : List Event). RunFrom m l) b.parts run in
             let mine : RunFrom m part = run-front m part (b.first ∷ b.tail) both in
             let done : IsDone m n a act f.2 = line_does m g s a act part f.2 mine f.4 in

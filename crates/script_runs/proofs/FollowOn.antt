@@ -7,7 +7,7 @@ use Rattle.tect_ids.specs.declared.script.Line.{Line}
 use Rattle.tect_ids.specs.declared.script.Line.TheVariants as lines
 use Rattle.world_runs.specs.declared.event.Event.{Event}
 use Rattle.world_runs.specs.declared.event.Event.TheVariants.{Dumped}
-use Rattle.world_runs.specs.Moments.{Moment, opening, after_all, RunFrom, moment}
+use Rattle.world_runs.specs.Moments.{WorldState, opening, after_all, RunFrom, moment}
 use Rattle.world_runs.specs.Follows.{DoesLine, Busy, with_busy, FollowsFrom}
 use Rattle.world_runs.specs.Turns.{Turns, all_idle, with_turn, turn_after, turns_after, TakesAct, InTurnFrom}
 use Rattle.store_world.specs.Worlds.{Ghost, opening_ghost}
@@ -16,7 +16,7 @@ use Rattle.sound_runs.specs.Pasts.{ghosts_after}
 use Rattle.sound_runs.proofs.MomentsKeep.{opening_all_sound}
 use Rattle.sound_runs.proofs.RunsKeep.{run_keeps}
 use Rattle.tree_runs.proofs.Histories.{after_all-append, run-front, run-rest}
-use Rattle.script_runs.specs.Standing.{busy_at}
+use Rattle.world_runs.specs.Standing.{busy_at}
 use Rattle.script_runs.specs.Laws.{RunFollowsOn, Stands, StandsByTurn}
 use Rattle.script_runs.proofs.Moves.{changed}
 use Rattle.script_runs.proofs.Lines.{IsDone, line_does, busy_after, turn_stands}
@@ -24,16 +24,16 @@ use Rattle.script_runs.proofs.Lines.{IsDone, line_does, busy_after, turn_stands}
 -- ---- following on
 
 -- no event came first
-none_first : (m : Moment) (back : List Line) (history more : List Event) → history ≡ [] → FollowsFrom (busy_at (after_all m history)) back more → FollowsFrom (busy_at m) back (history ++ more)
+none_first : (m : WorldState) (back : List Line) (history more : List Event) → history ≡ [] → FollowsFrom (busy_at (after_all m history)) back more → FollowsFrom (busy_at m) back (history ++ more)
 none_first m back history more none =
     subst (λ (h : List Event). FollowsFrom (busy_at (after_all m h)) back more → FollowsFrom (busy_at m) back (h ++ more)) (sym none) (λ f. f)
 
 -- the moment after the events of a line and of further lines
-moment_by : (m : Moment) (history part rest : List Event) → history ≡ part ++ rest → after_all m history ≡ after_all (after_all m part) rest
+moment_by : (m : WorldState) (history part rest : List Event) → history ≡ part ++ rest → after_all m history ≡ after_all (after_all m part) rest
 moment_by m history part rest parts = ap (after_all m) parts ∙ after_all-append m part rest
 
 -- one line, and then the others
-pub follows_on : (front back : List Line) (m : Moment) (g : Ghost) (history more : List Event) → AllSound m g → RunFrom m history → FollowsFrom (busy_at m) front history
+pub follows_on : (front back : List Line) (m : WorldState) (g : Ghost) (history more : List Event) → AllSound m g → RunFrom m history → FollowsFrom (busy_at m) front history
     → FollowsFrom (busy_at (after_all m history)) back more → FollowsFrom (busy_at m) (front ++ back) (history ++ more)
 follows_on [] back m g history more s run f then = none_first m back history more f then
 follows_on (lines.Client client a act ∷ ls) back m g history more s run f then =
@@ -41,11 +41,11 @@ follows_on (lines.Client client a act ∷ ls) back m g history more s run f then
     let rest : List Event = f.1 in
     let whole : RunFrom m (part ++ rest) = rw f.3 at run in
     let mine : RunFrom m part = run-front m part rest whole in
-    let n : Moment = after_all m part in
+    let n : WorldState = after_all m part in
     let done : IsDone m n a act f.2 = line_does m g s a act part f.2 mine f.4 in
     let busy : with_busy (busy_at m) a f.2 ≡ busy_at n = busy_after m n a act f.2 done in
     let on : FollowsFrom (busy_at n) ls rest = subst (λ (b : Busy). FollowsFrom b ls rest) busy f.5 in
-    let last : FollowsFrom (busy_at (after_all n rest)) back more = subst (λ (z : Moment). FollowsFrom (busy_at z) back more) (moment_by m history part rest f.3) then in
+    let last : FollowsFrom (busy_at (after_all n rest)) back more = subst (λ (z : WorldState). FollowsFrom (busy_at z) back more) (moment_by m history part rest f.3) then in
     let more_lines : FollowsFrom (busy_at n) (ls ++ back) (rest ++ more) =
     follows_on ls back n (ghosts_after m g part) rest more (run_keeps part m g s mine) (run-rest m part rest whole) on last in
     (part, rest ++ more, f.2, ap (λ h. h ++ more) f.3 ∙ append_assoc part rest more, f.4, subst (λ (b : Busy). FollowsFrom b (ls ++ back) (rest ++ more)) (sym busy) more_lines)
@@ -65,11 +65,11 @@ run_follows_on counts front back history more run f then =
 -- ---- turns
 
 -- each actor stands so, and began at most that many commands
-abbrev pub AllStand : Moment → Turns → ℕ → Type 0
+abbrev pub AllStand : WorldState → Turns → ℕ → Type 0
 AllStand m turns n = (a : ℕ) → Stands (turns a) n (m.actors a)
 
 -- they stand by the turns after a line
-pub stand_after : (m n : Moment) (turns : Turns) (k a : ℕ) (act : Act) (part : List Event) (next : Option OpId) → IsDone m n a act next → DoesLine a (busy_at m a) act part next
+pub stand_after : (m n : WorldState) (turns : Turns) (k a : ℕ) (act : Act) (part : List Event) (next : Option OpId) → IsDone m n a act next → DoesLine a (busy_at m a) act part next
     → TakesAct (turns a) act → AllStand m turns k → AllStand n (with_turn turns a (turn_after act)) (k + 1)
 stand_after m n turns k a act part next done does takes all b =
     changed (λ t. Stands t (k + 1) (n.actors b)) turns a (turn_after act) b (λ e. rw e own) other
@@ -84,7 +84,7 @@ stand_after m n turns k a act part next done does takes all b =
     other d = rw (done.others b d) record { stands = (all b).stands; began = omega (arith, (all b).began) }
 
 -- so they do after all lines
-pub stand_by_turn : (ls : List Line) (m : Moment) (g : Ghost) (turns : Turns) (k : ℕ) (history : List Event) → AllSound m g → InTurnFrom turns ls → RunFrom m history → FollowsFrom (busy_at m) ls history
+pub stand_by_turn : (ls : List Line) (m : WorldState) (g : Ghost) (turns : Turns) (k : ℕ) (history : List Event) → AllSound m g → InTurnFrom turns ls → RunFrom m history → FollowsFrom (busy_at m) ls history
     → AllStand m turns k → AllStand (after_all m history) (turns_after turns ls) (k + length ls)
 stand_by_turn [] m g turns k history s in_turn run f all = rw f (λ a. record { stands = (all a).stands; began = omega (arith, (all a).began) })
 stand_by_turn (lines.Client client a act ∷ ls) m g turns k history s in_turn run f all =
@@ -92,7 +92,7 @@ stand_by_turn (lines.Client client a act ∷ ls) m g turns k history s in_turn r
     let rest : List Event = f.1 in
     let whole : RunFrom m (part ++ rest) = rw f.3 at run in
     let mine : RunFrom m part = run-front m part rest whole in
-    let n : Moment = after_all m part in
+    let n : WorldState = after_all m part in
     let done : IsDone m n a act f.2 = line_does m g s a act part f.2 mine f.4 in
     let on : FollowsFrom (busy_at n) ls rest = subst (λ (b : Busy). FollowsFrom b ls rest) (busy_after m n a act f.2 done) f.5 in
     let now : AllStand n (with_turn turns a (turn_after act)) (k + 1) = stand_after m n turns k a act part f.2 done f.4 in_turn.2 all in

@@ -4,10 +4,10 @@ use Rattle.tect_ids.specs.declared.ids.OpId.{OpId}
 use Rattle.tect_ids.specs.declared.command.Command.{Command}
 use Rattle.tect_ids.specs.declared.script.Act.{Act}
 use Rattle.tect_ids.specs.declared.script.Act.TheVariants as acts
-use Rattle.op_names.specs.declared.program.Program.{Program}
+use Rattle.program_rules.specs.declared.program.Program.{Program}
 use Rattle.world_runs.specs.declared.event.Event.{Event}
 use Rattle.world_runs.specs.declared.event.Event.TheVariants.{Stopped}
-use Rattle.world_runs.specs.Moments.{Actor, Moment, after, after_all, RunFrom}
+use Rattle.world_runs.specs.Moments.{Actor, WorldState, after, after_all, RunFrom}
 use Rattle.world_runs.specs.Follows.{Acts, EndsAfter, IsBeginOf, BeginsAndEnds, DoesLine, with_busy}
 use Rattle.world_runs.specs.Turns.{ClientTurn, TakesAct, turn_after}
 use Rattle.world_runs.specs.Turns as turns
@@ -15,13 +15,13 @@ use Rattle.sound_runs.specs.Known.{AllSound, Knows}
 use Rattle.sound_runs.specs.Pasts.{world_of}
 use Rattle.sound_runs.proofs.RunsKeep.{knows_of}
 use Rattle.store_world.specs.Worlds.{Ghost}
-use Rattle.script_runs.specs.Standing.{op_of, busy_at, AtTurn}
+use Rattle.world_runs.specs.Standing.{op_of, busy_at, AtTurn}
 use Rattle.script_runs.proofs.Moves.{changed, Moves, Keeps, none_moves, moves_on, acts_move, ends_move, begin_moves, stopped_moves}
 
 -- ---- the op that an actor is busy with
 
 -- the program of the op that the actor is busy with
-pub record IsBusy (m : Moment) (a : ℕ) (op : OpId) : Type 0 where
+pub record IsBusy (m : WorldState) (a : ℕ) (op : OpId) : Type 0 where
   pub program : Program
   pub runs : (m.actors a).running ≡ Some program
   pub its : program.op ≡ op
@@ -32,7 +32,7 @@ program_of_op None op e = absurd (let k : None ≡ Some op = e in cc)
 program_of_op (Some p) op e = (p, refl, cc)
 
 -- an op that is busy is its own actor's
-pub busy_is : (m : Moment) (g : Ghost) → AllSound m g → (a : ℕ) (op : OpId) → busy_at m a ≡ Some op → IsBusy m a op
+pub busy_is : (m : WorldState) (g : Ghost) → AllSound m g → (a : ℕ) (op : OpId) → busy_at m a ≡ Some op → IsBusy m a op
 busy_is m g s a op is =
     let p : (p : Program) × ((m.actors a).running ≡ Some p) × (p.op ≡ op) = program_of_op (m.actors a).running op is in
     let k : Knows (world_of m g) a (m.actors a).serial (m.actors a).number p.0 = knows_of m g s a p.0 p.1 in
@@ -51,22 +51,22 @@ GoesOn acts.Stop = ⊥
 GoesOn _ = Unit {0}
 
 -- what the line changes: nothing of the others; the actor begins one command or none, and is then busy with this
-pub record IsDone (m n : Moment) (a : ℕ) (act : Act) (next : Option OpId) : Type 0 where
+pub record IsDone (m n : WorldState) (a : ℕ) (act : Act) (next : Option OpId) : Type 0 where
   pub others : (b : ℕ) → b ≢ a → n.actors b ≡ m.actors b
   pub number : (n.actors a).number ≤ (m.actors a).number + 1
   pub goes_on : GoesOn act → (n.actors a).stopped ≡ (m.actors a).stopped
   pub busy : busy_at n a ≡ next
 
-pub keeps_done : (m n : Moment) (a : ℕ) (act : Act) (next : Option OpId) → Keeps m n a next → IsDone m n a act next
+pub keeps_done : (m n : WorldState) (a : ℕ) (act : Act) (next : Option OpId) → Keeps m n a next → IsDone m n a act next
 keeps_done m n a act next k = record { others = k.others; number = rw k.number (omega arith); goes_on = λ g. k.stopped; busy = k.busy }
 
-begun_done : (m n : Moment) (a : ℕ) (act : Act) (next : Option OpId) → Moves m n a ((m.actors a).number + 1) (m.actors a).stopped next → IsDone m n a act next
+begun_done : (m n : WorldState) (a : ℕ) (act : Act) (next : Option OpId) → Moves m n a ((m.actors a).number + 1) (m.actors a).stopped next → IsDone m n a act next
 begun_done m n a act next k = record { others = k.others; number = rw k.number (omega arith); goes_on = λ g. k.stopped; busy = k.busy }
 
-stopped_done : (m n : Moment) (a : ℕ) (next : Option OpId) → Moves m n a (m.actors a).number true next → IsDone m n a acts.Stop next
+stopped_done : (m n : WorldState) (a : ℕ) (next : Option OpId) → Moves m n a (m.actors a).number true next → IsDone m n a acts.Stop next
 stopped_done m n a next k = record { others = k.others; number = rw k.number (omega arith); goes_on = λ g. absurd g; busy = k.busy }
 
-module _ (m : Moment) (a : ℕ) (act : Act) where
+module _ (m : WorldState) (a : ℕ) (act : Act) where
   -- after these events the line is done
   abbrev Done : Option OpId → List Event → Type 0
   Done next part = IsDone m (after_all m part) a act next
@@ -96,14 +96,14 @@ module _ (m : Moment) (a : ℕ) (act : Act) where
   does_done : (c : Command) (part : List Event) (next : Option OpId) → BeginsAndEnds a c part → RunFrom m part → next ≡ None → Done next part
   does_done c part next b run last =
       let op : OpId = b.0 in
-      let mid : Moment = after m b.1 in
+      let mid : WorldState = after m b.1 in
       let first : Moves m mid op.actor ((m.actors op.actor).number + 1) (m.actors op.actor).stopped (Some op) = begin_moves m op c b.1 b.5 (rw b.4 at run).0 in
       let whole : Moves m (after_all mid b.2) op.actor ((m.actors op.actor).number + 1) (m.actors op.actor).stopped None =
       moves_on m mid (after_all mid b.2) op.actor _ _ _ _ first (ends_move mid op (b.6).0 b.2 (b.6).1) in
       rw (b.4, last) (begun_done m _ a act None (subst (λ (i : ℕ). Moves m (after_all mid b.2) i ((m.actors i).number + 1) (m.actors i).stopped None) b.3 whole))
 
 -- the events of a line
-pub line_done : (m : Moment) (a : ℕ) (act : Act) (part : List Event) (busy next : Option OpId) → busy_at m a ≡ busy → ((op : OpId) → busy ≡ Some op → op.actor ≡ a) → RunFrom m part
+pub line_done : (m : WorldState) (a : ℕ) (act : Act) (part : List Event) (busy next : Option OpId) → busy_at m a ≡ busy → ((op : OpId) → busy ≡ Some op → op.actor ≡ a) → RunFrom m part
     → DoesLine a busy act part next → IsDone m (after_all m part) a act next
 line_done m a (acts.Do c) part None next is own run d = does_done m a (acts.Do c) c part next d.0 run d.1
 line_done m a (acts.Begin c) part None next is own run d = begins_done m a (acts.Begin c) d.0 c d.1 part next d.2 d.3 d.4 run d.5
@@ -119,16 +119,16 @@ line_done m a acts.Stop part (Some op) next is own run d =
     rw (d.0, d.1) (stopped_done m _ a None (subst (λ (i : ℕ). Moves m (after m (Stopped op)) i (m.actors i).number true None) (own op refl) (stopped_moves m op)))
 
 -- the same of a moment of a run
-pub line_does : (m : Moment) (g : Ghost) → AllSound m g → (a : ℕ) (act : Act) (part : List Event) (next : Option OpId) → RunFrom m part → DoesLine a (busy_at m a) act part next
+pub line_does : (m : WorldState) (g : Ghost) → AllSound m g → (a : ℕ) (act : Act) (part : List Event) (next : Option OpId) → RunFrom m part → DoesLine a (busy_at m a) act part next
     → IsDone m (after_all m part) a act next
 line_does m g s a act part next run d = line_done m a act part (busy_at m a) next refl (λ op is. (busy_is m g s a op is).own) run d
 
 -- the busy ops after it
-busy_so : (m n : Moment) (a : ℕ) (act : Act) (next : Option OpId) → IsDone m n a act next → (b : ℕ) → with_busy (busy_at m) a next b ≡ busy_at n b
+busy_so : (m n : WorldState) (a : ℕ) (act : Act) (next : Option OpId) → IsDone m n a act next → (b : ℕ) → with_busy (busy_at m) a next b ≡ busy_at n b
 busy_so m n a act next d b =
     changed (λ o. o ≡ busy_at n b) (busy_at m) a next b (λ e. rw e (sym d.busy)) (λ e. ap (λ (st : Actor). op_of st.running) (sym (d.others b e)))
 
-pub busy_after : (m n : Moment) (a : ℕ) (act : Act) (next : Option OpId) → IsDone m n a act next → with_busy (busy_at m) a next ≡ busy_at n
+pub busy_after : (m n : WorldState) (a : ℕ) (act : Act) (next : Option OpId) → IsDone m n a act next → with_busy (busy_at m) a next ≡ busy_at n
 busy_after m n a act next d i b = busy_so m n a act next d b i
 
 -- ---- turns
@@ -153,12 +153,12 @@ rests_next a (Some op) (acts.Step n) part next r d = absurd r
 rests_next a (Some op) acts.Run part next r d = d.1
 rests_next a (Some op) acts.Stop part next r d = d.1
 
-module _ (m n : Moment) (a : ℕ) (busy : Option OpId) (act : Act) (part : List Event) (next : Option OpId) (done : IsDone m n a act next) (does : DoesLine a busy act part next) where
+module _ (m n : WorldState) (a : ℕ) (busy : Option OpId) (act : Act) (part : List Event) (next : Option OpId) (done : IsDone m n a act next) (does : DoesLine a busy act part next) where
   rests : Rests act → (n.actors a).running ≡ None
   rests r = idle_is (n.actors a).running (done.busy ∙ rests_next a busy act part next r does)
 
 -- the actor stands as its turn after the line tells
-pub turn_stands : (m n : Moment) (a : ℕ) (busy : Option OpId) (turn : ClientTurn) (act : Act) (part : List Event) (next : Option OpId) → IsDone m n a act next → DoesLine a busy act part next
+pub turn_stands : (m n : WorldState) (a : ℕ) (busy : Option OpId) (turn : ClientTurn) (act : Act) (part : List Event) (next : Option OpId) → IsDone m n a act next → DoesLine a busy act part next
     → TakesAct turn act → AtTurn turn (m.actors a) → AtTurn (turn_after act) (n.actors a)
 turn_stands m n a busy turns.Idle (acts.Do c) part next done does takes stood = (rests m n a busy (acts.Do c) part next done does tt, done.goes_on tt ∙ stood.1)
 turn_stands m n a busy turns.Idle (acts.Begin c) part next done does takes stood = done.goes_on tt ∙ stood.1

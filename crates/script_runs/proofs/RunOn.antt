@@ -6,11 +6,11 @@ use Rattle.tect_ids.specs.declared.script.Act.{Act}
 use Rattle.tect_ids.specs.declared.script.Act.TheVariants as acts
 use Rattle.tect_ids.specs.declared.script.Line.{Line}
 use Rattle.tect_ids.specs.declared.script.Line.TheVariants as lines
-use Rattle.op_names.specs.Programs.{started}
+use Rattle.program_rules.specs.Programs.{started}
 use Rattle.world_runs.specs.declared.event.Event.{Event}
 use Rattle.world_runs.specs.declared.event.Event.TheVariants.{Began, Ended, Stopped, Dumped}
 use Rattle.world_runs.specs.Served.{IsServed}
-use Rattle.world_runs.specs.Moments.{Moment, May, opening, after, after_all, RunFrom, IsWorldRun, moment, running, program_of, begun}
+use Rattle.world_runs.specs.Moments.{WorldState, May, opening, after, after_all, RunFrom, IsWorldRun, moment, running, program_of, begun}
 use Rattle.world_runs.specs.Follows.{Acts, DoesLine, Busy, FollowsFrom, NoneFails}
 use Rattle.world_runs.specs.Turns.{ClientTurn, Turns, all_idle, with_turn, turn_after, turns_after, TakesAct, InTurnFrom, InTurn}
 use Rattle.world_runs.specs.Turns as turns
@@ -21,8 +21,8 @@ use Rattle.sound_runs.proofs.MomentsKeep.{event_sound, opening_all_sound}
 use Rattle.sound_runs.proofs.RunsKeep.{run_keeps, front_runs, run_all_sound}
 use Rattle.tree_runs.proofs.Histories.{run-front, run-append, none_fails-append, acts_none_fail}
 use Rattle.tree_runs.proofs.Ends.{CanEnd}
-use Rattle.script_runs.specs.Standing.{op_of, busy_at, AtTurn}
-use Rattle.script_runs.specs.Smooth.{EndsAtOnce}
+use Rattle.world_runs.specs.Standing.{op_of, busy_at, AtTurn}
+use Rattle.world_runs.specs.Smooth.{EndsAtOnce}
 use Rattle.script_runs.specs.Laws.{EachScriptCanBeRunOn}
 use Rattle.script_runs.proofs.Moves.{changed_there}
 use Rattle.script_runs.proofs.Lines.{IsBusy, busy_is, IsDone, line_does, busy_after}
@@ -33,7 +33,7 @@ use Rattle.script_runs.proofs.AtOnce.{at_once-append, end_at_once, take_at_once}
 -- ---- a line
 
 -- events that do the line
-record CanDo (m : Moment) (a : ℕ) (busy : Option OpId) (act : Act) : Type 0 where
+record CanDo (m : WorldState) (a : ℕ) (busy : Option OpId) (act : Act) : Type 0 where
   events : List Event
   next : Option OpId
   run : RunFrom m events
@@ -41,11 +41,11 @@ record CanDo (m : Moment) (a : ℕ) (busy : Option OpId) (act : Act) : Type 0 wh
   none_fails : NoneFails events
   at_once : EndsAtOnce m events
 
-nothing : (m : Moment) (a : ℕ) (busy next : Option OpId) (act : Act) → DoesLine a busy act [] next → CanDo m a busy act
+nothing : (m : WorldState) (a : ℕ) (busy next : Option OpId) (act : Act) → DoesLine a busy act [] next → CanDo m a busy act
 nothing m a busy next act does = record { events = []; next = next; run = tt; does = does; none_fails = tt; at_once = tt }
 
 -- an idle actor
-module _ (m : Moment) (g : Ghost) (s : AllSound m g) (a : ℕ) (c : Command) (from : 1 ≤ a) (upto : a ≤ 64) (served : IsServed c) (stood : AtTurn turns.Idle (m.actors a))
+module _ (m : WorldState) (g : Ghost) (s : AllSound m g) (a : ℕ) (c : Command) (from : 1 ≤ a) (upto : a ≤ 64) (served : IsServed c) (stood : AtTurn turns.Idle (m.actors a))
     (few : (m.actors a).number + 1 < 2 ^ 31) where
   -- its next op
   abbrev op : OpId
@@ -78,7 +78,7 @@ module _ (m : Moment) (g : Ghost) (s : AllSound m g) (a : ℕ) (c : Command) (fr
   }
 
 -- a busy actor
-module _ (m : Moment) (g : Ghost) (s : AllSound m g) (a : ℕ) (op : OpId) (is : busy_at m a ≡ Some op) where
+module _ (m : WorldState) (g : Ghost) (s : AllSound m g) (a : ℕ) (op : OpId) (is : busy_at m a ≡ Some op) where
   busy : IsBusy m a op
   busy = busy_is m g s a op is
 
@@ -111,7 +111,7 @@ module _ (m : Moment) (g : Ghost) (s : AllSound m g) (a : ℕ) (op : OpId) (is :
 either : (n k : ℕ) → (n ≤ k) ⊎ (k + 1 ≤ n)
 either n k = grind arith
 
-module _ (m : Moment) (g : Ghost) (s : AllSound m g) (a : ℕ) where
+module _ (m : WorldState) (g : Ghost) (s : AllSound m g) (a : ℕ) where
   step_can : (n : ℕ) (busy : Option OpId) → busy_at m a ≡ busy → CanDo m a busy (acts.Step n)
   step_can n None is = nothing m a None None (acts.Step n) (refl, refl)
   step_can n (Some op) is = can_step m g s a op is n (either _ n)
@@ -143,18 +143,18 @@ module _ (m : Moment) (g : Ghost) (s : AllSound m g) (a : ℕ) where
 -- ---- lines
 
 -- events that follow the lines
-record CanFollow (m : Moment) (ls : List Line) : Type 0 where
+record CanFollow (m : WorldState) (ls : List Line) : Type 0 where
   events : List Event
   run : RunFrom m events
   follows : FollowsFrom (busy_at m) ls events
   none_fails : NoneFails events
   at_once : EndsAtOnce m events
 
-lines_can : (ls : List Line) (m : Moment) (g : Ghost) (turns : Turns) (k : ℕ) → AllSound m g → InTurnFrom turns ls → AllStand m turns k → k + length ls < 2 ^ 31 → CanFollow m ls
+lines_can : (ls : List Line) (m : WorldState) (g : Ghost) (turns : Turns) (k : ℕ) → AllSound m g → InTurnFrom turns ls → AllStand m turns k → k + length ls < 2 ^ 31 → CanFollow m ls
 lines_can [] m g turns k s in_turn all few = record { events = []; run = tt; follows = refl; none_fails = tt; at_once = tt }
 lines_can (lines.Client client a act ∷ ls) m g turns k s in_turn all few =
     let d : CanDo m a (busy_at m a) act = line_can m g s a (turns a) act in_turn.0 in_turn.1 in_turn.2 (all a).stands (omega (arith, (all a).began, few)) in
-    let n : Moment = after_all m d.events in
+    let n : WorldState = after_all m d.events in
     let done : IsDone m n a act d.next = line_does m g s a act d.events d.next d.run d.does in
     let rest : CanFollow n ls =
     lines_can ls n (ghosts_after m g d.events) (with_turn turns a (turn_after act)) (k + 1) (run_keeps d.events m g s d.run) in_turn.3

@@ -9,13 +9,14 @@ use Rattle.tect_ids.specs.declared.script.Act.{Act}
 use Rattle.tect_ids.specs.declared.script.Act.TheVariants as acts
 use Rattle.tect_ids.specs.declared.script.Line.{Line}
 use Rattle.tect_ids.specs.declared.script.Line.TheVariants as lines
-use Rattle.op_names.specs.declared.program.Phase.TheVariants.{End}
-use Rattle.op_names.specs.declared.program.Program.{Program}
-use Rattle.op_names.specs.Programs.{started}
+use Rattle.program_rules.specs.declared.program.Phase.TheVariants.{End}
+use Rattle.program_rules.specs.declared.program.Program.{Program}
+use Rattle.program_rules.specs.Programs.{started}
 use Rattle.world_runs.specs.declared.event.Event.{Event}
 use Rattle.world_runs.specs.declared.event.Event.TheVariants.{Began, Refused, Acted, Ended, Stopped, Failed, Dumped}
 use Rattle.world_runs.specs.Served.{IsServed}
-use Rattle.world_runs.specs.Moments.{Moment, May, CanBegin, no_room, opening, after, after_all, RunFrom, IsWorldRun, moment, running, answered, program_of, begun, refused}
+use Rattle.program_rules.specs.Lacks.{no_room}
+use Rattle.world_runs.specs.Moments.{WorldState, May, CanBegin, opening, after, after_all, RunFrom, IsWorldRun, moment, running, answered, program_of, begun, refused}
 use Rattle.world_runs.specs.Follows.{IsEndOf, IsBeginOf, DoesLine, Busy, FollowsFrom}
 use Rattle.world_runs.specs.Turns.{ClientTurn, Turns, all_idle, with_turn, turn_after, turns_after, TakesAct, InTurnFrom}
 use Rattle.world_runs.specs.Turns as turns
@@ -25,8 +26,8 @@ use Rattle.sound_runs.specs.Pasts.{ghosts, ghosts_after}
 use Rattle.sound_runs.proofs.MomentsKeep.{opening_all_sound}
 use Rattle.sound_runs.proofs.RunsKeep.{run_keeps, run_all_sound}
 use Rattle.tree_runs.proofs.Histories.{run-append}
-use Rattle.script_runs.specs.Standing.{op_of, busy_at, AtTurn}
-use Rattle.script_runs.specs.Smooth.{EndsAtOnce}
+use Rattle.world_runs.specs.Standing.{op_of, busy_at, AtTurn}
+use Rattle.world_runs.specs.Smooth.{EndsAtOnce}
 use Rattle.script_runs.specs.RunningOut.{RefusesAsFull}
 use Rattle.script_runs.specs.Laws.{EachScriptCanBeRunOut}
 use Rattle.script_runs.proofs.Moves.{changed_there}
@@ -52,7 +53,7 @@ module _ (full : List Event → ℕ → Bool) where
   refuses-append before (Dumped ∷ es) fs first then = refuses-append (before ++ Dumped ∷ []) es fs first (refuses_on before Dumped es fs then)
 
   -- none of them is a transaction
-  pub refuses_at_once : (before : List Event) (m : Moment) (es : List Event) → RefusesAsFull full before es → EndsAtOnce m es
+  pub refuses_at_once : (before : List Event) (m : WorldState) (es : List Event) → RefusesAsFull full before es → EndsAtOnce m es
   refuses_at_once before m [] r = tt
   refuses_at_once before m (Began op c ∷ es) r = (tt, refuses_at_once (before ++ Began op c ∷ []) (after m (Began op c)) es r.1)
   refuses_at_once before m (Refused op c ∷ es) r = (tt, refuses_at_once (before ++ Refused op c ∷ []) (after m (Refused op c)) es r.1)
@@ -65,13 +66,13 @@ module _ (full : List Event → ℕ → Bool) where
   -- ---- an op that runs
 
   -- its end: with its answer, if it has one, or for want of memory
-  pub record EndsNow (m : Moment) (op : OpId) : Type 0 where
+  pub record EndsNow (m : WorldState) (op : OpId) : Type 0 where
     pub end : Event
     pub may : May m end
     pub ends : IsEndOf op end
     pub refuses : (before : List Event) → RefusesAsFull full before (end ∷ [])
 
-  pub ends_now : (m : Moment) (op : OpId) (p : Program) → running m op ≡ Some p → EndsNow m op
+  pub ends_now : (m : WorldState) (op : OpId) (p : Program) → running m op ≡ Some p → EndsNow m op
   ends_now m op p runs = at (answered m op) refl
     where
       at : (o : Option Answer) → answered m op ≡ o → EndsNow m op
@@ -79,24 +80,24 @@ module _ (full : List Event → ℕ → Bool) where
       at None says = record { end = Failed op answers.NoMemory; may = (tt, (p, runs)); ends = refl; refuses = λ before. (refl, tt) }
 
   -- the end of the op that an actor is busy with
-  pub busy_ends : (m : Moment) (g : Ghost) → AllSound m g → (a : ℕ) (op : OpId) → busy_at m a ≡ Some op → EndsNow m op
+  pub busy_ends : (m : WorldState) (g : Ghost) → AllSound m g → (a : ℕ) (op : OpId) → busy_at m a ≡ Some op → EndsNow m op
   busy_ends m g s a op is = let busy : IsBusy m a op = busy_is m g s a op is in ends_now m op busy.program (busy_runs m a op busy)
 
   -- ---- a line
 
   -- events that do the line
-  record CanDo (before : List Event) (m : Moment) (a : ℕ) (busy : Option OpId) (act : Act) : Type 0 where
+  record CanDo (before : List Event) (m : WorldState) (a : ℕ) (busy : Option OpId) (act : Act) : Type 0 where
     events : List Event
     next : Option OpId
     run : RunFrom m events
     does : DoesLine a busy act events next
     refuses : RefusesAsFull full before events
 
-  nothing : (before : List Event) (m : Moment) (a : ℕ) (busy next : Option OpId) (act : Act) → DoesLine a busy act [] next → CanDo before m a busy act
+  nothing : (before : List Event) (m : WorldState) (a : ℕ) (busy next : Option OpId) (act : Act) → DoesLine a busy act [] next → CanDo before m a busy act
   nothing before m a busy next act does = record { events = []; next = next; run = tt; does = does; refuses = tt }
 
   -- an idle actor
-  module _ (before : List Event) (m : Moment) (a : ℕ) (c : Command) (from : 1 ≤ a) (upto : a ≤ 64) (served : IsServed c) (stood : AtTurn turns.Idle (m.actors a))
+  module _ (before : List Event) (m : WorldState) (a : ℕ) (c : Command) (from : 1 ≤ a) (upto : a ≤ 64) (served : IsServed c) (stood : AtTurn turns.Idle (m.actors a))
       (few : (m.actors a).number + 1 < 2 ^ 31) where
     -- its next op
     abbrev op : OpId
@@ -154,7 +155,7 @@ module _ (full : List Event → ℕ → Bool) where
       refuses = refuses-append before (begins.begin ∷ []) (ends.end ∷ []) begins.refuses (ends.refuses (before ++ begins.begin ∷ []));
     }
 
-  module _ (before : List Event) (m : Moment) (g : Ghost) (s : AllSound m g) (a : ℕ) where
+  module _ (before : List Event) (m : WorldState) (g : Ghost) (s : AllSound m g) (a : ℕ) where
     step_can : (n : ℕ) (busy : Option OpId) → busy_at m a ≡ busy → CanDo before m a busy (acts.Step n)
     step_can n None is = nothing before m a None None (acts.Step n) (refl, refl)
     step_can n (Some op) is =
@@ -192,18 +193,18 @@ module _ (full : List Event → ℕ → Bool) where
   -- ---- lines
 
   -- events that follow the lines
-  pub record CanRunOut (before : List Event) (m : Moment) (ls : List Line) : Type 0 where
+  pub record CanRunOut (before : List Event) (m : WorldState) (ls : List Line) : Type 0 where
     pub events : List Event
     pub run : RunFrom m events
     pub follows : FollowsFrom (busy_at m) ls events
     pub refuses : RefusesAsFull full before events
 
-  pub lines_run_out : (ls : List Line) (before : List Event) (m : Moment) (g : Ghost) (turns : Turns) (k : ℕ) → AllSound m g → InTurnFrom turns ls → AllStand m turns k → k + length ls < 2 ^ 31
+  pub lines_run_out : (ls : List Line) (before : List Event) (m : WorldState) (g : Ghost) (turns : Turns) (k : ℕ) → AllSound m g → InTurnFrom turns ls → AllStand m turns k → k + length ls < 2 ^ 31
       → CanRunOut before m ls
   lines_run_out [] before m g turns k s in_turn all few = record { events = []; run = tt; follows = refl; refuses = tt }
   lines_run_out (lines.Client client a act ∷ ls) before m g turns k s in_turn all few =
       let d : CanDo before m a (busy_at m a) act = line_can before m g s a (turns a) act in_turn.0 in_turn.1 in_turn.2 (all a).stands (omega (arith, (all a).began, few)) in
-      let n : Moment = after_all m d.events in
+      let n : WorldState = after_all m d.events in
       let done : IsDone m n a act d.next = line_does m g s a act d.events d.next d.run d.does in
       let rest : CanRunOut (before ++ d.events) n ls =
       lines_run_out ls (before ++ d.events) n (ghosts_after m g d.events) (with_turn turns a (turn_after act)) (k + 1) (run_keeps d.events m g s d.run) in_turn.3

@@ -10,15 +10,15 @@ use Rattle.tect_ids.specs.declared.script.Line.TheVariants as lines
 use Rattle.tect_ids.proofs.KeyTests.{num_eq_cases}
 use Rattle.world_runs.specs.declared.event.Event.{Event}
 use Rattle.world_runs.specs.declared.event.Event.TheVariants.{Began, Refused, Acted, Ended, Stopped, Failed, Dumped}
-use Rattle.world_runs.specs.Moments.{Moment, after, after_all, RunFrom, answered}
+use Rattle.world_runs.specs.Moments.{WorldState, after, after_all, RunFrom, answered}
 use Rattle.world_runs.specs.Follows.{Acts, IsEndOf, IsBeginOf, EndsAfter, DoesLine, Busy, with_busy, FollowsFrom}
 use Rattle.store_world.specs.Worlds.{Ghost}
 use Rattle.sound_runs.specs.Known.{AllSound}
 use Rattle.sound_runs.specs.Pasts.{ghosts_after}
 use Rattle.sound_runs.proofs.RunsKeep.{run_keeps}
 use Rattle.tree_runs.proofs.Histories.{after_all-append, run-front, run-rest}
-use Rattle.script_runs.specs.Standing.{busy_at}
-use Rattle.script_runs.specs.Smooth.{EndIsNext, EndsAtOnce, StepsOn, AllStepOn, IsNoStep, NoneSteps}
+use Rattle.world_runs.specs.Standing.{busy_at}
+use Rattle.world_runs.specs.Smooth.{EndIsNext, EndsAtOnce, StepsOn, AllStepOn, IsNoStep, NoneSteps}
 use Rattle.script_runs.proofs.Moves.{changed, Keeps, end_moves}
 use Rattle.script_runs.proofs.Lines.{busy_is, IsDone, keeps_done, line_does, busy_after}
 use Rattle.script_runs.proofs.AtOnce.{at_once-rest}
@@ -114,7 +114,7 @@ not_first op e d rest part later ds end parts is =
 
 -- ---- an end that comes before its line
 
-module _ (n : Moment) (g : Ghost) (s : AllSound n g) (a : ℕ) (op : OpId) (is : busy_at n a ≡ Some op) (e : Event) (end : IsEndOf op e) where
+module _ (n : WorldState) (g : Ghost) (s : AllSound n g) (a : ℕ) (op : OpId) (is : busy_at n a ≡ Some op) (e : Event) (end : IsEndOf op e) where
   -- its own actor's line is over by it
   record IsOver (act : Act) (next : Option OpId) (rest later : List Event) : Type 0 where
     alone : rest ≡ later
@@ -207,12 +207,12 @@ module _ (n : Moment) (g : Ghost) (s : AllSound n g) (a : ℕ) (op : OpId) (is :
 -- ---- following so that no step leaves an answer
 
 -- the step's op has no answer yet, where it goes on
-abbrev pub IsSettled : Moment → Act → Option OpId → Type 0
+abbrev pub IsSettled : WorldState → Act → Option OpId → Type 0
 IsSettled n (acts.Step k) (Some op) = answered n op ≡ None
 IsSettled n _ _ = Unit {0}
 
 -- each line's events in the order of the lines, from that moment on
-abbrev pub Settles : Moment → List Line → List Event → Type 0
+abbrev pub Settles : WorldState → List Line → List Event → Type 0
 Settles m [] es = es ≡ []
 Settles m (lines.Client client a act ∷ ls) es =
     (part : List Event) × (rest : List Event) × (next : Option OpId) × (es ≡ part ++ rest) × DoesLine a (busy_at m a) act part next × IsSettled (after_all m part) act next
@@ -223,7 +223,7 @@ Settles m (lines.Sweep ∷ ls) es = ⊥
 Settles m (lines.Lose disk ∷ ls) es = ⊥
 
 -- a step left its op with its answer
-record LeavesAnswer (n : Moment) (act : Act) (next : Option OpId) : Type 0 where
+record LeavesAnswer (n : WorldState) (act : Act) (next : Option OpId) : Type 0 where
   count : ℕ
   op : OpId
   answer : Answer
@@ -231,7 +231,7 @@ record LeavesAnswer (n : Moment) (act : Act) (next : Option OpId) : Type 0 where
   goes_on : next ≡ Some op
   says : answered n op ≡ Some answer
 
-settled_or : (n : Moment) (act : Act) (next : Option OpId) → IsSettled n act next ⊎ LeavesAnswer n act next
+settled_or : (n : WorldState) (act : Act) (next : Option OpId) → IsSettled n act next ⊎ LeavesAnswer n act next
 settled_or n (acts.Step k) (Some op) = at (answered n op) refl
   where
     at : (x : Option Answer) → answered n op ≡ x → IsSettled n (acts.Step k) (Some op) ⊎ LeavesAnswer n (acts.Step k) (Some op)
@@ -254,7 +254,7 @@ some_acts op n (Failed o a) es acts = absurd acts
 some_acts op n Dumped es acts = absurd acts
 
 -- after which the op has its answer
-end_follows_acts : (m : Moment) (op : OpId) (n : ℕ) (es rest : List Event) (a : Answer) → 1 ≤ n → Acts op n es → EndsAtOnce m (es ++ rest) → answered (after_all m es) op ≡ Some a → EndIsNext op rest
+end_follows_acts : (m : WorldState) (op : OpId) (n : ℕ) (es rest : List Event) (a : Answer) → 1 ≤ n → Acts op n es → EndsAtOnce m (es ++ rest) → answered (after_all m es) op ≡ Some a → EndIsNext op rest
 end_follows_acts m op n [] rest a some acts all says = absurd (omega (arith, some, acts))
 end_follows_acts m op n (Acted o q x ∷ []) rest a some acts all says =
     subst (λ (z : OpId). EndIsNext z rest) acts.0 (all.0 a (subst (λ (z : OpId). answered (after m (Acted o q x)) z ≡ Some a) (sym acts.0) says))
@@ -278,16 +278,16 @@ step_acts a (Some o) k part op (inr d) = absurd (let z : Some op ≡ None = d.3 
 
 -- all lines of a list can be settled
 abbrev CanSettle : List Line → Type 0
-CanSettle ls = (m : Moment) (g : Ghost) (es : List Event) → AllSound m g → RunFrom m es → EndsAtOnce m es → FollowsFrom (busy_at m) ls es → Settles m ls es
+CanSettle ls = (m : WorldState) (g : Ghost) (es : List Event) → AllSound m g → RunFrom m es → EndsAtOnce m es → FollowsFrom (busy_at m) ls es → Settles m ls es
 
-module _ (client : List ℕ) (ls : List Line) (some : AllStepOn ls) (others : CanSettle ls) (m : Moment) (g : Ghost) (s : AllSound m g) (a k : ℕ) (steps : 1 ≤ k) where
+module _ (client : List ℕ) (ls : List Line) (some : AllStepOn ls) (others : CanSettle ls) (m : WorldState) (g : Ghost) (s : AllSound m g) (a k : ℕ) (steps : 1 ≤ k) where
   -- the end that comes next is the step's
   takes_end : (part rest : List Event) (op : OpId) (x : Answer) → RunFrom m (part ++ rest) → EndsAtOnce m (part ++ rest) → DoesLine a (busy_at m a) (acts.Step k) part (Some op)
       → FollowsFrom (busy_at (after_all m part)) ls rest → busy_at (after_all m part) a ≡ Some op → EndIsNext op rest → Settles m (lines.Client client a (acts.Step k) ∷ ls) (part ++ rest)
   takes_end part [] op x run all does more busy next = absurd next
   takes_end part (e ∷ rest) op x run all does more busy next =
       let did : (busy_at m a ≡ Some op) × Acts op k part = step_acts a (busy_at m a) k part op does in
-      let n : Moment = after_all m part in
+      let n : WorldState = after_all m part in
       let there : AllSound n (ghosts_after m g part) = run_keeps part m g s (run-front m part (e ∷ rest) run) in
       let own : op.actor ≡ a = (busy_is m g s a op did.0).own in
       let whole : List Event = part ++ e ∷ [] in
@@ -311,12 +311,12 @@ module _ (client : List ℕ) (ls : List Line) (some : AllStepOn ls) (others : Ca
       takes_end part rest op x run all does more busy (end_follows_acts m op k part rest x steps (step_acts a (busy_at m a) k part op does).1 all says)
 
 -- a line
-module _ (client : List ℕ) (a : ℕ) (act : Act) (ls : List Line) (some : AllStepOn (lines.Client client a act ∷ ls)) (others : CanSettle ls) (m : Moment) (g : Ghost) (s : AllSound m g) where
+module _ (client : List ℕ) (a : ℕ) (act : Act) (ls : List Line) (some : AllStepOn (lines.Client client a act ∷ ls)) (others : CanSettle ls) (m : WorldState) (g : Ghost) (s : AllSound m g) where
   line_settles : (part rest : List Event) (next : Option OpId) → RunFrom m (part ++ rest) → EndsAtOnce m (part ++ rest) → DoesLine a (busy_at m a) act part next
       → FollowsFrom (with_busy (busy_at m) a next) ls rest → Settles m (lines.Client client a act ∷ ls) (part ++ rest)
   line_settles part rest next run all does more =
       let mine : RunFrom m part = run-front m part rest run in
-      let n : Moment = after_all m part in
+      let n : WorldState = after_all m part in
       let done : IsDone m n a act next = line_does m g s a act part next mine does in
       let on : FollowsFrom (busy_at n) ls rest = subst (λ (b : Busy). FollowsFrom b ls rest) (busy_after m n a act next done) more in
       elim (settled_or n act next) [
@@ -344,21 +344,21 @@ follows_settled (lines.Lose disk ∷ ls) some m g es s run all f = absurd f
 
 -- ---- a script without steps
 
-settled_aside : (n : Moment) (client : List ℕ) (a : ℕ) (act : Act) (next : Option OpId) → IsNoStep (lines.Client client a act) → IsSettled n act next
+settled_aside : (n : WorldState) (client : List ℕ) (a : ℕ) (act : Act) (next : Option OpId) → IsNoStep (lines.Client client a act) → IsSettled n act next
 settled_aside n client a (acts.Step k) next aside = absurd aside
 settled_aside n client a (acts.Do c) next aside = tt
 settled_aside n client a (acts.Begin c) next aside = tt
 settled_aside n client a acts.Run next aside = tt
 settled_aside n client a acts.Stop next aside = tt
 
-pub settled_without_steps : (ls : List Line) → NoneSteps ls → (m : Moment) (g : Ghost) (es : List Event) → AllSound m g → RunFrom m es → FollowsFrom (busy_at m) ls es → Settles m ls es
+pub settled_without_steps : (ls : List Line) → NoneSteps ls → (m : WorldState) (g : Ghost) (es : List Event) → AllSound m g → RunFrom m es → FollowsFrom (busy_at m) ls es → Settles m ls es
 settled_without_steps [] aside m g es s run f = f
 settled_without_steps (lines.Client client a act ∷ ls) aside m g es s run f =
     let part : List Event = f.0 in
     let rest : List Event = f.1 in
     let whole : RunFrom m (part ++ rest) = rw f.3 at run in
     let mine : RunFrom m part = run-front m part rest whole in
-    let n : Moment = after_all m part in
+    let n : WorldState = after_all m part in
     let done : IsDone m n a act f.2 = line_does m g s a act part f.2 mine f.4 in
     let on : FollowsFrom (busy_at n) ls rest = subst (λ (b : Busy). FollowsFrom b ls rest) (busy_after m n a act f.2 done) f.5 in (
       part,

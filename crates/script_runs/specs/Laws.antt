@@ -6,8 +6,8 @@ use Rattle.world_runs.specs.declared.event.Event.{Event}
 use Rattle.world_runs.specs.Moments.{Actor, opening, IsWorldRun, moment}
 use Rattle.world_runs.specs.Follows.{FollowsFrom, Follows, NoneFails}
 use Rattle.world_runs.specs.Turns.{ClientTurn, all_idle, turns_after, InTurn}
-use Rattle.script_runs.specs.Standing.{busy_at, AtTurn}
-use Rattle.script_runs.specs.Smooth.{EndsAtOnce, IsSmoothRun, AllStepOn, NoneSteps}
+use Rattle.world_runs.specs.Standing.{busy_at, AtTurn}
+use Rattle.world_runs.specs.Smooth.{EndsAtOnce, IsSmoothRun, AllStepOn, NoneSteps}
 use Rattle.script_runs.specs.RunningOut.{RefusesAsFull}
 
 -- what follows the next lines from the ops that are busy by then follows on

@@ -1,5 +1,2 @@
-pub mod Standing
-pub mod Smooth
 pub mod RunningOut
 pub mod Laws
-pub mod Playable

@@ -12,14 +12,15 @@ use Rattle.store_rules.specs.declared.any.AnyReq.{AnyReq}
 use Rattle.store_rules.specs.declared.any.AnyReply.{AnyReply}
 use Rattle.store_rules.specs.Places.{request_place}
 use Rattle.store_rules.specs.Store.{store_reply}
-use Rattle.op_names.specs.declared.program.Phase.{Phase}
-use Rattle.op_names.specs.declared.program.Phase.TheVariants.{End}
-use Rattle.op_names.specs.declared.program.Program.{Program}
-use Rattle.op_names.specs.Programs.{root, object_number, own_hold, phase_ask, phase_hear, first_phase}
+use Rattle.program_rules.specs.declared.program.Phase.{Phase}
+use Rattle.program_rules.specs.declared.program.Phase.TheVariants.{End}
+use Rattle.program_rules.specs.declared.program.Program.{Program}
+use Rattle.program_rules.specs.Programs.{root, object_number, own_hold, phase_ask, phase_hear, first_phase}
 use Rattle.world_runs.specs.declared.event.Event.{Event}
 use Rattle.world_runs.specs.declared.event.Event.TheVariants.{Began, Refused, Acted, Ended, Stopped, Failed, Dumped}
 use Rattle.world_runs.specs.Served.{IsServed}
-use Rattle.world_runs.specs.Moments.{Actor, Moment, CanBegin, May, no_room, after, went_on, next_serial, running, asked, program_of, program_ask, opening, with_actor}
+use Rattle.program_rules.specs.Lacks.{no_room}
+use Rattle.world_runs.specs.Moments.{Actor, WorldState, CanBegin, May, after, went_on, next_serial, running, asked, program_of, program_ask, opening, with_actor}
 use Rattle.store_world.specs.Worlds.{World, Ghost, next, ghost_next, opening_ghost}
 use Rattle.store_world.specs.Later.{actor_of, Later, Within, by_actor}
 use Rattle.store_world.specs.Requests.{Needs, Kept, touched_by}
@@ -69,7 +70,7 @@ serial_grows : (serial : ℕ) (x : AnyReply) → serial ≤ next_serial serial x
 serial_grows serial x = grind arith
 
 -- a running command's transaction
-module _ (m : Moment) (g : Ghost) (s : AllSound m g) (p : Program) (is : (m.actors p.op.actor).running ≡ Some p) (q : AnyReq)
+module _ (m : WorldState) (g : Ghost) (s : AllSound m g) (p : Program) (is : (m.actors p.op.actor).running ≡ Some p) (q : AnyReq)
     (ask : phase_ask p.op (object_number p.op.actor (m.actors p.op.actor).serial) p.command p.phase ≡ Some q) where
   -- its actor, the world before and after, and what is said to it
   abbrev st : Actor
@@ -142,7 +143,7 @@ module _ (m : Moment) (g : Ghost) (s : AllSound m g) (p : Program) (is : (m.acto
   }
 
 -- a command begins
-module _ (m : Moment) (g : Ghost) (s : AllSound m g) (op : OpId) (c : Command) (can : CanBegin (m.actors op.actor) op) (served : IsServed c) where
+module _ (m : WorldState) (g : Ghost) (s : AllSound m g) (op : OpId) (c : Command) (can : CanBegin (m.actors op.actor) op) (served : IsServed c) where
   -- its actor, and the world
   abbrev idle : Actor
   idle = m.actors op.actor
@@ -208,7 +209,7 @@ module _ (m : Moment) (g : Ghost) (s : AllSound m g) (op : OpId) (c : Command) (
   refused_sound = begins_sound (End no_room) refl
 
 -- an actor has no running command any more
-module _ (m : Moment) (g : Ghost) (s : AllSound m g) (a : ℕ) where
+module _ (m : WorldState) (g : Ghost) (s : AllSound m g) (a : ℕ) where
   rests : (stopped : Bool) → ActorSound (world_of m g) a record (m.actors a) { running = None; stopped = stopped }
   rests stopped = let part : ActorSound (world_of m g) a (m.actors a) = s.actors a in record { fresh = part.fresh; few_made = part.few_made; few_begun = part.few_begun; running = tt }
 
@@ -234,12 +235,12 @@ runs_as (Some r) op p e = at (op_eq r.op op) refl e
     at false t same = absurd (grind (arith, same))
 
 -- where an op asks, a program runs as that op and asks it
-pub record Asks (m : Moment) (op : OpId) (q : AnyReq) (p : Program) : Type 0 where
+pub record Asks (m : WorldState) (op : OpId) (q : AnyReq) (p : Program) : Type 0 where
   pub same : p.op ≡ op
   pub is : (m.actors p.op.actor).running ≡ Some p
   pub ask : phase_ask p.op (object_number p.op.actor (m.actors p.op.actor).serial) p.command p.phase ≡ Some q
 
-asks_as : (m : Moment) (op : OpId) (q : AnyReq) (o : Option Program) → running m op ≡ o → program_ask (m.actors op.actor).serial o ≡ Some q → (p : Program) × Asks m op q p
+asks_as : (m : WorldState) (op : OpId) (q : AnyReq) (o : Option Program) → running m op ≡ o → program_ask (m.actors op.actor).serial o ≡ Some q → (p : Program) × Asks m op q p
 asks_as m op q None e asks = absurd (grind (arith, asks))
 asks_as m op q (Some p) e asks =
     let r : RunsAs (m.actors op.actor).running op p = runs_as (m.actors op.actor).running op p e in (
@@ -252,16 +253,16 @@ asks_as m op q (Some p) e asks =
     )
 
 -- what an op asks, its program asks
-pub asks_by : (m : Moment) (op : OpId) (q : AnyReq) → asked m op ≡ Some q → (p : Program) × Asks m op q p
+pub asks_by : (m : WorldState) (op : OpId) (q : AnyReq) → asked m op ≡ Some q → (p : Program) × Asks m op q p
 asks_by m op q asks = asks_as m op q (running m op) refl asks
 
-acts_sound : (m : Moment) (g : Ghost) (op : OpId) (q : AnyReq) (x : AnyReply) → AllSound m g → May m (Acted op q x) → AllSound (after m (Acted op q x)) (ghost_next m.store g q)
+acts_sound : (m : WorldState) (g : Ghost) (op : OpId) (q : AnyReq) (x : AnyReply) → AllSound m g → May m (Acted op q x) → AllSound (after m (Acted op q x)) (ghost_next m.store g q)
 acts_sound m g op q x s can =
     let by : (p : Program) × Asks m op q p = asks_by m op q can.0 in
     rw can.1 (subst (λ (o : OpId). AllSound (after m (Acted o q (store_reply m.store q))) (ghost_next m.store g q)) by.1.same (acted_sound m g s by.0 by.1.is q by.1.ask))
 
 -- each event that may happen keeps what is so at every moment
-pub event_sound : (m : Moment) (g : Ghost) (e : Event) → AllSound m g → May m e → AllSound (after m e) (ghost_after m g e)
+pub event_sound : (m : WorldState) (g : Ghost) (e : Event) → AllSound m g → May m e → AllSound (after m e) (ghost_after m g e)
 event_sound m g (Began op c) s can = began_sound m g s op c can.0 can.1
 event_sound m g (Refused op c) s can = refused_sound m g s op c can.0 can.1
 event_sound m g (Acted op q x) s can = acts_sound m g op q x s can

@@ -15,10 +15,10 @@ use Rattle.store_rules.specs.declared.any.AnyReq.TheVariants as any
 use Rattle.store_rules.specs.Names.{key_in}
 use Rattle.store_rules.specs.Store.{store_reply}
 use Rattle.store_rules.specs.Views.{is_made}
-use Rattle.op_names.specs.declared.program.Phase.{Phase}
-use Rattle.op_names.specs.declared.program.Phase.TheVariants.{Walk, Bind, Grant, Swap, Release, End}
-use Rattle.op_names.specs.Paths.{last_name}
-use Rattle.op_names.specs.Programs.{object_number, own_hold, new_path, at_last, grant_ask, first_ask, phase_ask}
+use Rattle.program_rules.specs.declared.program.Phase.{Phase}
+use Rattle.program_rules.specs.declared.program.Phase.TheVariants.{Walk, Bind, Grant, Swap, Release, End}
+use Rattle.program_rules.specs.Paths.{last_name}
+use Rattle.program_rules.specs.Programs.{object_number, own_hold, new_path, at_last, grant_ask, first_ask, phase_ask}
 use Rattle.world_runs.specs.Moments.{next_serial}
 use Rattle.store_world.specs.Worlds.{World}
 use Rattle.store_world.specs.Sound.{was_made, IsGranted}

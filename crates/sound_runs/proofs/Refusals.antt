@@ -16,7 +16,7 @@ use Rattle.store_rules.specs.declared.any.AnyReq.{AnyReq}
 use Rattle.store_rules.specs.declared.any.AnyReq.TheVariants as any
 use Rattle.store_rules.specs.Store.{Store, store_reply}
 use Rattle.store_rules.specs.Views.{as_found, as_parent, as_listing, is_made, is_granted, as_bound, as_unbound, as_swapped}
-use Rattle.op_names.specs.Programs.{refusal, dir_refusal}
+use Rattle.program_rules.specs.Programs.{refusal, dir_refusal}
 use Rattle.sound_runs.specs.Known.{is_odd}
 
 -- of requests that concern a whole directory

@@ -8,12 +8,12 @@ use Rattle.tect_ids.specs.declared.command.Command.TheVariants as commands
 use Rattle.tect_ids.specs.declared.answer.Answer.{Answer}
 use Rattle.tect_ids.specs.declared.answer.Answer.TheVariants as answers
 use Rattle.store_rules.specs.declared.any.AnyReq.{AnyReq}
-use Rattle.op_names.specs.declared.program.Phase.{Phase}
-use Rattle.op_names.specs.declared.program.Phase.TheVariants.{Walk, Bind, Grant, Swap, Release, End}
-use Rattle.op_names.specs.declared.program.Program.{Program}
-use Rattle.op_names.specs.Programs.{object_number, new_path, at_last, first_ask, phase_ask, phase_answer}
+use Rattle.program_rules.specs.declared.program.Phase.{Phase}
+use Rattle.program_rules.specs.declared.program.Phase.TheVariants.{Walk, Bind, Grant, Swap, Release, End}
+use Rattle.program_rules.specs.declared.program.Program.{Program}
+use Rattle.program_rules.specs.Programs.{object_number, new_path, at_last, first_ask, phase_ask, phase_answer}
 use Rattle.world_runs.specs.declared.event.Event.{Event}
-use Rattle.world_runs.specs.Moments.{Moment, Actor, RunFrom, IsWorldRun, moment, after, after_all, opening, running, asked, answered, program_answer}
+use Rattle.world_runs.specs.Moments.{WorldState, Actor, RunFrom, IsWorldRun, moment, after, after_all, opening, running, asked, answered, program_answer}
 use Rattle.world_runs.specs.Sound.{IsSound, IsSoundStore}
 use Rattle.store_world.specs.Worlds.{World, Ghost, opening_ghost}
 use Rattle.store_world.specs.Sound.{Sound}
@@ -33,12 +33,12 @@ store_sound w s = record {
 }
 
 -- a run keeps what is so at every moment
-pub run_keeps : (events : List Event) (m : Moment) (g : Ghost) → AllSound m g → RunFrom m events → AllSound (after_all m events) (ghosts_after m g events)
+pub run_keeps : (events : List Event) (m : WorldState) (g : Ghost) → AllSound m g → RunFrom m events → AllSound (after_all m events) (ghosts_after m g events)
 run_keeps [] m g s run = s
 run_keeps (e ∷ es) m g s run = run_keeps es (after m e) (ghost_after m g e) (event_sound m g e s run.0) run.1
 
 -- a front of a run is a run
-pub front_runs : (n : ℕ) (events : List Event) (m : Moment) → RunFrom m events → RunFrom m (take n events)
+pub front_runs : (n : ℕ) (events : List Event) (m : WorldState) → RunFrom m events → RunFrom m (take n events)
 front_runs zero events m run = tt
 front_runs (suc n) [] m run = tt
 front_runs (suc n) (e ∷ es) m run = (run.0, front_runs n es (after m e) run.1)
@@ -67,7 +67,7 @@ numbers_stay_small counts events run a =
     record { serial_small = (all.actors a).few_made; number_small = (all.actors a).few_begun }
 
 -- what the running command of an actor knows
-pub knows_of : (m : Moment) (g : Ghost) → AllSound m g → (a : ℕ) (p : Program) → (m.actors a).running ≡ Some p → Knows (world_of m g) a (m.actors a).serial (m.actors a).number p
+pub knows_of : (m : WorldState) (g : Ghost) → AllSound m g → (a : ℕ) (p : Program) → (m.actors a).running ≡ Some p → Knows (world_of m g) a (m.actors a).serial (m.actors a).number p
 knows_of m g s a p is = rw is at (s.actors a).running
 
 -- so one more serial and each object's number fit
@@ -84,15 +84,15 @@ running_is_last_begun counts events run a p is =
     record { own = k.own; last = k.last; is_actor = k.is_actor; served = k.served }
 
 -- the op that runs is its actor's last
-pub running_is_of : (m : Moment) (op : OpId) (p : Program) → running m op ≡ Some p → RunsAs (m.actors op.actor).running op p
+pub running_is_of : (m : WorldState) (op : OpId) (p : Program) → running m op ≡ Some p → RunsAs (m.actors op.actor).running op p
 running_is_of m op p e = runs_as (m.actors op.actor).running op p e
 
 -- what is asked in a sound moment needs no more than is known
-pub asked_needs : (m : Moment) (g : Ghost) → AllSound m g → (op : OpId) (q : AnyReq) → asked m op ≡ Some q → Needs (world_of m g) q
+pub asked_needs : (m : WorldState) (g : Ghost) → AllSound m g → (op : OpId) (q : AnyReq) → asked m op ≡ Some q → Needs (world_of m g) q
 asked_needs m g s op q e = let by : (p : Program) × Asks m op q p = asks_by m op q e in asks_what_it_needs m g s by.0 by.1.is q by.1.ask
 
 -- and touches its actor's own alone
-pub asked_touches : (m : Moment) (g : Ghost) → AllSound m g → (op : OpId) (q : AnyReq) → asked m op ≡ Some q → Within (touched_by q) (by_actor op.actor)
+pub asked_touches : (m : WorldState) (g : Ghost) → AllSound m g → (op : OpId) (q : AnyReq) → asked m op ≡ Some q → Within (touched_by q) (by_actor op.actor)
 asked_touches m g s op q e =
     let by : (p : Program) × Asks m op q p = asks_by m op q e in
     subst (λ (o : OpId). Within (touched_by q) (by_actor o.actor)) by.1.same (touches_its_own m g s by.0 by.1.is q by.1.ask)
@@ -107,7 +107,7 @@ plain_answer w op serial c (Release n h old b) a k e = absurd (grind (arith, e))
 plain_answer w op serial c (End b) a k e = let same : b ≡ a = cc in rw (← same) k
 
 -- the same of an op at a moment
-pub answered_plain : (m : Moment) (g : Ghost) → AllSound m g → (op : OpId) (o : Option Program) → running m op ≡ o → (a : Answer) → program_answer o ≡ Some a → is_odd a ≡ false
+pub answered_plain : (m : WorldState) (g : Ghost) → AllSound m g → (op : OpId) (o : Option Program) → running m op ≡ o → (a : Answer) → program_answer o ≡ Some a → is_odd a ≡ false
 answered_plain m g s op None e a is = absurd (grind (arith, is))
 answered_plain m g s op (Some p) e a is =
     let r : RunsAs (m.actors op.actor).running op p = running_is_of m op p e in
@@ -152,7 +152,7 @@ phase_does w op number serial c (Release n h old b) k = refl
 phase_does w op number serial c (End b) k = refl
 
 -- the same of an op at a moment
-pub running_does : (m : Moment) (g : Ghost) → AllSound m g → (op : OpId) (p : Program) → running m op ≡ Some p → (is_some (asked m op) || is_some (answered m op)) ≡ true
+pub running_does : (m : WorldState) (g : Ghost) → AllSound m g → (op : OpId) (p : Program) → running m op ≡ Some p → (is_some (asked m op) || is_some (answered m op)) ≡ true
 running_does m g s op p e =
     let r : RunsAs (m.actors op.actor).running op p = running_is_of m op p e in
     let serial : ℕ = (m.actors op.actor).serial in

@@ -9,13 +9,13 @@ use Rattle.tect_ids.specs.declared.key.Key.{Key}
 use Rattle.tect_ids.specs.declared.answer.Answer.{Answer}
 use Rattle.tect_ids.specs.declared.answer.Answer.TheVariants as answers
 use Rattle.store_rules.specs.Names.{key_in}
-use Rattle.op_names.specs.declared.program.Phase.{Phase}
-use Rattle.op_names.specs.declared.program.Phase.TheVariants.{Walk, Bind, Grant, Swap, Release, End}
-use Rattle.op_names.specs.declared.program.Program.{Program}
-use Rattle.op_names.specs.Programs.{root, object_number, own_hold, new_path}
-use Rattle.op_names.specs.Paths.{last_name}
+use Rattle.program_rules.specs.declared.program.Phase.{Phase}
+use Rattle.program_rules.specs.declared.program.Phase.TheVariants.{Walk, Bind, Grant, Swap, Release, End}
+use Rattle.program_rules.specs.declared.program.Program.{Program}
+use Rattle.program_rules.specs.Programs.{root, object_number, own_hold, new_path}
+use Rattle.program_rules.specs.Paths.{last_name}
 use Rattle.world_runs.specs.Served.{IsServed}
-use Rattle.world_runs.specs.Moments.{Actor, Moment}
+use Rattle.world_runs.specs.Moments.{Actor, WorldState}
 use Rattle.store_world.specs.Worlds.{World, Ghost}
 use Rattle.store_world.specs.Sound.{Sound, was_made, is_spent, IsGranted}
 use Rattle.store_world.specs.Later.{actor_of}
@@ -83,7 +83,7 @@ pub record ActorSound (w : World) (a : ℕ) (actor : Actor) : Type 0 where
   pub running : RunningKnows w a actor.serial actor.number actor.running
 
 -- what is so at every moment of a run
-pub record AllSound (m : Moment) (g : Ghost) : Type 0 where
+pub record AllSound (m : WorldState) (g : Ghost) : Type 0 where
   pub sound : Sound (world_of m g)
   pub root : was_made g (Dir root) ≡ true
   pub actors : (a : ℕ) → ActorSound (world_of m g) a (m.actors a)

@@ -3,11 +3,11 @@ use Rattle.std.specs.Prelude.{List, [], ◌∷◌}
 use Rattle.tect_ids.specs.declared.ids.Counts.{Counts}
 use Rattle.world_runs.specs.declared.event.Event.{Event}
 use Rattle.world_runs.specs.declared.event.Event.TheVariants.{Began, Refused, Acted, Ended, Stopped, Failed, Dumped}
-use Rattle.world_runs.specs.Moments.{Moment, opening, after, moment}
+use Rattle.world_runs.specs.Moments.{WorldState, opening, after, moment}
 use Rattle.store_world.specs.Worlds.{Ghost, World, opening_ghost, ghost_next}
 
 -- the past after an event: transactions alone change it
-abbrev pub ghost_after : Moment → Ghost → Event → Ghost
+abbrev pub ghost_after : WorldState → Ghost → Event → Ghost
 ghost_after m g (Began op c) = g
 ghost_after m g (Refused op c) = g
 ghost_after m g (Acted op q x) = ghost_next m.store g q
@@ -17,7 +17,7 @@ ghost_after m g (Failed op a) = g
 ghost_after m g Dumped = g
 
 -- the past after these events
-abbrev pub ghosts_after : Moment → Ghost → List Event → Ghost
+abbrev pub ghosts_after : WorldState → Ghost → List Event → Ghost
 ghosts_after m g [] = g
 ghosts_after m g (e ∷ es) = ghosts_after (after m e) (ghost_after m g e) es
 
@@ -26,7 +26,7 @@ abbrev pub ghosts : Counts → List Event → Ghost
 ghosts counts events = ghosts_after (opening counts) opening_ghost events
 
 -- the store of a moment beside its past
-abbrev pub world_of : Moment → Ghost → World
+abbrev pub world_of : WorldState → Ghost → World
 world_of m g = record { store = m.store; ghost = g }
 
 -- the store after a history, beside its past

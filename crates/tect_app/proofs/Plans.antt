@@ -30,7 +30,7 @@ use Rattle.script_forms.specs.Reading.{out_of_state}
 use Rattle.script_forms.specs.Spelling.{AreLines, seen_of, is_told, plan_lines, Spells}
 use Rattle.world_runs.specs.Served.{IsServed}
 use Rattle.world_runs.specs.Turns.{ClientTurn, Idle, Busy, Gone, TakesAct, turn_after, Turns, all_idle, with_turn, InTurnFrom}
-use Rattle.script_runs.specs.Playable.{IsShallow, IsBounded, IsWithin, IsPlayable}
+use Rattle.world_runs.specs.Playable.{IsShallow, IsBounded, IsWithin, IsPlayable}
 
 -- ---- commands
 

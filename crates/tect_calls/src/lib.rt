@@ -4,7 +4,6 @@
 
 mod asked;
 mod file_requests;
-mod machine;
 mod memory;
 mod name_requests;
 mod places;
@@ -13,7 +12,6 @@ mod tokens;
 
 pub use asked::Asked;
 pub use file_requests::{file_grant, file_make_file, file_release};
-pub use machine::AnyMachine;
 pub use memory::Memory;
 pub use name_requests::{
     name_bind, name_check_dir, name_grant, name_list, name_look, name_make_dir, name_release,

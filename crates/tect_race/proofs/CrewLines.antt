@@ -6,7 +6,7 @@ use Rattle.tect_ids.specs.declared.script.Act.{Act}
 use Rattle.tect_ids.specs.declared.script.Line.{Line}
 use Rattle.tect_ids.specs.declared.script.Line.TheVariants as lines
 use Rattle.world_runs.specs.Turns.{ClientTurn, TakesAct}
-use Rattle.script_runs.specs.Standing.{AtTurn}
+use Rattle.world_runs.specs.Standing.{AtTurn}
 use Rattle.clients.specs.Lives.{state_in}
 use Rattle.racers.specs.declared.racer.Racer.{Racer}
 use Rattle.tect_race.specs.declared.crew.Crew.{Crew}

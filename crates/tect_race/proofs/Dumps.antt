@@ -5,10 +5,10 @@ use Rattle.std.proofs.lemmas.List.Elements.{All-nil}
 use Rattle.tect_ids.specs.declared.ids.Counts.{Counts}
 use Rattle.tect_ids.specs.declared.script.Line.{Line}
 use Rattle.tect_ids.specs.declared.script.Line.TheVariants as lines
-use Rattle.place_kit.specs.Moments.{stamp_of}
+use Rattle.entry_words.specs.Moments.{stamp_of}
 use Rattle.world_runs.specs.declared.event.Event.TheVariants.{Dumped}
 use Rattle.world_runs.specs.Races.{line_concerns}
-use Rattle.noted_runs.specs.ClientLines.{DoesLines}
+use Rattle.world_runs.specs.ClientLines.{DoesLines}
 use Rattle.clients.specs.Lives.{ClientLife, events_in}
 use Rattle.race_runs.specs.Stories.{Part, Story, with_dumps}
 use Rattle.race_runs.proofs.Growing as growing

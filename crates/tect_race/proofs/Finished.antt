@@ -6,14 +6,15 @@ use Rattle.std.proofs.lemmas.List.Elements.{All-from_recursion, recursion_from_A
 use Rattle.tect_ids.specs.declared.ids.Counts.{Counts}
 use Rattle.tect_ids.specs.declared.script.Line.{Line}
 use Rattle.tect_ids.proofs.KeyTests.{num_eq_cases}
-use Rattle.place_kit.specs.declared.entry.Moment.{Moment}
-use Rattle.place_kit.specs.declared.entry.Moment.TheVariants.{Act, Local}
-use Rattle.place_kit.specs.declared.entry.Note.TheVariants as notes
-use Rattle.place_kit.specs.Moments.{all_of_actor, all_notes_of}
+use Rattle.entry_words.specs.declared.entry.Moment.{Moment}
+use Rattle.entry_words.specs.declared.entry.Moment.TheVariants.{Act, Local}
+use Rattle.entry_words.specs.declared.entry.Note.TheVariants as notes
+use Rattle.entry_words.specs.Moments.{all_of_actor, all_notes_of}
 use Rattle.world_runs.specs.Moments.{idle_actor}
-use Rattle.noted_runs.specs.Laws.{IsPlaced, IsOwnNote, IsSilent}
-use Rattle.noted_runs.specs.Limits.{OwnLimits}
-use Rattle.noted_runs.specs.OwnRuns.{OwnRun}
+use Rattle.world_runs.specs.Events.{IsPlaced, IsOwnNote}
+use Rattle.world_runs.specs.Woven.{IsSilent}
+use Rattle.world_runs.specs.Limits.{OwnLimits}
+use Rattle.world_runs.specs.OwnRuns.{OwnRun}
 use Rattle.clients.specs.Lives.{ClientLife, events_in, IsLife}
 use Rattle.race_runs.specs.Stories.{Part, Story, AllSilent, all_moments, all_events}
 use Rattle.racers.specs.declared.racer.Racer.{Racer}

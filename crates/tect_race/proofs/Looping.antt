@@ -7,7 +7,7 @@ use Rattle.tect_ids.specs.declared.ids.Counts.{Counts}
 use Rattle.tect_ids.specs.declared.script.Line.{Line}
 use Rattle.tect_ids.specs.declared.script.Line.TheVariants as lines
 use Rattle.tect_ids.specs.declared.script.ReportLine.{ReportLine}
-use Rattle.place_kit.specs.Moments.{stamp_of}
+use Rattle.entry_words.specs.Moments.{stamp_of}
 use Rattle.world_runs.specs.Turns.{all_idle}
 use Rattle.clients.specs.Lives.{ClientLife, idle_life, events_in, state_in}
 use Rattle.race_runs.specs.Stories.{Story, Part}
@@ -17,7 +17,7 @@ use Rattle.racers.specs.declared.racer.Racer.{Racer}
 use Rattle.racers.specs.Lives.{busy_in}
 use Rattle.race_ends.specs.declared.ended.EndedPart.{EndedPart}
 use Rattle.race_ends.specs.HaveRun.{clocks_of, HasStory, HaveAnswers, HaveRun}
-use Rattle.script_runs.specs.Standing.{AtTurn}
+use Rattle.world_runs.specs.Standing.{AtTurn}
 use Rattle.tect_ids.specs.Places.{HasPlaces}
 use Rattle.tect_race.specs.Lines.{Ran}
 use Rattle.tect_race.specs.Crews.{RacersRan, AllClosed, Closed}

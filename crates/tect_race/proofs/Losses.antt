@@ -5,12 +5,12 @@ use Rattle.tect_ids.specs.Places.{HasPlaces, id_hash}
 use Rattle.store_rules.specs.declared.any.AnyReq.{AnyReq}
 use Rattle.store_rules.specs.declared.any.AnyReq.TheVariants as any
 use Rattle.store_rules.specs.Places.{request_place, dir_of, file_of}
-use Rattle.place_kit.specs.declared.entry.Entry.{Entry}
-use Rattle.place_kit.specs.declared.entry.Label.{Label}
-use Rattle.place_kit.specs.declared.entry.Refused.{Refused}
-use Rattle.place_kit.specs.Started.{started_label}
+use Rattle.entry_words.specs.declared.entry.Entry.{Entry}
+use Rattle.entry_words.specs.declared.entry.Label.{Label}
+use Rattle.entry_words.specs.declared.entry.Refused.{Refused}
+use Rattle.entry_words.specs.Labels.{label_at}
 use Rattle.place_locks.specs.Commits.{IsRefusalFor}
-use Rattle.place_locks.specs.Started.{label_at}
+use Rattle.entry_words.specs.Labels.{label_at}
 use Rattle.racers.specs.declared.fault.RacerFault.{RacerFault}
 use Rattle.racers.specs.declared.fault.RacerFault.TheVariants as racer_faults
 use Rattle.racers.specs.Lines.{IsFaultOf}
@@ -36,9 +36,9 @@ CommitsAt counts_of w v clock asked result = IfErr result (IsRefusalFor (label_a
 
 found_other : {W : Type 0} → (counts_of : W → Counts) (c : Counts) (want found : Label) → HasPlaces c → FoundAstray counts_of (CommitsAt counts_of) c want found → IsLossOf c (faults.Astray want found)
 found_other counts_of c want found places (w, v, clock, asked, same, said) =
-    let is : want ≡ started_label c (request_place c asked).0 = said.0 ∙ ap (λ (k : Counts). started_label k (request_place k asked).0) same in
+    let is : want ≡ label_at c (request_place c asked).0 = said.0 ∙ ap (λ (k : Counts). label_at k (request_place k asked).0) same in
     let at : want.place.0 ≡ (request_place c asked).0 = ap (λ (l : Label). l.place.0) is in
-    (subst (λ n. n < c.names + c.files) (sym at) (request_within c asked places), is ∙ ap (started_label c) (sym at), said.1)
+    (subst (λ n. n < c.names + c.files) (sym at) (request_within c asked places), is ∙ ap (label_at c) (sym at), said.1)
 
 lost : {W : Type 0} → (counts_of : W → Counts) (c : Counts) (played : Result (Unit {0}) RacerFault) → HasPlaces c → IfErr played (IsFaultOf counts_of (CommitsAt counts_of) c) → IfErr (race_result played) (IsLossOf c)
 lost counts_of c (Ok done) places f = tt

@@ -8,7 +8,7 @@ use Rattle.tect_ids.specs.declared.script.Plan.{Plan}
 use Rattle.world_runs.specs.Turns.{Turns, InTurnFrom, with_turn, turn_after, all_idle}
 use Rattle.race_runs.specs.Gathered.{IsLineOf}
 use Rattle.tect_race.specs.Done.{IsScript}
-use Rattle.script_runs.specs.Playable.{IsWithin, IsPlayable}
+use Rattle.world_runs.specs.Playable.{IsWithin, IsPlayable}
 
 asked : (n : ℕ) (turns : Turns) (ls : List Line) → InTurnFrom turns ls → AllByRecursion (IsWithin n) ls → AllByRecursion (IsLineOf n) ls
 asked n turns [] t w = tt

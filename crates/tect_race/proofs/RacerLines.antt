@@ -7,15 +7,15 @@ use Rattle.tect_ids.specs.declared.script.Act.{Act}
 use Rattle.tect_ids.specs.declared.script.Line.{Line}
 use Rattle.tect_ids.specs.declared.script.Line.TheVariants as lines
 use Rattle.tect_ids.specs.declared.script.ReportLine.{ReportLine}
-use Rattle.place_kit.specs.declared.entry.Moment.{Moment}
-use Rattle.place_kit.specs.Moments.{rises, stamp_of}
+use Rattle.entry_words.specs.declared.entry.Moment.{Moment}
+use Rattle.entry_words.specs.Moments.{rises, stamp_of}
 use Rattle.world_runs.specs.declared.event.Event.{Event}
 use Rattle.world_runs.specs.Races.{line_concerns, own_lines}
 use Rattle.world_runs.specs.Follows.{DoesLine}
 use Rattle.world_runs.specs.Turns.{ClientTurn, Turns, turn_after, with_turn}
-use Rattle.script_runs.specs.Standing.{AtTurn}
-use Rattle.noted_runs.specs.ClientLines.{DoesLines}
-use Rattle.noted_runs.proofs.Actors.{same_number, other_number, flipped}
+use Rattle.world_runs.specs.Standing.{AtTurn}
+use Rattle.world_runs.specs.ClientLines.{DoesLines}
+use Rattle.world_runs.proofs.Actors.{same_number, other_number, flipped}
 use Rattle.clients.specs.Lives.{ClientLife, events_in, state_in}
 use Rattle.racers.specs.declared.racer.Racer.{Racer}
 use Rattle.racers.specs.Lives.{busy_in, grown, news_events}

@@ -7,12 +7,12 @@ use Rattle.std.proofs.lemmas.List.Elements.{All-append, All-from_recursion}
 use Rattle.tect_ids.specs.declared.ids.Counts.{Counts}
 use Rattle.tect_ids.specs.declared.script.Line.{Line}
 use Rattle.tect_ids.specs.declared.script.ReportLine.{ReportLine}
-use Rattle.place_kit.specs.declared.entry.Moment.{Moment}
-use Rattle.place_kit.specs.Moments.{rises, stamp_of}
+use Rattle.entry_words.specs.declared.entry.Moment.{Moment}
+use Rattle.entry_words.specs.Moments.{rises, stamp_of}
 use Rattle.world_runs.specs.declared.event.Event.{Event}
 use Rattle.world_runs.specs.declared.event.Event.TheVariants.{Dumped}
 use Rattle.world_runs.specs.Races.{line_concerns, own_lines}
-use Rattle.noted_runs.specs.ClientLines.{DoesLines}
+use Rattle.world_runs.specs.ClientLines.{DoesLines}
 use Rattle.clients.specs.Lives.{events_in}
 use Rattle.race_runs.specs.Stories.{Part, Story, Timely, Answers, all_moments, all_events, with_dumps, part_events}
 use Rattle.race_runs.proofs.Growing.{no_part, with_part}

@@ -2,10 +2,10 @@
 use Rattle.std.specs.Prelude.{◌≡◌, ◌≢◌, ℕ, ◌⊎◌, List, filter}
 use Rattle.tect_ids.specs.declared.script.Line.{Line}
 use Rattle.tect_ids.specs.declared.script.Line.TheVariants as lines
-use Rattle.place_kit.specs.declared.entry.Moment.{Moment}
+use Rattle.entry_words.specs.declared.entry.Moment.{Moment}
 use Rattle.world_runs.specs.declared.event.Event.{Event}
 use Rattle.world_runs.specs.Races.{line_concerns}
-use Rattle.noted_runs.specs.ClientLines.{DoesLines}
+use Rattle.world_runs.specs.ClientLines.{DoesLines}
 use Rattle.racers.specs.declared.racer.Racer.{Racer}
 use Rattle.racers.specs.Lives.{busy_in, news_events}
 use Rattle.racers.specs.Lines.{Adds, Plays}

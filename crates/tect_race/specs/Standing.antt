@@ -4,10 +4,10 @@ use Rattle.std.specs.List.{All, AllZip, flat_map}
 use Rattle.tect_ids.specs.declared.ids.Counts.{Counts}
 use Rattle.tect_ids.specs.declared.script.Line.{Line}
 use Rattle.tect_ids.specs.declared.script.ReportLine.{ReportLine}
-use Rattle.place_kit.specs.Moments.{stamp_of}
+use Rattle.entry_words.specs.Moments.{stamp_of}
 use Rattle.world_runs.specs.declared.event.Event.{Event}
 use Rattle.world_runs.specs.Races.{line_concerns}
-use Rattle.noted_runs.specs.ClientLines.{DoesLines}
+use Rattle.world_runs.specs.ClientLines.{DoesLines}
 use Rattle.clients.specs.Lives.{events_in}
 use Rattle.race_runs.specs.Stories.{Part, Story, Timely, Answers, all_moments, all_events, with_dumps}
 use Rattle.racers.specs.declared.racer.Racer.{Racer}

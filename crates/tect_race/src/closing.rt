@@ -2,13 +2,11 @@ ghost use Rattle.std.specs.Prelude.{◌≡◌, ◌<◌, ◌≤◌, ◌^◌, ◌+
 ghost use Rattle.std.specs.List.{All, flat_map};
 ghost use Rattle.tect_race.specs.Crews.{AllClosed, Ended};
 
+use entry_words::CLOCK_LIMIT;
 use race_ends::{EndedPart, RaceFault};
 use racers::Racer;
 use std::alloc::Global;
 use tect_ids::{NoMemory, ReportLine};
-
-/// The first clock at which a client notes nothing more.
-const CLOCK_LIMIT: u64 = 1 << 63;
 
 /// The greatest clock of the clients, and at least `floor`.
 fn greatest_clock(racers: &[Racer], floor: u64) -> u64

@@ -1,7 +1,7 @@
 ghost use Rattle.std.specs.Prelude.{◌≤◌, IfOk, IfErr, length};
 ghost use Rattle.race_ends.specs.Raced.{IsRaced};
 ghost use Rattle.race_ends.specs.Faults.{IsRaceFault};
-ghost use Rattle.script_runs.specs.Playable.{IsPlayable};
+ghost use Rattle.world_runs.specs.Playable.{IsPlayable};
 
 use crate::course::Course;
 use crate::script::{Run, run_script};

@@ -1,7 +1,7 @@
 ghost use Rattle.std.specs.Prelude.{◌≡◌, ◌≤◌, ◌<◌, ◌^◌, List, ℕ, [], IfOk, OnOk, length};
 ghost use Rattle.std.specs.List.{AllByRecursion};
 ghost use Rattle.world_runs.specs.Turns.{InTurn};
-ghost use Rattle.script_runs.specs.Playable.{IsPlayable, IsWithin};
+ghost use Rattle.world_runs.specs.Playable.{IsPlayable, IsWithin};
 
 use crate::race;
 use std::alloc::Global;

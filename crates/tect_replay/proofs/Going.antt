@@ -8,9 +8,9 @@ use Rattle.tect_ids.proofs.KeyTests.{num_eq_cases, op_eq_cases}
 use Rattle.store_rules.specs.declared.any.AnyReq.{AnyReq}
 use Rattle.store_rules.specs.declared.any.AnyReply.{AnyReply}
 use Rattle.store_rules.specs.Store.{store_reply}
-use Rattle.op_names.specs.declared.program.Program.{Program}
+use Rattle.program_rules.specs.declared.program.Program.{Program}
 use Rattle.world_runs.specs.declared.event.Event.TheVariants.{Acted}
-use Rattle.world_runs.specs.Moments.{Actor, Moment, IsWorldRun, after, running, answered, program_of, program_answer, went_on}
+use Rattle.world_runs.specs.Moments.{Actor, WorldState, IsWorldRun, after, running, answered, program_of, program_answer, went_on}
 use Rattle.sound_runs.proofs.RunsKeep.{running_goes_on, running_is_last_begun}
 use Rattle.tect_world.specs.Life.{Life, present, grown, last_op, actor_asks, acted_actor, transaction, ending, step_answer, step_events}
 use Rattle.tect_replay.proofs.Reports.{present-grown, acts_last}
@@ -41,7 +41,7 @@ still_runs counts a q x some =
 
 module _ (old new : Life) (actor : ℕ) (run : IsWorldRun old.counts old.history) (some : IsSome ((present old).actors actor).running)
     (grew : new ≡ grown old (step_events (present old) (last_op (present old) actor))) (none : step_answer (present old) (last_op (present old) actor) ≡ None) where
-  abbrev m : Moment
+  abbrev m : WorldState
   m = present old
 
   abbrev op : OpId
@@ -77,9 +77,9 @@ module _ (old new : Life) (actor : ℕ) (run : IsWorldRun old.counts old.history
         request = q;
         reply = x;
         grew = grew';
-        running = subst (λ (a : Actor). IsSome a.running) (sym (ap (λ (n : Moment). n.actors actor) here ∙ own)) (still_runs m.counts (m.actors actor) q x some);
+        running = subst (λ (a : Actor). IsSome a.running) (sym (ap (λ (n : WorldState). n.actors actor) here ∙ own)) (still_runs m.counts (m.actors actor) q x some);
         last = subst (λ (w : Life). last_op (present w) actor ≡ op) (sym grew') (acts_last old op 1 (Acted op q x ∷ []) actor (refl, (0, refl, refl)));
-        unanswered = ap (λ (a : Actor). program_answer (program_of a.running op)) (ap (λ (n : Moment). n.actors actor) here ∙ own) ∙ says (Some q) is;
+        unanswered = ap (λ (a : Actor). program_answer (program_of a.running op)) (ap (λ (n : WorldState). n.actors actor) here ∙ own) ∙ says (Some q) is;
       }
 
   pub going_on : HasGoneOn old new actor

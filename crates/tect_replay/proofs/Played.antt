@@ -17,18 +17,18 @@ use Rattle.store_rules.specs.Dumps.{store_dump}
 use Rattle.tect_ids.proofs.KeyTests.{num_eq_cases}
 use Rattle.world_runs.specs.declared.event.Event.{Event}
 use Rattle.world_runs.specs.declared.event.Event.TheVariants.{Began, Refused, Acted, Ended, Stopped, Failed, Dumped}
-use Rattle.world_runs.specs.Moments.{Actor, IsWorldRun, RunFrom, Moment, opening, after, asked, answered}
-use Rattle.noted_runs.specs.Limits.{KeepsLimits}
+use Rattle.world_runs.specs.Moments.{Actor, IsWorldRun, RunFrom, WorldState, opening, after, asked, answered}
+use Rattle.world_runs.specs.Limits.{KeepsLimits}
 use Rattle.world_runs.specs.Follows.{Acts, IsBeginOf, IsEndOf, RunsToEnd}
 use Rattle.world_runs.specs.Report.{answer_line, report_after}
 use Rattle.sound_runs.proofs.RunsKeep.{running_is_last_begun}
 use Rattle.tree_runs.proofs.Histories.{run-rest}
-use Rattle.script_runs.specs.Standing.{busy_at, op_of}
-use Rattle.script_runs.specs.Smooth.{EndIsNext, EndsAtOnce}
+use Rattle.world_runs.specs.Standing.{busy_at, op_of}
+use Rattle.world_runs.specs.Smooth.{EndIsNext, EndsAtOnce}
 use Rattle.script_runs.proofs.AtOnce.{not_both}
 use Rattle.tect_world.specs.Life.{Life, present, grown, last_op, next_op}
 use Rattle.tect_world.specs.Steps.{EndsWith, HasBegun, RanToEnd}
-use Rattle.script_runs.specs.Playable.{IsShallow}
+use Rattle.world_runs.specs.Playable.{IsShallow}
 use Rattle.tect_replay.specs.Plays.{AllShallow, IsKeptRun, StepsUpTo, PlaysAct, PlaysLine}
 use Rattle.tect_replay.proofs.Results.{some_of}
 use Rattle.tect_replay.proofs.Shallow.{shallow-append}
@@ -134,7 +134,7 @@ ran_shallow : (old new : Life) (op : OpId) (a : Answer) (ran : RanToEnd old new 
 ran_shallow old new op a ran = shallow-append ran.acts (ran.end ∷ []) (acts_shallow op ran.count ran.acts ran.are_acts) (end_shallow op ran.end a ran.ends)
 
 -- transactions of the op up to its end: none comes behind its answer
-next_ends : (m : Moment) (op : OpId) (n : ℕ) (es : List Event) (end : Event) (a b : Answer) → Acts op n es → EndsWith op end a → RunFrom m (es ++ end ∷ []) → answered m op ≡ Some b → EndIsNext op (es ++ end ∷ [])
+next_ends : (m : WorldState) (op : OpId) (n : ℕ) (es : List Event) (end : Event) (a b : Answer) → Acts op n es → EndsWith op end a → RunFrom m (es ++ end ∷ []) → answered m op ≡ Some b → EndIsNext op (es ++ end ∷ [])
 next_ends m op n [] end a b done ends run says = is_end op end a ends
 next_ends m op n (Acted o q x ∷ es) end a b done ends run says = absurd (not_both m op q b (subst (λ (p : OpId). asked m p ≡ Some q) done.0 (run.0).0) says)
 next_ends m op n (Began o c ∷ es) end a b done ends run says = absurd done
@@ -144,7 +144,7 @@ next_ends m op n (Stopped o ∷ es) end a b done ends run says = absurd done
 next_ends m op n (Failed o c ∷ es) end a b done ends run says = absurd done
 next_ends m op n (Dumped ∷ es) end a b done ends run says = absurd done
 
-end_alone : (m : Moment) (op : OpId) (end : Event) (a : Answer) → EndsWith op end a → EndsAtOnce m (end ∷ [])
+end_alone : (m : WorldState) (op : OpId) (end : Event) (a : Answer) → EndsWith op end a → EndsAtOnce m (end ∷ [])
 end_alone m op (Ended o x) a ends = (tt, tt)
 end_alone m op (Failed o x) a ends = (tt, tt)
 end_alone m op (Began o c) a ends = absurd ends
@@ -153,7 +153,7 @@ end_alone m op (Acted o q x) a ends = absurd ends
 end_alone m op (Stopped o) a ends = absurd ends
 end_alone m op Dumped a ends = absurd ends
 
-ends_at_once : (m : Moment) (op : OpId) (n : ℕ) (es : List Event) (end : Event) (a : Answer) → Acts op n es → EndsWith op end a → RunFrom m (es ++ end ∷ []) → EndsAtOnce m (es ++ end ∷ [])
+ends_at_once : (m : WorldState) (op : OpId) (n : ℕ) (es : List Event) (end : Event) (a : Answer) → Acts op n es → EndsWith op end a → RunFrom m (es ++ end ∷ []) → EndsAtOnce m (es ++ end ∷ [])
 ends_at_once m op n [] end a done ends run = end_alone m op end a ends
 ends_at_once m op n (Acted o q x ∷ es) end a done ends run = (
   λ b says. subst (λ (p : OpId). EndIsNext p (es ++ end ∷ [])) (sym done.0)
@@ -241,7 +241,7 @@ begun_some : (actors : ℕ → Actor) (a : ℕ) (state : Actor) → IsSome state
 begun_some actors a state some = subst (λ (t : Bool). IsSome (if t then state else actors a).running) (sym (same a)) some
 
 -- what a begin and a refusal make alike
-pub record IsBegin (m : Moment) (op : OpId) (b : Event) : Type 0 where
+pub record IsBegin (m : WorldState) (op : OpId) (b : Event) : Type 0 where
   pub number : ((after m b).actors op.actor).number ≡ op.number
   pub runs : IsSome ((after m b).actors op.actor).running
   pub shallow : AllShallow (b ∷ [])
@@ -249,7 +249,7 @@ pub record IsBegin (m : Moment) (op : OpId) (b : Event) : Type 0 where
   pub shows : (counts : Counts) (clients : List (List ℕ)) (before rest : List Event)
       → report_after counts clients before (b ∷ rest) ≡ report_after counts clients (before ++ b ∷ []) rest
 
-is_begin : (m : Moment) (op : OpId) (c : Command) (b : Event) → IsShallow c → IsBeginOf op c b → IsBegin m op b
+is_begin : (m : WorldState) (op : OpId) (c : Command) (b : Event) → IsShallow c → IsBeginOf op c b → IsBegin m op b
 is_begin m op c (Began o d) shallow is = subst (λ (p : OpId). IsBegin m p (Began o d)) is.0 (record {
   number = set_number m.actors o.actor _;
   runs = begun_some m.actors o.actor _ refl;
@@ -282,7 +282,7 @@ module _ (clients : List (List ℕ)) (actor : ℕ) (c : Command) (old mid : Life
   begin = is_begin (present old) op c h.begin shallow h.begins
 
   begun_last : last_op (present begun) actor ≡ op
-  begun_last = λ i. record { actor = actor; number = (ap (λ (m : Moment). (m.actors actor).number) (present-grown old (h.begin ∷ [])) ∙ begin.number) i }
+  begun_last = λ i. record { actor = actor; number = (ap (λ (m : WorldState). (m.actors actor).number) (present-grown old (h.begin ∷ [])) ∙ begin.number) i }
 
   pub begins : IsKeptRun mid → PlaysAct clients actor (acts.Begin c) old mid []
   begins now = record {
@@ -314,7 +314,7 @@ module _ (clients : List (List ℕ)) (actor : ℕ) (c : Command) (old mid : Life
         grew = goes.history ∙ grown-grown old (h.begin ∷ []) rest;
         run = now;
         does = rw (busy_none old actor none) ((op, h.begin, rest, refl, refl, h.begins, ends), refl);
-        at_once = begin.at_once rest (subst (λ (m : Moment). EndsAtOnce m rest) (present-grown old (h.begin ∷ [])) (ran_at_once begun new _ a goes now.run));
+        at_once = begin.at_once rest (subst (λ (m : WorldState). EndsAtOnce m rest) (present-grown old (h.begin ∷ [])) (ran_at_once begun new _ a goes now.run));
         shallow = shallow-append (h.begin ∷ []) rest begin.shallow (ran_shallow begun new _ a goes);
         shows = begin.shows old.counts clients old.history rest ∙ ended_line clients actor begun new a goes ∙ sym shown;
       }

@@ -9,7 +9,7 @@ use Rattle.tect_ids.specs.declared.script.ReportLine.TheVariants as lines
 use Rattle.tect_ids.proofs.KeyTests.{num_eq_cases}
 use Rattle.world_runs.specs.declared.event.Event.{Event}
 use Rattle.world_runs.specs.declared.event.Event.TheVariants.{Began, Refused, Acted, Ended, Stopped, Failed, Dumped}
-use Rattle.world_runs.specs.Moments.{Actor, Moment, after, after_all, opening}
+use Rattle.world_runs.specs.Moments.{Actor, WorldState, after, after_all, opening}
 use Rattle.world_runs.specs.Follows.{Acts}
 use Rattle.world_runs.specs.Report.{transactions, client_name, answer_line, report_after}
 use Rattle.tree_runs.proofs.Histories.{after_all-append, report-append, transactions-append}
@@ -67,7 +67,7 @@ stop_counts op = refl
 number_set : (actors : ℕ → Actor) (a : ℕ) (state : Actor) (b : ℕ) → state.number ≡ (actors a).number → (if eqb b a then state else actors b).number ≡ (actors b).number
 number_set actors a state b kept = grind (arith, num_eq_cases b a, kept)
 
-acts_number : (m : Moment) (op : OpId) (n : ℕ) (es : List Event) (a : ℕ) → Acts op n es → ((after_all m es).actors a).number ≡ (m.actors a).number
+acts_number : (m : WorldState) (op : OpId) (n : ℕ) (es : List Event) (a : ℕ) → Acts op n es → ((after_all m es).actors a).number ≡ (m.actors a).number
 acts_number m op n [] a done = refl
 acts_number m op n (Acted o q x ∷ es) a done =
     acts_number (after m (Acted o q x)) op (done.1).0 es a (done.1).2 ∙ number_set m.actors o.actor _ a refl
@@ -78,7 +78,7 @@ acts_number m op n (Stopped o ∷ es) a done = absurd done
 acts_number m op n (Failed o x ∷ es) a done = absurd done
 acts_number m op n (Dumped ∷ es) a done = absurd done
 
-end_number : (m : Moment) (op : OpId) (end : Event) (x : Answer) (a : ℕ) → EndsWith op end x → ((after m end).actors a).number ≡ (m.actors a).number
+end_number : (m : WorldState) (op : OpId) (end : Event) (x : Answer) (a : ℕ) → EndsWith op end x → ((after m end).actors a).number ≡ (m.actors a).number
 end_number m op (Ended o y) x a ends = number_set m.actors o.actor _ a refl
 end_number m op (Failed o y) x a ends = number_set m.actors o.actor _ a refl
 end_number m op (Began o c) x a ends = absurd ends
@@ -88,13 +88,13 @@ end_number m op (Stopped o) x a ends = absurd ends
 end_number m op Dumped x a ends = absurd ends
 
 pub acts_last : (w : Life) (op : OpId) (n : ℕ) (es : List Event) (a : ℕ) → Acts op n es → last_op (present (grown w es)) a ≡ last_op (present w) a
-acts_last w op n es a done i = record { actor = a; number = (ap (λ (m : Moment). (m.actors a).number) (present-grown w es) ∙ acts_number (present w) op n es a done) i }
+acts_last w op n es a done i = record { actor = a; number = (ap (λ (m : WorldState). (m.actors a).number) (present-grown w es) ∙ acts_number (present w) op n es a done) i }
 
 stop_last : (w : Life) (op : OpId) (a : ℕ) → last_op (present (grown w (Stopped op ∷ []))) a ≡ last_op (present w) a
-stop_last w op a i = record { actor = a; number = (ap (λ (m : Moment). (m.actors a).number) (present-grown w (Stopped op ∷ [])) ∙ number_set (present w).actors op.actor _ a refl) i }
+stop_last w op a i = record { actor = a; number = (ap (λ (m : WorldState). (m.actors a).number) (present-grown w (Stopped op ∷ [])) ∙ number_set (present w).actors op.actor _ a refl) i }
 
 end_last : (w : Life) (op : OpId) (end : Event) (x : Answer) (a : ℕ) → EndsWith op end x → last_op (present (grown w (end ∷ []))) a ≡ last_op (present w) a
-end_last w op end x a ends i = record { actor = a; number = (ap (λ (m : Moment). (m.actors a).number) (present-grown w (end ∷ [])) ∙ end_number (present w) op end x a ends) i }
+end_last w op end x a ends i = record { actor = a; number = (ap (λ (m : WorldState). (m.actors a).number) (present-grown w (end ∷ [])) ∙ end_number (present w) op end x a ends) i }
 
 -- ---- the line of an op that came to its end
 

@@ -9,9 +9,9 @@ use Rattle.world_runs.specs.declared.event.Event.TheVariants.{Began, Refused, Ac
 use Rattle.world_runs.specs.Moments.{IsWorldRun}
 use Rattle.world_runs.specs.Headline.{command_of, or_later}
 use Rattle.world_runs.specs.Report.{transactions}
-use Rattle.run_bounds.specs.Bounds.{first_path}
+use Rattle.program_rules.specs.Programs.{first_path}
 use Rattle.run_bounds.proofs.RunsShort.{each_is_short, idle_has_none}
-use Rattle.script_runs.specs.Playable.{IsShallow}
+use Rattle.world_runs.specs.Playable.{IsShallow}
 use Rattle.tect_replay.specs.Plays.{AllShallow}
 
 pub shallow-append : (es fs : List Event) → AllShallow es → AllShallow fs → AllShallow (es ++ fs)

@@ -8,14 +8,14 @@ use Rattle.store_rules.specs.declared.any.AnyReply.{AnyReply}
 use Rattle.store_rules.specs.Store.{store_reply}
 use Rattle.world_runs.specs.declared.event.Event.{Event}
 use Rattle.world_runs.specs.declared.event.Event.TheVariants.{Began, Refused, Acted, Ended, Stopped, Failed, Dumped}
-use Rattle.world_runs.specs.Moments.{Moment, IsWorldRun, after_all, answered}
+use Rattle.world_runs.specs.Moments.{WorldState, IsWorldRun, after_all, answered}
 use Rattle.world_runs.specs.Follows.{Acts}
-use Rattle.script_runs.specs.Smooth.{EndsAtOnce}
+use Rattle.world_runs.specs.Smooth.{EndsAtOnce}
 use Rattle.tect_world.specs.Life.{Life, present, grown, last_op, actor_asks, transaction, ending, step_answer}
-use Rattle.actors.specs.declared.turned.Turned.TheVariants.{Going, Done}
-use Rattle.actors.specs.Turns.{turned_by}
+use Rattle.clients.specs.declared.turned.Turned.TheVariants.{Going, Done}
+use Rattle.clients.specs.Turns.{turned_by}
 use Rattle.tect_world.specs.Steps.{EndsWith, FailsWith, Stepped}
-use Rattle.noted_runs.specs.Limits.{KeepsLimits}
+use Rattle.world_runs.specs.Limits.{KeepsLimits}
 use Rattle.tect_replay.specs.Plays.{StepsUpTo}
 use Rattle.script_runs.proofs.AtOnce.{at_once-append}
 use Rattle.tect_replay.proofs.Going.{going_on}
@@ -67,9 +67,9 @@ module _ (w v u : Life) (actor n : ℕ) (s : HasStepped w v actor n) where
       let g = going_on v u actor s.run s.running grew (not_done _ turned) in
       let grew' : u ≡ grown v (Acted op g.request g.reply ∷ []) = g.grew ∙ ap (λ (o : OpId). grown v (Acted o g.request g.reply ∷ [])) s.last in
       let here : present u ≡ after_all (after_all (present w) s.events) (Acted op g.request g.reply ∷ []) =
-      ap present grew' ∙ present-grown v (Acted op g.request g.reply ∷ []) ∙ ap (λ (m : Moment). after_all m (Acted op g.request g.reply ∷ [])) (ap present s.grew ∙ present-grown w s.events) in
+      ap present grew' ∙ present-grown v (Acted op g.request g.reply ∷ []) ∙ ap (λ (m : WorldState). after_all m (Acted op g.request g.reply ∷ [])) (ap present s.grew ∙ present-grown w s.events) in
       let none : answered (present u) op ≡ None = subst (λ (o : OpId). answered (present u) o ≡ None) s.last g.unanswered in
-      let none' : answered (after_all (after_all (present w) s.events) (Acted op g.request g.reply ∷ [])) op ≡ None = subst (λ (m : Moment). answered m op ≡ None) here none in
+      let none' : answered (after_all (after_all (present w) s.events) (Acted op g.request g.reply ∷ [])) op ≡ None = subst (λ (m : WorldState). answered m op ≡ None) here none in
       let one : EndsAtOnce (after_all (present w) s.events) (Acted op g.request g.reply ∷ []) = (λ a says. (let is : None ≡ Some a = sym none' ∙ says in cc), tt) in
       record {
         events = s.events ++ Acted op g.request g.reply ∷ [];
@@ -116,7 +116,7 @@ module _ (w v u : Life) (actor n : ℕ) (s : HasStepped w v actor n) where
 
   pub stepped_end : (a : Answer) → Stepped v u (last_op (present v) actor) (Done a) → StepsUpTo (n + 1) w u op (Some a)
   stepped_end a (inl (grew, turned)) =
-      let m : Moment = present v in
+      let m : WorldState = present v in
       let says : step_answer m (last_op m actor) ≡ Some a = is_done _ a turned in
       let asks : Option AnyReq = actor_asks (m.actors actor) (last_op m actor) in
       closes_by asks (Ended op a) a (refl, refl) (grew ∙ ap (λ (o : Option Answer). grown v (transaction m.store (last_op m actor) asks ++ ending (last_op m actor) o)) says

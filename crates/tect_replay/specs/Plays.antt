@@ -12,14 +12,14 @@ use Rattle.world_runs.specs.declared.event.Event.{Event}
 use Rattle.world_runs.specs.declared.event.Event.TheVariants.{Began, Refused, Acted, Ended, Stopped, Failed, Dumped}
 use Rattle.world_runs.specs.Served.{IsServed}
 use Rattle.world_runs.specs.Moments.{Actor, IsWorldRun}
-use Rattle.noted_runs.specs.Limits.{KeepsLimits}
+use Rattle.world_runs.specs.Limits.{KeepsLimits}
 use Rattle.world_runs.specs.Follows.{Acts, DoesLine, FollowsFrom}
 use Rattle.world_runs.specs.Report.{report_after}
-use Rattle.script_runs.specs.Standing.{busy_at}
-use Rattle.script_runs.specs.Smooth.{EndsAtOnce}
+use Rattle.world_runs.specs.Standing.{busy_at}
+use Rattle.world_runs.specs.Smooth.{EndsAtOnce}
 use Rattle.tect_world.specs.Life.{Life, present, grown}
 use Rattle.tect_world.specs.Steps.{RanToEnd}
-use Rattle.script_runs.specs.Playable.{IsShallow}
+use Rattle.world_runs.specs.Playable.{IsShallow}
 use Rattle.tect_replay.specs.declared.lines.Shown.{Shown}
 use Rattle.tect_replay.specs.declared.lines.Shown.TheVariants as shown
 

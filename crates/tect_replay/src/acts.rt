@@ -1,6 +1,6 @@
 ghost use Rattle.std.specs.Prelude.{◌≡◌, ℕ, ◌≤◌, List, [], ◌∷◌, length, IfOk, OnOk, IsSome};
 ghost use Rattle.world_runs.specs.Moments.{IsWorldRun};
-ghost use Rattle.noted_runs.specs.Limits.{KeepsLimits};
+ghost use Rattle.world_runs.specs.Limits.{KeepsLimits};
 ghost use Rattle.world_runs.specs.Report.{answer_line as line_of};
 ghost use Rattle.tect_world.specs.Life.{present, last_op};
 ghost use Rattle.tect_replay.specs.Plays.{AllShallow, CanDo, StepsUpTo, PlaysAct, shown_lines};

@@ -7,13 +7,13 @@ use Rattle.std.proofs.lemmas.List.{get_or_past}
 use Rattle.tect_ids.specs.declared.ids.Counts.{Counts}
 use Rattle.tect_ids.proofs.KeyTests.{num_eq_cases}
 use Rattle.place_kit.specs.declared.any.AnyKept.{AnyKept}
-use Rattle.place_kit.specs.declared.entry.Moment.{Moment}
+use Rattle.entry_words.specs.declared.entry.Moment.{Moment}
 use Rattle.place_kit.specs.declared.pass.Pass.{Pass}
 use Rattle.place_kit.specs.Kept.{history_of}
 use Rattle.place_kit.specs.Started.{AreStarted}
 use Rattle.world_runs.specs.declared.event.Event.{Event}
-use Rattle.noted_runs.specs.Events.{events_of}
-use Rattle.noted_runs.specs.Laws.{IsSilent}
+use Rattle.world_runs.specs.Events.{events_of}
+use Rattle.world_runs.specs.Woven.{IsSilent}
 use Rattle.clients.specs.Lives.{ClientLife, events_in, idle_life}
 use Rattle.merge_runs.specs.Merged.{Agree, RestrictsToHistories, RestrictsToTrails, HaveDifferentActors}
 use Rattle.tect_world.specs.declared.history.WorldHistory.{WorldHistory}

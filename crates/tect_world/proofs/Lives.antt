@@ -8,13 +8,13 @@ use Rattle.store_rules.specs.Store.{Store, opening_store}
 use Rattle.world_runs.specs.declared.event.Event.{Event}
 use Rattle.world_runs.specs.declared.event.Event.TheVariants.{Dumped}
 use Rattle.world_runs.specs.Moments.{idle_actor, opening, after_all, IsWorldRun}
-use Rattle.place_kit.specs.declared.entry.Moment.{Moment as Noted}
-use Rattle.noted_runs.specs.Events.{own, event_of, events_of}
-use Rattle.noted_runs.specs.OwnRuns.{OwnRun, own_state, RepliesAre, stored_after}
-use Rattle.noted_runs.specs.Limits.{KeepsLimits, OwnLimits}
-use Rattle.noted_runs.proofs.Actors.{own-append, replies-append, stored_after-append, after_all-append}
-use Rattle.noted_runs.proofs.Owns.{own_runs_make_run, states_are_their_own}
-use Rattle.noted_runs.proofs.Limits.{own_limits_make_limits}
+use Rattle.entry_words.specs.declared.entry.Moment.{Moment as Noted}
+use Rattle.world_runs.specs.Events.{own, event_of, events_of}
+use Rattle.world_runs.specs.OwnRuns.{OwnRun, own_state, RepliesAre, stored_after}
+use Rattle.world_runs.specs.Limits.{KeepsLimits, OwnLimits}
+use Rattle.world_runs.proofs.Actors.{own-append, replies-append, stored_after-append, after_all-append}
+use Rattle.world_runs.proofs.Owns.{own_runs_make_run, states_are_their_own}
+use Rattle.world_runs.proofs.Limits.{own_limits_make_limits}
 use Rattle.clients.specs.Lives.{ClientLife, events_in, state_in, idle_life}
 use Rattle.kept_shards.specs.KeptStore.{clock_at}
 use Rattle.tect_world.specs.declared.marks.Mark.{Mark}

@@ -2,18 +2,18 @@
 use Rattle.std.proofs.Common.{zero, suc, get_or, set, ◌≡◌, ℕ, ◌+◌, ◌≤◌, ◌⊎◌, inl, inr, false, Option, Some, None, List, [], ◌∷◌, ◌++◌, length, refl, sym, ap, ◌∙◌, arith}
 use Rattle.tect_ids.specs.declared.ids.OpId.{OpId}
 use Rattle.store_rules.specs.Places.{request_place}
-use Rattle.place_kit.specs.declared.entry.Entry.{Entry}
+use Rattle.entry_words.specs.declared.entry.Entry.{Entry}
 use Rattle.tect_ids.specs.declared.answer.Answer.{Answer}
 use Rattle.tect_ids.specs.declared.answer.Answer.TheVariants as answers
 use Rattle.store_rules.specs.declared.any.AnyReq.{AnyReq}
 use Rattle.store_rules.specs.declared.any.AnyReply.{AnyReply}
 use Rattle.store_rules.specs.Store.{Store, store_step}
-use Rattle.place_kit.specs.declared.entry.Refused.TheVariants as refusals
+use Rattle.entry_words.specs.declared.entry.Refused.TheVariants as refusals
 use Rattle.world_runs.specs.declared.event.Event.{Event}
 use Rattle.world_runs.specs.declared.event.Event.TheVariants.{Ended, Failed}
-use Rattle.world_runs.specs.Moments.{IsLack}
-use Rattle.noted_runs.specs.Events.{end_event}
-use Rattle.noted_runs.specs.OwnRuns.{RepliesAre, stored_after}
+use Rattle.program_rules.specs.Lacks.{IsLack}
+use Rattle.world_runs.specs.Events.{end_event}
+use Rattle.world_runs.specs.OwnRuns.{RepliesAre, stored_after}
 use Rattle.clients.specs.Lives.{ClientLife}
 use Rattle.clients.specs.Steps.{Tried, Unasked, Did, Denied, DidThere, entry_in, tried_life, ended_with, ended_life, tried_events, end_events}
 use Rattle.kept_shards.specs.KeptStore.{KeptStore, committed, entries_at, clock_after, clock_at}

@@ -6,10 +6,10 @@ use Rattle.std.proofs.lemmas.Bool.{cases_lt}
 use Rattle.tect_ids.specs.declared.ids.Counts.{Counts}
 use Rattle.tect_ids.proofs.KeyTests.{num_eq_cases}
 use Rattle.store_rules.specs.Store.{opening_store}
-use Rattle.place_kit.specs.declared.entry.Entry.{Entry}
-use Rattle.place_kit.specs.declared.entry.Moment.{Moment as Noted}
-use Rattle.noted_runs.specs.Events.{own}
-use Rattle.noted_runs.specs.OwnRuns.{RepliesAre, stored_after}
+use Rattle.entry_words.specs.declared.entry.Entry.{Entry}
+use Rattle.entry_words.specs.declared.entry.Moment.{Moment as Noted}
+use Rattle.world_runs.specs.Events.{own}
+use Rattle.world_runs.specs.OwnRuns.{RepliesAre, stored_after}
 use Rattle.clients.specs.Lives.{ClientLife, events_in, idle_life}
 use Rattle.kept_shards.specs.KeptStore.{KeptStore, clock_after}
 use Rattle.tect_world.specs.declared.marks.Mark.{Mark}

@@ -13,22 +13,23 @@ use Rattle.tect_ids.proofs.KeyTests.{op_eq_cases}
 use Rattle.store_rules.specs.declared.any.AnyReq.{AnyReq}
 use Rattle.store_rules.specs.declared.any.AnyReply.{AnyReply}
 use Rattle.store_rules.specs.Store.{Store, store_reply}
-use Rattle.op_names.specs.declared.program.Phase.{Phase}
-use Rattle.op_names.specs.declared.program.Phase.TheVariants.{Walk, Bind, Grant, Swap, Release, End}
-use Rattle.op_names.specs.declared.program.Program.{Program}
-use Rattle.op_names.specs.Programs.{object_number, phase_ask, phase_answer, phase_hear}
+use Rattle.program_rules.specs.declared.program.Phase.{Phase}
+use Rattle.program_rules.specs.declared.program.Phase.TheVariants.{Walk, Bind, Grant, Swap, Release, End}
+use Rattle.program_rules.specs.declared.program.Program.{Program}
+use Rattle.program_rules.specs.Programs.{object_number, phase_ask, phase_answer, phase_hear}
 use Rattle.tect_ids.specs.declared.command.Command.{Command}
-use Rattle.place_kit.specs.declared.entry.Refused.TheVariants as refusals
+use Rattle.entry_words.specs.declared.entry.Refused.TheVariants as refusals
 use Rattle.world_runs.specs.declared.event.Event.{Event}
 use Rattle.world_runs.specs.declared.event.Event.TheVariants.{Acted, Ended, Failed}
-use Rattle.world_runs.specs.Moments.{Actor, idle_actor, IsLack, program_of, program_ask, program_answer, went_on, heard}
-use Rattle.noted_runs.specs.Events.{end_event}
-use Rattle.noted_runs.specs.OwnRuns.{OwnRun, own_state}
-use Rattle.noted_runs.proofs.Actors.{own_state-append}
-use Rattle.noted_runs.proofs.Shown.{transactions-append}
+use Rattle.program_rules.specs.Lacks.{IsLack}
+use Rattle.world_runs.specs.Moments.{Actor, idle_actor, program_of, program_ask, program_answer, went_on, heard}
+use Rattle.world_runs.specs.Events.{end_event}
+use Rattle.world_runs.specs.OwnRuns.{OwnRun, own_state}
+use Rattle.world_runs.proofs.Actors.{own_state-append}
+use Rattle.world_runs.proofs.OwnLines.{transactions-append}
 use Rattle.world_runs.specs.Report.{transactions}
 use Rattle.clients.specs.Lives.{ClientLife, events_in, state_in, op_in}
-use Rattle.clients.specs.Phases.{WasRefused}
+use Rattle.program_rules.specs.Asking.{WasRefused}
 use Rattle.clients.specs.Steps.{Tried, Unasked, Did, Denied, Asks, state_after, EndsSo, tried_events, end_events}
 use Rattle.tect_world.specs.Life.{actor_asks, acted_actor, actor_answer, actor_events, transaction, ending}
 use Rattle.tect_world.proofs.Marking.{has_act}

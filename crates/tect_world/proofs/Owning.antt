@@ -2,8 +2,8 @@
 use Rattle.std.proofs.Common.{◌≡◌, ◌≢◌, ℕ, ◌≤◌, Bool, true, false, if◌then◌else◌, List, [], ◌∷◌, ◌++◌, length, refl, sym, ap, ◌∙◌, arith}
 use Rattle.world_runs.specs.declared.event.Event.{Event}
 use Rattle.world_runs.specs.Races.{is_own}
-use Rattle.noted_runs.specs.Events.{own}
-use Rattle.noted_runs.proofs.Actors.{actor_of_own, own-append, own-here, own-there}
+use Rattle.world_runs.specs.Events.{own}
+use Rattle.world_runs.proofs.Actors.{actor_of_own, own-append, own-here, own-there}
 use Rattle.tect_world.specs.Order.{later_events}
 
 own_few : (a : ℕ) (es : List Event) → length (own a es) ≤ length es

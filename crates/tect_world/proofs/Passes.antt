@@ -7,7 +7,7 @@ use Rattle.std.proofs.lemmas.List.Elements.{All-cons}
 use Rattle.std.proofs.lemmas.Option.{slice_get_within}
 use Rattle.tect_ids.specs.declared.ids.Counts.{Counts}
 use Rattle.tect_ids.proofs.KeyTests.{num_eq_cases}
-use Rattle.place_kit.specs.declared.entry.Moment.{Moment}
+use Rattle.entry_words.specs.declared.entry.Moment.{Moment}
 use Rattle.place_kit.specs.declared.pass.Pass.{Pass}
 use Rattle.clients.specs.Lives.{ClientLife, idle_life}
 use Rattle.merge_runs.specs.Merged.{HaveDifferentActors, moments_of}

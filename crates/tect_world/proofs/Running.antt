@@ -10,16 +10,16 @@ use Rattle.store_rules.specs.declared.any.AnyReq.{AnyReq}
 use Rattle.store_rules.specs.declared.any.AnyReply.{AnyReply}
 use Rattle.store_rules.specs.Places.{request_place}
 use Rattle.store_rules.specs.Store.{Store, store_reply}
-use Rattle.op_names.specs.declared.program.Program.{Program}
-use Rattle.op_names.specs.Programs.{object_number, phase_ask}
+use Rattle.program_rules.specs.declared.program.Program.{Program}
+use Rattle.program_rules.specs.Programs.{object_number, phase_ask}
 use Rattle.world_runs.specs.declared.event.Event.{Event}
 use Rattle.world_runs.specs.declared.event.Event.TheVariants.{Began, Refused, Acted, Ended, Stopped, Failed, Dumped}
 use Rattle.world_runs.specs.Follows.{Acts}
-use Rattle.world_runs.specs.Moments.{Actor, Moment, IsWorldRun, after_all, running, asked, answered, program_of, program_ask, program_answer}
+use Rattle.world_runs.specs.Moments.{Actor, WorldState, IsWorldRun, after_all, running, asked, answered, program_of, program_ask, program_answer}
 use Rattle.sound_runs.proofs.RunsKeep.{running_goes_on, running_is_last_begun}
 use Rattle.tect_world.specs.Life.{Life, present, grown, last_op, actor_asks, acted_actor, ended_actor, stepped_actor, transaction, ending, step_answer, step_events}
-use Rattle.actors.specs.declared.turned.Turned.TheVariants.{Going, Done}
-use Rattle.actors.specs.Turns.{turned_by}
+use Rattle.clients.specs.declared.turned.Turned.TheVariants.{Going, Done}
+use Rattle.clients.specs.Turns.{turned_by}
 use Rattle.tect_world.specs.Steps.{FailsWith, Stepped, RanToEnd, GoesOn}
 use Rattle.tect_world.proofs.Events.{step_actors, step_number}
 use Rattle.tect_world.proofs.Lives.{present-grown}
@@ -154,11 +154,11 @@ after_step : (v u : Life) (a : ℕ) → u ≡ grown v (step_events (present v) (
 after_step v u a grows = ap present grows ∙ present-grown v (step_events (present v) (last_op (present v) a))
 
 pub last_kept : (v u : Life) (a : ℕ) → u ≡ grown v (step_events (present v) (last_op (present v) a)) → last_op (present u) a ≡ last_op (present v) a
-last_kept v u a grows i = record { actor = a; number = (ap (λ (x : Moment). (x.actors a).number) (after_step v u a grows) ∙ step_number (present v) (last_op (present v) a) a) i }
+last_kept v u a grows i = record { actor = a; number = (ap (λ (x : WorldState). (x.actors a).number) (after_step v u a grows) ∙ step_number (present v) (last_op (present v) a) a) i }
 
 own_after : (v u : Life) (a : ℕ) → u ≡ grown v (step_events (present v) (last_op (present v) a)) → (present u).actors a ≡ stepped_actor (present v).counts (present v).store ((present v).actors a) (last_op (present v) a)
 own_after v u a grows =
-    ap (λ (x : Moment). x.actors a) (after_step v u a grows) ∙ step_actors (present v) (last_op (present v) a) a
+    ap (λ (x : WorldState). x.actors a) (after_step v u a grows) ∙ step_actors (present v) (last_op (present v) a) a
     ∙ ap (λ (b : Bool). if b then stepped_actor (present v).counts (present v).store ((present v).actors a) (last_op (present v) a) else (present v).actors a) (same a)
 
 -- how near the running command is to its end

@@ -5,15 +5,15 @@ use Rattle.tect_ids.specs.declared.ids.OpId.{OpId}
 use Rattle.tect_ids.specs.declared.answer.Answer.{Answer}
 use Rattle.store_rules.specs.declared.any.AnyReq.{AnyReq}
 use Rattle.store_rules.specs.Places.{request_place}
-use Rattle.place_kit.specs.declared.entry.Entry.{Entry}
-use Rattle.place_kit.specs.declared.entry.Moment.{Moment}
-use Rattle.place_kit.specs.declared.entry.Moment.TheVariants.{Act, Local}
-use Rattle.place_kit.specs.declared.entry.Note.TheVariants as notes
-use Rattle.place_kit.specs.declared.entry.Refused.TheVariants as refusals
+use Rattle.entry_words.specs.declared.entry.Entry.{Entry}
+use Rattle.entry_words.specs.declared.entry.Moment.{Moment}
+use Rattle.entry_words.specs.declared.entry.Moment.TheVariants.{Act, Local}
+use Rattle.entry_words.specs.declared.entry.Note.TheVariants as notes
+use Rattle.entry_words.specs.declared.entry.Refused.TheVariants as refusals
 use Rattle.world_runs.specs.declared.event.Event.{Event}
 use Rattle.world_runs.specs.Moments.{Actor, program_ask}
 use Rattle.clients.specs.Lives.{ClientLife, state_in}
-use Rattle.clients.specs.Phases.{WasRefused}
+use Rattle.program_rules.specs.Asking.{WasRefused}
 use Rattle.clients.specs.Steps.{Tried, Unasked, Did, Denied, Asks, DidThere, is_later, entry_in, tried_life, ended_with, ended_life, tried_events, end_events}
 use Rattle.kept_shards.specs.KeptStore.{KeptStore, committed, entries_at}
 use Rattle.kept_shards.specs.KeptStore as kept

@@ -9,18 +9,18 @@ use Rattle.store_rules.specs.Places.{request_place}
 use Rattle.store_rules.specs.declared.any.AnyReq.TheVariants as any
 use Rattle.store_shards.proofs.Parts.{request_shard}
 use Rattle.tect_ids.specs.Places.{HasPlaces}
-use Rattle.op_names.specs.declared.program.Program.{Program}
-use Rattle.place_kit.specs.declared.entry.Entry.{Entry}
-use Rattle.place_kit.specs.declared.entry.Moment.{Moment}
-use Rattle.place_kit.specs.declared.entry.Moment.TheVariants.{Local}
-use Rattle.place_kit.specs.declared.entry.Note.TheVariants as notes
-use Rattle.place_kit.specs.Moments.{running_in, running_after}
+use Rattle.program_rules.specs.declared.program.Program.{Program}
+use Rattle.entry_words.specs.declared.entry.Entry.{Entry}
+use Rattle.entry_words.specs.declared.entry.Moment.{Moment}
+use Rattle.entry_words.specs.declared.entry.Moment.TheVariants.{Local}
+use Rattle.entry_words.specs.declared.entry.Note.TheVariants as notes
+use Rattle.entry_words.specs.Moments.{running_in, running_after}
 use Rattle.place_kit.proofs.Pushes.{running_in-push}
 use Rattle.world_runs.specs.declared.event.Event.{Event}
 use Rattle.world_runs.specs.declared.event.Event.TheVariants.{Stopped, Failed}
 use Rattle.world_runs.specs.Moments.{program_of}
 use Rattle.world_runs.specs.Moments as runs
-use Rattle.noted_runs.specs.Events.{events_of, event_of}
+use Rattle.world_runs.specs.Events.{events_of, event_of}
 use Rattle.clients.specs.Lives.{ClientLife, events_in, op_in, stopped_with}
 use Rattle.clients.specs.Phases.{RunsIn}
 use Rattle.tect_world.specs.Noted.{AreNoted}

@@ -2,11 +2,11 @@
 use Rattle.std.proofs.Common.{◌≡◌, ℕ, Bool, true, false, eqb, if◌then◌else◌, inl, inr, List, [], ◌∷◌, ◌++◌, refl, sym, subst}
 use Rattle.std.specs.List.{All}
 use Rattle.std.proofs.lemmas.List.Elements.{All-head, All-tail}
-use Rattle.place_kit.specs.declared.entry.Moment.{Moment}
+use Rattle.entry_words.specs.declared.entry.Moment.{Moment}
 use Rattle.world_runs.specs.declared.event.Event.{Event}
 use Rattle.world_runs.specs.declared.event.Event.TheVariants.{Dumped}
-use Rattle.noted_runs.specs.Events.{events_of}
-use Rattle.noted_runs.specs.Laws.{IsSilent}
+use Rattle.world_runs.specs.Events.{events_of}
+use Rattle.world_runs.specs.Woven.{IsSilent}
 use Rattle.tect_world.specs.declared.marks.Mark.{Mark}
 use Rattle.tect_world.specs.declared.marks.Mark.TheVariants.{Actor, Dump}
 use Rattle.tect_world.specs.Order.{first_event, later_events, in_order}

@@ -10,27 +10,28 @@ use Rattle.store_rules.specs.declared.any.AnyReq.{AnyReq}
 use Rattle.store_rules.specs.declared.any.AnyReply.{AnyReply}
 use Rattle.store_rules.specs.Places.{request_place}
 use Rattle.store_rules.specs.Store.{Store, store_reply}
-use Rattle.op_names.specs.declared.program.Program.{Program}
-use Rattle.place_kit.specs.declared.entry.Moment.{Moment}
-use Rattle.place_kit.specs.declared.entry.Moment.TheVariants.{Local}
-use Rattle.place_kit.specs.declared.entry.Note.TheVariants as notes
-use Rattle.place_kit.specs.Moments.{running_in}
+use Rattle.program_rules.specs.declared.program.Program.{Program}
+use Rattle.entry_words.specs.declared.entry.Moment.{Moment}
+use Rattle.entry_words.specs.declared.entry.Moment.TheVariants.{Local}
+use Rattle.entry_words.specs.declared.entry.Note.TheVariants as notes
+use Rattle.entry_words.specs.Moments.{running_in}
 use Rattle.world_runs.specs.declared.event.Event.{Event}
 use Rattle.world_runs.specs.declared.event.Event.TheVariants.{Began, Refused, Stopped}
 use Rattle.world_runs.specs.Moments.{Actor, program_of, idle_actor}
 use Rattle.world_runs.specs.Moments as runs
 use Rattle.world_runs.specs.Report.{transactions}
-use Rattle.noted_runs.specs.Events.{events_of}
-use Rattle.noted_runs.specs.OwnRuns.{OwnRun, own_state, RepliesAre, stored_after}
-use Rattle.noted_runs.proofs.Actors.{own_run-rest}
-use Rattle.noted_runs.proofs.Owns.{counts_stay}
-use Rattle.noted_runs.proofs.Shown.{transactions_own}
+use Rattle.world_runs.specs.Events.{events_of}
+use Rattle.world_runs.specs.OwnRuns.{OwnRun, own_state, RepliesAre, stored_after}
+use Rattle.world_runs.proofs.Actors.{own_run-rest}
+use Rattle.world_runs.proofs.Owns.{counts_stay}
+use Rattle.world_runs.proofs.OwnLines.{transactions_own}
 use Rattle.all_shards.proofs.Stepped.{any_default}
-use Rattle.actors.specs.declared.turned.Turned.{Turned}
-use Rattle.actors.specs.declared.turned.Turned.TheVariants.{Done}
-use Rattle.actors.specs.Turns.{turned_by}
+use Rattle.clients.specs.declared.turned.Turned.{Turned}
+use Rattle.clients.specs.declared.turned.Turned.TheVariants.{Done}
+use Rattle.clients.specs.Turns.{turned_by}
 use Rattle.clients.specs.Lives.{ClientLife, IsLife, events_in, state_in, op_in, next_op_in, idle_life, begun_life, refused_life}
-use Rattle.clients.specs.Phases.{RunsIn, WasRefused}
+use Rattle.program_rules.specs.Asking.{WasRefused}
+use Rattle.clients.specs.Phases.{RunsIn}
 use Rattle.clients.specs.Steps.{Did, DidThere, EndsSo, state_after, entry_in, ended_life, tried_life}
 use Rattle.kept_shards.specs.KeptStore.{KeptStore, clock_at}
 use Rattle.kept_shards.specs.KeptStore as kept

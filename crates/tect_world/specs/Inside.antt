@@ -1,9 +1,9 @@
 -- The fields of the world tell its history, which is a run of the world.
 use Rattle.std.specs.Prelude.{◌≡◌, ℕ, ◌+◌, ◌<◌, ◌≤◌, ◌^◌, List, length}
 use Rattle.store_rules.specs.Store.{opening_store}
-use Rattle.place_kit.specs.declared.entry.Moment.{Moment}
-use Rattle.noted_runs.specs.Events.{own}
-use Rattle.noted_runs.specs.OwnRuns.{RepliesAre, stored_after}
+use Rattle.entry_words.specs.declared.entry.Moment.{Moment}
+use Rattle.world_runs.specs.Events.{own}
+use Rattle.world_runs.specs.OwnRuns.{RepliesAre, stored_after}
 use Rattle.kept_shards.specs.KeptStore.{clock_at}
 use Rattle.tect_world.specs.declared.world.World.TheInside.{Inside}
 use Rattle.tect_world.specs.Clients.{client_at, events_by, IsClientOf}

@@ -7,14 +7,14 @@ use Rattle.store_rules.specs.declared.any.AnyReq.{AnyReq}
 use Rattle.store_rules.specs.Store.{Store, store_reply, store_step}
 use Rattle.world_runs.specs.declared.event.Event.{Event}
 use Rattle.world_runs.specs.declared.event.Event.TheVariants.{Acted, Ended}
-use Rattle.world_runs.specs.Moments.{Actor, Moment, moment, program_of, program_ask, program_answer, went_on}
+use Rattle.world_runs.specs.Moments.{Actor, WorldState, moment, program_of, program_ask, program_answer, went_on}
 
 pub record Life : Type 0 where
   pub counts : Counts
   pub history : List Event
 
 -- the present moment
-abbrev pub present : Life → Moment
+abbrev pub present : Life → WorldState
 present w = moment w.counts w.history
 
 -- the life after further events
@@ -22,10 +22,10 @@ abbrev pub grown : Life → List Event → Life
 grown w es = record w { history = w.history ++ es }
 
 -- the op of the actor's last command, and that of its next one
-abbrev pub last_op : Moment → ℕ → OpId
+abbrev pub last_op : WorldState → ℕ → OpId
 last_op m a = record { actor = a; number = (m.actors a).number }
 
-abbrev pub next_op : Moment → ℕ → OpId
+abbrev pub next_op : WorldState → ℕ → OpId
 next_op m a = record { actor = a; number = (m.actors a).number + 1 }
 
 -- what the op asks of an actor in this state
@@ -69,8 +69,8 @@ abbrev pub stepped_store : Store → Actor → OpId → Store
 stepped_store s a op = acted_store s (actor_asks a op)
 
 -- the same at a moment
-abbrev pub step_answer : Moment → OpId → Option Answer
+abbrev pub step_answer : WorldState → OpId → Option Answer
 step_answer m op = actor_answer m.counts m.store (m.actors op.actor) op
 
-abbrev pub step_events : Moment → OpId → List Event
+abbrev pub step_events : WorldState → OpId → List Event
 step_events m op = actor_events m.counts m.store (m.actors op.actor) op

@@ -2,10 +2,10 @@
 use Rattle.std.specs.Prelude.{◌≡◌, ℕ, eqb, if◌then◌else◌, true, List, [], slice_index_or}
 use Rattle.std.specs.List.{Contains}
 use Rattle.tect_ids.specs.declared.ids.Counts.{Counts}
-use Rattle.place_kit.specs.declared.entry.Entry.{Entry}
-use Rattle.place_kit.specs.declared.entry.Moment.{Moment}
-use Rattle.place_kit.specs.declared.entry.Moment.TheVariants.{Act}
-use Rattle.place_kit.specs.Moments.{rises}
+use Rattle.entry_words.specs.declared.entry.Entry.{Entry}
+use Rattle.entry_words.specs.declared.entry.Moment.{Moment}
+use Rattle.entry_words.specs.declared.entry.Moment.TheVariants.{Act}
+use Rattle.entry_words.specs.Moments.{rises}
 use Rattle.clients.specs.Lives.{ClientLife}
 use Rattle.tect_world.specs.Clients.{client_at}
 

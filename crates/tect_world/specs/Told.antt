@@ -2,13 +2,13 @@
 use Rattle.std.specs.Prelude.{◌≡◌, ℕ, ◌≤◌, ◌⊎◌, List, [], ◌∷◌, IsPermutation}
 use Rattle.std.specs.List.{Contains, flat_map}
 use Rattle.place_kit.specs.declared.any.AnyKept.{AnyKept}
-use Rattle.place_kit.specs.declared.entry.Moment.{Moment}
+use Rattle.entry_words.specs.declared.entry.Moment.{Moment}
 use Rattle.place_kit.specs.declared.pass.Pass.{Pass}
 use Rattle.place_kit.specs.Started.{AreStarted}
 use Rattle.world_runs.specs.declared.event.Event.{Event}
 use Rattle.world_runs.specs.declared.event.Event.TheVariants.{Dumped}
-use Rattle.noted_runs.specs.Events.{event_of}
-use Rattle.noted_runs.specs.Laws.{IsSilent}
+use Rattle.world_runs.specs.Events.{event_of}
+use Rattle.world_runs.specs.Woven.{IsSilent}
 use Rattle.clients.specs.Lives.{ClientLife}
 use Rattle.merge_runs.specs.Merged.{HaveDifferentActors, IsInOrder, RestrictsToTrails, RestrictsToHistories, moments_of}
 use Rattle.tect_world.specs.declared.history.WorldHistory.{WorldHistory}

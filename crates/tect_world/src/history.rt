@@ -6,7 +6,8 @@ ghost use Rattle.tect_world.specs.Told.{IsPassOf, IsOneList};
 
 use clients::Client;
 use merge_runs::{GatherFault, gather};
-use place_kit::{AnyKept, Moment, Pass};
+use entry_words::Moment;
+use place_kit::{AnyKept, Pass};
 use std::alloc::Global;
 use tect_ids::NoMemory;
 

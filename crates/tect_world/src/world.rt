@@ -1,7 +1,7 @@
 ghost use Rattle.std.specs.Prelude.{◌≡◌, ℕ, ◌+◌, ◌^◌, ◌<◌, ◌≤◌, [], ◌∷◌, ◌++◌, List, OnOk, OnErr, IfOk, IsSome, IsNone, IsTrue, is_some, false};
 ghost use Rattle.tect_ids.specs.Places.{HasPlaces};
 ghost use Rattle.store_rules.specs.Dumps.{store_dump};
-ghost use Rattle.noted_runs.specs.Limits.{KeepsLimits};
+ghost use Rattle.world_runs.specs.Limits.{KeepsLimits};
 ghost use Rattle.world_runs.specs.declared.event.Event.TheVariants as events;
 ghost use Rattle.world_runs.specs.Moments.{IsWorldRun};
 ghost use Rattle.world_runs.specs.Report.{transactions};
@@ -13,7 +13,7 @@ ghost use Rattle.tect_world.specs.Told.{IsGathered};
 use crate::acting::{begin_client, idle_clients, step_client, stop_client};
 use crate::history::{WorldHistory, gather_all, take_passes};
 use crate::marks::{Mark, is_short, push_mark};
-use actors::Turned;
+use clients::Turned;
 use clients::Client;
 use kept_shards::KeptShards;
 use std::alloc::Global;

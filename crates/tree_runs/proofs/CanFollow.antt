@@ -5,11 +5,11 @@ use Rattle.tect_ids.specs.declared.ids.Counts.{Counts}
 use Rattle.tect_ids.specs.declared.ids.OpId.{OpId}
 use Rattle.tect_ids.specs.declared.command.Command.{Command}
 use Rattle.tree_model.specs.Tree.{Tree, opening_tree}
-use Rattle.op_names.specs.Programs.{first_phase}
+use Rattle.program_rules.specs.Programs.{first_phase}
 use Rattle.world_runs.specs.Served.{IsServed}
 use Rattle.world_runs.specs.declared.event.Event.{Event}
 use Rattle.world_runs.specs.declared.event.Event.TheVariants.{Began, Refused, Acted, Ended, Stopped, Failed, Dumped}
-use Rattle.world_runs.specs.Moments.{Moment, opening, May, after, after_all, RunFrom, IsWorldRun}
+use Rattle.world_runs.specs.Moments.{WorldState, opening, May, after, after_all, RunFrom, IsWorldRun}
 use Rattle.world_runs.specs.TreeSteps.{tree_steps, tree_after}
 use Rattle.world_runs.specs.Follows.{Acts, Busy, none_busy, with_busy, FollowsFrom, Follows, NoneFails}
 use Rattle.tree_runs.specs.Session.{session_script}
@@ -21,7 +21,7 @@ use Rattle.tree_runs.proofs.Scripts.{acts_numbers}
 use Rattle.tree_runs.proofs.Ends.{CanEnd, served_ends}
 
 -- transactions stop no actor
-pub acts_stop_none : (m : Moment) (op : OpId) (n : ℕ) (es : List Event) (a : ℕ) → Acts op n es → ((after_all m es).actors a).stopped ≡ (m.actors a).stopped
+pub acts_stop_none : (m : WorldState) (op : OpId) (n : ℕ) (es : List Event) (a : ℕ) → Acts op n es → ((after_all m es).actors a).stopped ≡ (m.actors a).stopped
 acts_stop_none m op n [] a acts = refl
 acts_stop_none m op n (Acted o q x ∷ es) a acts =
     acts_stop_none (after m (Acted o q x)) op (acts.1).0 es a (acts.1).2 ∙ actor_cases (λ st. st.stopped ≡ (m.actors a).stopped) m.actors o.actor _ a (λ e. rw e refl) (λ d. refl)
@@ -33,14 +33,14 @@ acts_stop_none m op n (Failed o c ∷ es) a acts = absurd acts
 acts_stop_none m op n (Dumped ∷ es) a acts = absurd acts
 
 -- the client can begin its next command
-record IsFree (m : Moment) (t : Tree) (number : ℕ) : Type 0 where
+record IsFree (m : WorldState) (t : Tree) (number : ℕ) : Type 0 where
   tracks : Tracks m t
   idle : (m.actors 1).running ≡ None
   goes_on : (m.actors 1).stopped ≡ false
   count : (m.actors 1).number ≡ number
 
 -- the events of a command
-module _ (m : Moment) (t : Tree) (number : ℕ) (free : IsFree m t number) (c : Command) (served : IsServed c) (few : number + 1 < 2 ^ 31) where
+module _ (m : WorldState) (t : Tree) (number : ℕ) (free : IsFree m t number) (c : Command) (served : IsServed c) (few : number + 1 < 2 ^ 31) where
   -- the client's next op
   abbrev op : OpId
   op = record { actor = 1; number = number + 1 }
@@ -74,19 +74,19 @@ module _ (m : Moment) (t : Tree) (number : ℕ) (free : IsFree m t number) (c : 
   free_after : IsFree (after_all m part) (tree_after t (tree_steps part)) (number + 1)
   free_after = record {
     tracks = (run_tracked m t part free.tracks part_runs).0;
-    idle = ap (λ (z : Moment). (z.actors 1).running) ended;
-    goes_on = ap (λ (z : Moment). (z.actors 1).stopped) ended ∙ acts_stop_none (after m began) op can.count can.front 1 can.acts ∙ free.goes_on;
-    count = ap (λ (z : Moment). (z.actors 1).number) ended ∙ acts_numbers (after m began) op can.count can.front 1 can.acts;
+    idle = ap (λ (z : WorldState). (z.actors 1).running) ended;
+    goes_on = ap (λ (z : WorldState). (z.actors 1).stopped) ended ∙ acts_stop_none (after m began) op can.count can.front 1 can.acts ∙ free.goes_on;
+    count = ap (λ (z : WorldState). (z.actors 1).number) ended ∙ acts_numbers (after m began) op can.count can.front 1 can.acts;
   }
 
 -- events that follow the script of the commands
-record CanDo (client : List ℕ) (m : Moment) (busy : Busy) (cs : List Command) : Type 0 where
+record CanDo (client : List ℕ) (m : WorldState) (busy : Busy) (cs : List Command) : Type 0 where
   events : List Event
   run : RunFrom m events
   none_fails : NoneFails events
   follows : FollowsFrom busy (session_script client cs) events
 
-commands_can : (client : List ℕ) (cs : List Command) (m : Moment) (t : Tree) (number : ℕ) (busy : Busy) → IsFree m t number → busy 1 ≡ None → AllByRecursion IsServed cs → number + length cs < 2 ^ 31 → CanDo client m busy cs
+commands_can : (client : List ℕ) (cs : List Command) (m : WorldState) (t : Tree) (number : ℕ) (busy : Busy) → IsFree m t number → busy 1 ≡ None → AllByRecursion IsServed cs → number + length cs < 2 ^ 31 → CanDo client m busy cs
 commands_can client [] m t number busy free idle all few = record { events = []; run = tt; none_fails = tt; follows = refl }
 commands_can client (c ∷ cs) m t number busy free idle all few =
     let little : number + 1 < 2 ^ 31 = omega arith in

@@ -35,13 +35,13 @@ use Rattle.tree_model.specs.declared.step.Refusal.{Refusal}
 use Rattle.tree_model.specs.declared.step.TreeReply.{TreeReply}
 use Rattle.tree_model.specs.declared.step.TreeReply.TheVariants.{Ok, Refused}
 use Rattle.tree_model.specs.Tree.{Tree, tree_reply, tree_next}
-use Rattle.op_names.specs.declared.program.Phase.{Phase}
-use Rattle.op_names.specs.declared.program.Phase.TheVariants.{Walk, Bind, Release, End}
-use Rattle.op_names.specs.declared.program.Program.{Program}
-use Rattle.op_names.specs.Programs.{object_number, own_hold, phase_ask, phase_hear, phase_answer, release_ask, then_release, bound_heard, looked, refusal}
+use Rattle.program_rules.specs.declared.program.Phase.{Phase}
+use Rattle.program_rules.specs.declared.program.Phase.TheVariants.{Walk, Bind, Release, End}
+use Rattle.program_rules.specs.declared.program.Program.{Program}
+use Rattle.program_rules.specs.Programs.{object_number, own_hold, phase_ask, phase_hear, phase_answer, release_ask, then_release, bound_heard, looked, refusal}
 use Rattle.world_runs.specs.declared.event.Event.{Event}
 use Rattle.world_runs.specs.declared.event.Event.TheVariants.{Began, Refused as declined, Acted, Ended, Stopped, Failed, Dumped}
-use Rattle.world_runs.specs.Moments.{Moment, May, after, after_all, RunFrom, running, asked, answered, next_serial}
+use Rattle.world_runs.specs.Moments.{WorldState, May, after, after_all, RunFrom, running, asked, answered, next_serial}
 use Rattle.world_runs.specs.TreeSteps.{told_of, told_as, tree_steps, tree_step, says, tree_after, IsTreeRun}
 use Rattle.world_runs.specs.Points.{refused_answer, done_answer}
 use Rattle.world_runs.specs.Follows.{Acts}
@@ -55,27 +55,27 @@ use Rattle.tree_runs.proofs.Replies.{RefusesSo, why_of, look_some, look_none, bi
 use Rattle.tree_runs.proofs.Runs.{event_tracked, tree_after-append}
 
 -- the command runs as that op, at that phase, and the store shows that tree
-pub record Stands (m : Moment) (t : Tree) (op : OpId) (c : Command) (own : ℕ) (at : Phase) : Type 0 where
+pub record Stands (m : WorldState) (t : Tree) (op : OpId) (c : Command) (own : ℕ) (at : Phase) : Type 0 where
   pub tracks : Tracks m t
   pub runs : (m.actors op.actor).running ≡ Some record { op = op; command = c; phase = at }
   pub serial : (m.actors op.actor).serial ≡ own
 
 -- those transactions of the op and its end, with that answer, are what was played
-pub record Comes (m : Moment) (t : Tree) (op : OpId) (front : List Event) (n : ℕ) (a : Answer) (p : Played) (left : ℕ) : Type 0 where
+pub record Comes (m : WorldState) (t : Tree) (op : OpId) (front : List Event) (n : ℕ) (a : Answer) (p : Played) (left : ℕ) : Type 0 where
   pub count : n ≡ left
   pub answer : a ≡ p.answer
   pub tree : tree_after t (tree_steps front) ≡ p.tree
   pub serial : ((after_all m front).actors op.actor).serial ≡ p.serial
 
 -- so it is of all transactions that may come
-abbrev pub Goes : Moment → Tree → OpId → Played → ℕ → Type 0
+abbrev pub Goes : WorldState → Tree → OpId → Played → ℕ → Type 0
 Goes m t op p left = (front : List Event) (n : ℕ) (a : Answer) → Acts op n front → RunFrom m (front ++ Ended op a ∷ []) → Comes m t op front n a p left
 
 -- the program that stands so
 abbrev program_at : OpId → Command → Phase → Program
 program_at op c at = record { op = op; command = c; phase = at }
 
-module _ (m : Moment) (t : Tree) (op : OpId) (c : Command) (own : ℕ) (at : Phase) (st : Stands m t op c own at) where
+module _ (m : WorldState) (t : Tree) (op : OpId) (c : Command) (own : ℕ) (at : Phase) (st : Stands m t op c own at) where
   -- the number of the next object that its actor makes
   abbrev number_now : ℕ
   number_now = object_number op.actor own
@@ -148,12 +148,12 @@ module _ (m : Moment) (t : Tree) (op : OpId) (c : Command) (own : ℕ) (at : Pha
     step_goes p left no_end more (Dumped ∷ es) n a acts run = absurd acts
 
 -- what stands so, in other words
-pub stands_as : (m : Moment) (t u : Tree) (op : OpId) (c : Command) (own new : ℕ) (at to : Phase) → Stands m t op c own at → t ≡ u → own ≡ new → at ≡ to → Stands m u op c new to
+pub stands_as : (m : WorldState) (t u : Tree) (op : OpId) (c : Command) (own new : ℕ) (at to : Phase) → Stands m t op c own at → t ≡ u → own ≡ new → at ≡ to → Stands m u op c new to
 stands_as m t u op c own new at to st tree serial phase =
     subst (λ (v : Tree). Stands m v op c new to) tree (subst (λ (i : ℕ). Stands m t op c i to) serial (subst (λ (z : Phase). Stands m t op c own z) phase st))
 
 -- a command that has its answer
-end_goes : (m : Moment) (t : Tree) (op : OpId) (c : Command) (own : ℕ) (b : Answer) (p : Played) → Stands m t op c own (End b) → t ≡ p.tree → own ≡ p.serial → b ≡ p.answer → Goes m t op p 0
+end_goes : (m : WorldState) (t : Tree) (op : OpId) (c : Command) (own : ℕ) (b : Answer) (p : Played) → Stands m t op c own (End b) → t ≡ p.tree → own ≡ p.serial → b ≡ p.answer → Goes m t op p 0
 end_goes m t op c own b p st tree serial answer [] n a acts run =
     let now : Some b ≡ Some a = sym (answered_now m t op c own (End b) st) ∙ run.0 in
     let same : b ≡ a = cc in
@@ -170,7 +170,7 @@ end_goes m t op c own b p st tree serial answer (Failed o d ∷ es) n a acts run
 end_goes m t op c own b p st tree serial answer (Dumped ∷ es) n a acts run = absurd acts
 
 -- a release is no step
-module _ (m : Moment) (t : Tree) (op : OpId) (c : Command) (own : ℕ) (b : Answer) (p : Played) (tree : t ≡ p.tree) (serial : own ≡ p.serial) (answer : b ≡ p.answer) where
+module _ (m : WorldState) (t : Tree) (op : OpId) (c : Command) (own : ℕ) (b : Answer) (p : Played) (tree : t ≡ p.tree) (serial : own ≡ p.serial) (answer : b ≡ p.answer) where
   release_goes : (n : Node) (h : Hold) → Stands m t op c own (Release n h None b) → Goes m t op p 1
   release_goes n h st =
       let q : AnyReq = release_ask n h in
@@ -190,7 +190,7 @@ module _ (m : Moment) (t : Tree) (op : OpId) (c : Command) (own : ℕ) (b : Answ
 
 -- ---- a look
 
-module _ (m : Moment) (t : Tree) (op : OpId) (c : Command) (own : ℕ) where
+module _ (m : WorldState) (t : Tree) (op : OpId) (c : Command) (own : ℕ) where
   found_said : (k : Key) (r : TreeReply) (n : Node) → r ≡ Ok (shown.Node n) → answers.Found n ≡ found_answer k r
   found_said k r n e = rw e refl
 
@@ -245,7 +245,7 @@ not_said : (k : Key) (a : Answer) (r : TreeReply) (why : Refusal) → r ≡ Refu
 not_said k a r why e = rw e refl
 
 -- after the bind of a file
-module _ (m : Moment) (t : Tree) (op : OpId) (c : Command) (own : ℕ) (k : Key) (f : FileId) (st : Stands m t op c own (Bind k (nodes.File f) over.File)) where
+module _ (m : WorldState) (t : Tree) (op : OpId) (c : Command) (own : ℕ) (k : Key) (f : FileId) (st : Stands m t op c own (Bind k (nodes.File f) over.File)) where
   -- the file as a node
   abbrev n : Node
   n = nodes.File f
@@ -263,7 +263,7 @@ module _ (m : Moment) (t : Tree) (op : OpId) (c : Command) (own : ℕ) (k : Key)
   y = store_reply m.store q
 
   -- the moment after the bind
-  abbrev mid : Moment
+  abbrev mid : WorldState
   mid = after m (Acted op q y)
 
   -- the tree after the bind
@@ -308,7 +308,7 @@ module _ (m : Moment) (t : Tree) (op : OpId) (c : Command) (own : ℕ) (k : Key)
       (step_goes m t op c own (Bind k n over.File) st q refl p (releases (get t.entries k) (tree_reply t bind)) refl)
       (bound_goes (request_place m.counts q) (as_bound y) refl next)
 
-module _ (m : Moment) (t : Tree) (op : OpId) (own : ℕ) (d : DirId) (n : List ℕ) (st : Stands m t op (commands.Create (n ∷ [])) own (Walk d [])) where
+module _ (m : WorldState) (t : Tree) (op : OpId) (own : ℕ) (d : DirId) (n : List ℕ) (st : Stands m t op (commands.Create (n ∷ [])) own (Walk d [])) where
   -- the file that is made
   abbrev file : FileId
   file = record { 0 = object_number op.actor own }
@@ -349,7 +349,7 @@ module _ (m : Moment) (t : Tree) (op : OpId) (own : ℕ) (d : DirId) (n : List �
   pub create_goes : Goes m t op (session.created t own (key_in d n) file) (session.created t own (key_in d n) file).transactions
   create_goes =
       let k : Key = key_in d n in
-      let mid : Moment = after m (Acted op making made_reply) in
+      let mid : WorldState = after m (Acted op making made_reply) in
       let v : Tree = stepped t make in
       let p : Played = session.created t own k file in
       let left : ℕ = releases (get v.entries k) (tree_reply v (step.Bind k (nodes.File file) over.File)) in

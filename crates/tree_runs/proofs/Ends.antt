@@ -25,14 +25,14 @@ use Rattle.store_rules.specs.Views.{is_made, as_parent, as_found, as_listing, as
 use Rattle.store_rules.specs.Names.{key_in}
 use Rattle.store_rules.specs.Store.{store_reply}
 use Rattle.tree_model.specs.Tree.{Tree}
-use Rattle.op_names.specs.declared.program.Phase.{Phase}
-use Rattle.op_names.specs.declared.program.Phase.TheVariants.{Walk, Bind, Grant, Swap, Release, End}
-use Rattle.op_names.specs.Paths.{last_name, but_last}
-use Rattle.op_names.specs.Programs.{object_number, own_hold, new_path, phase_ask, phase_hear, phase_answer, first_phase, from_root, grant_ask, refusal, walked, looked, look_heard, checked, entries_heard, unbound_heard, source_heard, then_release, bound_heard, swapped_heard}
+use Rattle.program_rules.specs.declared.program.Phase.{Phase}
+use Rattle.program_rules.specs.declared.program.Phase.TheVariants.{Walk, Bind, Grant, Swap, Release, End}
+use Rattle.program_rules.specs.Paths.{last_name, but_last}
+use Rattle.program_rules.specs.Programs.{object_number, own_hold, new_path, phase_ask, phase_hear, phase_answer, first_phase, from_root, grant_ask, refusal, walked, looked, look_heard, checked, entries_heard, unbound_heard, source_heard, then_release, bound_heard, swapped_heard}
 use Rattle.world_runs.specs.Served.{IsServed}
 use Rattle.world_runs.specs.declared.event.Event.{Event}
 use Rattle.world_runs.specs.declared.event.Event.TheVariants.{Acted, Ended}
-use Rattle.world_runs.specs.Moments.{Moment, after, RunFrom, next_serial}
+use Rattle.world_runs.specs.Moments.{WorldState, after, RunFrom, next_serial}
 use Rattle.world_runs.specs.Follows.{Acts}
 use Rattle.tree_runs.proofs.Comes.{Stands, may_now, next_stands, answered_now}
 
@@ -188,17 +188,17 @@ module _ (op : OpId) (i : ℕ) where
   phase_goes_on c (End a) h = inr (a, refl)
 
 -- transactions of the op, and then its end
-pub record CanEnd (m : Moment) (op : OpId) : Type 0 where
+pub record CanEnd (m : WorldState) (op : OpId) : Type 0 where
   pub front : List Event
   pub count : ℕ
   pub answer : Answer
   pub acts : Acts op count front
   pub run : RunFrom m (front ++ Ended op answer ∷ [])
 
-end_here : (m : Moment) (t : Tree) (op : OpId) (c : Command) (own : ℕ) (at : Phase) (a : Answer) → Stands m t op c own at → at ≡ End a → CanEnd m op
+end_here : (m : WorldState) (t : Tree) (op : OpId) (c : Command) (own : ℕ) (at : Phase) (a : Answer) → Stands m t op c own at → at ≡ End a → CanEnd m op
 end_here m t op c own at a st is = record { front = []; count = 0; answer = a; acts = refl; run = (answered_now m t op c own at st ∙ ap phase_answer is, tt) }
 
-more_ends : (m : Moment) (t : Tree) (op : OpId) (c : Command) (own : ℕ) (at : Phase) (st : Stands m t op c own at) (q : AnyReq) (asks : phase_ask op (object_number op.actor own) c at ≡ Some q)
+more_ends : (m : WorldState) (t : Tree) (op : OpId) (c : Command) (own : ℕ) (at : Phase) (st : Stands m t op c own at) (q : AnyReq) (asks : phase_ask op (object_number op.actor own) c at ≡ Some q)
     → CanEnd (after m (Acted op q (store_reply m.store q))) op → CanEnd m op
 more_ends m t op c own at st q asks e = record {
   front = Acted op q (store_reply m.store q) ∷ e.front;
@@ -209,7 +209,7 @@ more_ends m t op c own at st q asks e = record {
 }
 
 -- A command that is ready can go on to its end.
-can_end : (bound : ℕ) (m : Moment) (t : Tree) (op : OpId) (c : Command) (own : ℕ) (at : Phase) → rank at ≤ bound → Ready c at → Stands m t op c own at → CanEnd m op
+can_end : (bound : ℕ) (m : WorldState) (t : Tree) (op : OpId) (c : Command) (own : ℕ) (at : Phase) → rank at ≤ bound → Ready c at → Stands m t op c own at → CanEnd m op
 can_end zero m t op c own at few ready st =
     elim (phase_goes_on op (object_number op.actor own) c at ready) [
       | inl g ↦ absurd (omega (arith, g.falls))
@@ -244,5 +244,5 @@ first_ready (commands.Rename p (n ∷ to)) s = root_ready (commands.Rename p (n 
 first_ready _ s = absurd s
 
 -- a served command that has begun can go on to its end
-pub served_ends : (m : Moment) (t : Tree) (op : OpId) (c : Command) (own : ℕ) → IsServed c → Stands m t op c own (first_phase c) → CanEnd m op
+pub served_ends : (m : WorldState) (t : Tree) (op : OpId) (c : Command) (own : ℕ) → IsServed c → Stands m t op c own (first_phase c) → CanEnd m op
 served_ends m t op c own served st = can_end (rank (first_phase c)) m t op c own (first_phase c) (omega arith) (first_ready c served) st

@@ -14,15 +14,16 @@ use Rattle.store_rules.specs.declared.any.AnyReply.{AnyReply}
 use Rattle.store_rules.specs.Places.{request_place}
 use Rattle.store_rules.specs.Store.{store_reply}
 use Rattle.tree_model.specs.Tree.{Tree, opening_tree}
-use Rattle.op_names.specs.declared.program.Phase.{Phase}
-use Rattle.op_names.specs.declared.program.Phase.TheVariants.{Walk, Bind, Grant, Swap, Release, End}
-use Rattle.op_names.specs.declared.program.Program.{Program}
-use Rattle.op_names.specs.Paths.{but_last}
-use Rattle.op_names.specs.Programs.{root, way, object_number, phase_ask, phase_hear, phase_answer, first_phase, from_root}
+use Rattle.program_rules.specs.declared.program.Phase.{Phase}
+use Rattle.program_rules.specs.declared.program.Phase.TheVariants.{Walk, Bind, Grant, Swap, Release, End}
+use Rattle.program_rules.specs.declared.program.Program.{Program}
+use Rattle.program_rules.specs.Paths.{but_last}
+use Rattle.program_rules.specs.Programs.{root, way, object_number, phase_ask, phase_hear, phase_answer, first_phase, from_root}
 use Rattle.world_runs.specs.Served.{IsServed}
 use Rattle.world_runs.specs.declared.event.Event.{Event}
 use Rattle.world_runs.specs.declared.event.Event.TheVariants.{Began, Refused, Acted, Ended, Stopped, Failed, Dumped}
-use Rattle.world_runs.specs.Moments.{Actor, Moment, opening, May, CanBegin, no_room, after, after_all, RunFrom, IsWorldRun, asked, program_answer, program_of, heard, with_actor}
+use Rattle.program_rules.specs.Lacks.{no_room}
+use Rattle.world_runs.specs.Moments.{Actor, WorldState, opening, May, CanBegin, after, after_all, RunFrom, IsWorldRun, asked, program_answer, program_of, heard, with_actor}
 use Rattle.world_runs.specs.TreeSteps.{Told, told_of, tree_steps, tree_step, says, tree_after, IsTreeRun}
 use Rattle.world_runs.specs.Points.{of_op, Walked, LacksName}
 use Rattle.world_runs.specs.Headline.{begun_by, or_later, command_of, refuses, was_refused, Explains, HadNoRoom, Headline}
@@ -67,7 +68,7 @@ Tells h (Some p) = WasBegun h p ⊎ WasRefused h p
 
 -- what a history tells of its last moment: the tree followed it, each running command was told so far or refused, and an op that did
 -- not begin has neither command nor steps
-record AllTold (h : List Event) (m : Moment) : Type 0 where
+record AllTold (h : List Event) (m : WorldState) : Type 0 where
   tracks : Tracks m (tree_after opening_tree (tree_steps h))
   tells : (a : ℕ) → Tells h (m.actors a).running
   unbegun : (op : OpId) → (m.actors op.actor).number < op.number → command_of h op ≡ None
@@ -79,12 +80,12 @@ tells_stay h e (Some p) other (inl t) =
     inl (command_more h e p.op ∙ ap (λ z. or_later z (begun_by e p.op)) t.0, rw (steps_more h e) (phase_stays (tree_steps h) (told_of e) p.op p.command p.phase (other p refl) t.1))
 tells_stay h e (Some p) other (inr t) = inr (refused_still h (e ∷ []) p.op t.0, t.1)
 
-tracked_more : (h : List Event) (m : Moment) (e : Event) → Tracks m (tree_after opening_tree (tree_steps h)) → May m e → Tracks (after m e) (tree_after opening_tree (tree_steps (h ++ e ∷ [])))
+tracked_more : (h : List Event) (m : WorldState) (e : Event) → Tracks m (tree_after opening_tree (tree_steps h)) → May m e → Tracks (after m e) (tree_after opening_tree (tree_steps (h ++ e ∷ [])))
 tracked_more h m e tracks may = rw (steps_more h e, tree_after-append opening_tree (tree_steps h) (told_of e)) (event_tracked m _ e tracks may).0
 
 -- ---- an event that is no step
 
-module _ (h : List Event) (m : Moment) (t : AllTold h m) (e : Event) (no_step : told_of e ≡ []) where
+module _ (h : List Event) (m : WorldState) (t : AllTold h m) (e : Event) (no_step : told_of e ≡ []) where
   same_steps : tree_steps (h ++ e ∷ []) ≡ tree_steps h
   same_steps = steps_more h e ∙ ap (λ l. tree_steps h ++ l) no_step ∙ append-nil (tree_steps h)
 
@@ -122,7 +123,7 @@ module _ (h : List Event) (m : Moment) (t : AllTold h m) (e : Event) (no_step : 
 
 -- ---- a command begins
 
-module _ (h : List Event) (m : Moment) (t : AllTold h m) (op : OpId) (c : Command) (can : CanBegin (m.actors op.actor) op) (served : IsServed c) where
+module _ (h : List Event) (m : WorldState) (t : AllTold h m) (op : OpId) (c : Command) (can : CanBegin (m.actors op.actor) op) (served : IsServed c) where
   -- the event
   abbrev began : Event
   began = Began op c
@@ -179,7 +180,7 @@ module _ (h : List Event) (m : Moment) (t : AllTold h m) (op : OpId) (c : Comman
 
 -- ---- a command is refused
 
-module _ (h : List Event) (m : Moment) (t : AllTold h m) (op : OpId) (c : Command) (can : CanBegin (m.actors op.actor) op) (served : IsServed c) where
+module _ (h : List Event) (m : WorldState) (t : AllTold h m) (op : OpId) (c : Command) (can : CanBegin (m.actors op.actor) op) (served : IsServed c) where
   -- the event
   abbrev refusal : Event
   refusal = Refused op c
@@ -201,7 +202,7 @@ module _ (h : List Event) (m : Moment) (t : AllTold h m) (op : OpId) (c : Comman
 
 -- ---- a request
 
-module _ (h : List Event) (m : Moment) (t : AllTold h m) (op : OpId) (q : AnyReq) (asks : asked m op ≡ Some q) where
+module _ (h : List Event) (m : WorldState) (t : AllTold h m) (op : OpId) (q : AnyReq) (asks : asked m op ≡ Some q) where
   -- what the store replies
   abbrev x : AnyReply
   x = store_reply m.store q
@@ -292,7 +293,7 @@ module _ (h : List Event) (m : Moment) (t : AllTold h m) (op : OpId) (q : AnyReq
         (λ e late. did_unasked o (rw e late)) (λ d late. did_unasked o late);
   }
 
-event_told : (h : List Event) (m : Moment) (e : Event) → AllTold h m → May m e → AllTold (h ++ e ∷ []) (after m e)
+event_told : (h : List Event) (m : WorldState) (e : Event) → AllTold h m → May m e → AllTold (h ++ e ∷ []) (after m e)
 event_told h m (Began op c) t may = begun_told h m t op c may.0 may.1
 event_told h m (Refused op c) t may = refused_told h m t op c may.0 may.1
 event_told h m (Acted op q x) t may = subst (λ (y : AnyReply). AllTold (h ++ Acted op q y ∷ []) (after m (Acted op q y))) (sym may.1) (acted_told h m t op q may.0)
@@ -301,7 +302,7 @@ event_told h m (Stopped op) t may = rests h m t (Stopped op) refl op.actor _ ref
 event_told h m (Failed op a) t may = rests h m t (Failed op a) refl op.actor _ refl refl (λ o. refl) (tracked_more h m (Failed op a) t.tracks may)
 event_told h m Dumped t may = stays h m t Dumped refl (λ o. refl) (tracked_more h m Dumped t.tracks may)
 
-run_told : (h : List Event) (m : Moment) (es : List Event) → AllTold h m → RunFrom m es → AllTold (h ++ es) (after_all m es)
+run_told : (h : List Event) (m : WorldState) (es : List Event) → AllTold h m → RunFrom m es → AllTold (h ++ es) (after_all m es)
 run_told h m [] t run = rw append-nil t
 run_told h m (e ∷ es) t run =
     let more : AllTold ((h ++ e ∷ []) ++ es) (after_all (after m e) es) = run_told (h ++ e ∷ []) (after m e) es (event_told h m e t run.0) run.1 in
@@ -312,12 +313,12 @@ opening_told counts = record { tracks = opening_tracks counts; tells = λ a. tt;
 
 -- ---- each place of a history
 
-run-take : (m : Moment) (es : List Event) (place : ℕ) → RunFrom m es → RunFrom m (take place es)
+run-take : (m : WorldState) (es : List Event) (place : ℕ) → RunFrom m es → RunFrom m (take place es)
 run-take m es zero run = tt
 run-take m [] (suc place) run = tt
 run-take m (e ∷ es) (suc place) run = (run.0, run-take (after m e) es place run.1)
 
-may_at : (m : Moment) (es : List Event) (place : ℕ) (e : Event) → RunFrom m es → slice_get es place ≡ Some e → May (after_all m (take place es)) e
+may_at : (m : WorldState) (es : List Event) (place : ℕ) (e : Event) → RunFrom m es → slice_get es place ≡ Some e → May (after_all m (take place es)) e
 may_at m [] place e run is = absurd (let z : None ≡ Some e = is in cc)
 may_at m (d ∷ es) zero e run is = let same : d ≡ e = cc in subst (λ (z : Event). May m z) same run.0
 may_at m (d ∷ es) (suc place) e run is = may_at (after m d) es place e run.1 is

@@ -11,7 +11,7 @@ use Rattle.store_rules.specs.declared.any.AnyReq.{AnyReq}
 use Rattle.tree_model.specs.Tree.{Tree}
 use Rattle.world_runs.specs.declared.event.Event.{Event}
 use Rattle.world_runs.specs.declared.event.Event.TheVariants.{Began, Refused, Acted, Ended, Stopped, Failed, Dumped}
-use Rattle.world_runs.specs.Moments.{Moment, May, after, after_all, RunFrom, asked}
+use Rattle.world_runs.specs.Moments.{WorldState, May, after, after_all, RunFrom, asked}
 use Rattle.world_runs.specs.TreeSteps.{told_of, tree_steps, tree_after}
 use Rattle.world_runs.specs.Follows.{Acts, IsBeginOf, FindsMemory, NoneFails}
 use Rattle.world_runs.specs.Report.{is_act_of, transactions, report_after, lines_at}
@@ -20,19 +20,19 @@ use Rattle.tree_runs.proofs.Runs.{Asks, asks_of, event_tracked}
 
 -- ---- one history after another
 
-pub after_all-append : (m : Moment) (es fs : List Event) → after_all m (es ++ fs) ≡ after_all (after_all m es) fs
+pub after_all-append : (m : WorldState) (es fs : List Event) → after_all m (es ++ fs) ≡ after_all (after_all m es) fs
 after_all-append m [] fs = refl
 after_all-append m (e ∷ es) fs = after_all-append (after m e) es fs
 
-pub run-front : (m : Moment) (es fs : List Event) → RunFrom m (es ++ fs) → RunFrom m es
+pub run-front : (m : WorldState) (es fs : List Event) → RunFrom m (es ++ fs) → RunFrom m es
 run-front m [] fs r = tt
 run-front m (e ∷ es) fs r = (r.0, run-front (after m e) es fs r.1)
 
-pub run-rest : (m : Moment) (es fs : List Event) → RunFrom m (es ++ fs) → RunFrom (after_all m es) fs
+pub run-rest : (m : WorldState) (es fs : List Event) → RunFrom m (es ++ fs) → RunFrom (after_all m es) fs
 run-rest m [] fs r = r
 run-rest m (e ∷ es) fs r = run-rest (after m e) es fs r.1
 
-pub run-append : (m : Moment) (es fs : List Event) → RunFrom m es → RunFrom (after_all m es) fs → RunFrom m (es ++ fs)
+pub run-append : (m : WorldState) (es fs : List Event) → RunFrom m es → RunFrom (after_all m es) fs → RunFrom m (es ++ fs)
 run-append m [] fs r q = q
 run-append m (e ∷ es) fs r q = (r.0, run-append (after m e) es fs r.1 q)
 
@@ -89,21 +89,21 @@ begin_is op c Dumped is finds = absurd is
 -- ---- an op that did not begin has no transaction
 
 -- an op of a number that its actor did not come to has no transaction
-abbrev pub Quiet : Moment → List Event → Type 0
+abbrev pub Quiet : WorldState → List Event → Type 0
 Quiet m before = (op : OpId) → (m.actors op.actor).number < op.number → transactions before op ≡ 0
 
 -- the op of an event is its actor's last
-pub record IsLast (m : Moment) (op : OpId) : Type 0 where
+pub record IsLast (m : WorldState) (op : OpId) : Type 0 where
   pub number : op.number ≡ (m.actors op.actor).number
 
-pub acts_last : (m : Moment) (t : Tree) → Tracks m t → (op : OpId) (q : AnyReq) → asked m op ≡ Some q → IsLast m op
+pub acts_last : (m : WorldState) (t : Tree) → Tracks m t → (op : OpId) (q : AnyReq) → asked m op ≡ Some q → IsLast m op
 acts_last m t tracks op q e =
     let a : Asks (m.actors op.actor).running op (m.actors op.actor).serial q = asks_of _ op _ q e in
     let k : Knows op.actor (m.actors op.actor).number (m.actors op.actor).serial (Some a.program) = rw a.runs at (tracks.knows op.actor) in
     record { number = rw a.its at k.2 }
 
 -- numbers never fall
-pub numbers_grow : (m : Moment) (e : Event) → May m e → (a : ℕ) → (m.actors a).number ≤ ((after m e).actors a).number
+pub numbers_grow : (m : WorldState) (e : Event) → May m e → (a : ℕ) → (m.actors a).number ≤ ((after m e).actors a).number
 numbers_grow m (Began op c) may a = actor_cases (λ st. (m.actors a).number ≤ st.number) m.actors op.actor _ a (λ e. rw e (omega (arith, (may.0).next))) (λ d. omega arith)
 numbers_grow m (Refused op c) may a = actor_cases (λ st. (m.actors a).number ≤ st.number) m.actors op.actor _ a (λ e. rw e (omega (arith, (may.0).next))) (λ d. omega arith)
 numbers_grow m (Acted op q x) may a = actor_cases (λ st. (m.actors a).number ≤ st.number) m.actors op.actor _ a (λ e. rw e (omega arith)) (λ d. omega arith)
@@ -112,7 +112,7 @@ numbers_grow m (Stopped op) may a = actor_cases (λ st. (m.actors a).number ≤ 
 numbers_grow m (Failed op x) may a = actor_cases (λ st. (m.actors a).number ≤ st.number) m.actors op.actor _ a (λ e. rw e (omega arith)) (λ d. omega arith)
 numbers_grow m Dumped may a = omega arith
 
-not_act : (m : Moment) (t : Tree) (e : Event) → Tracks m t → May m e → (op : OpId) → (m.actors op.actor).number < op.number → is_act_of op e ≡ false
+not_act : (m : WorldState) (t : Tree) (e : Event) → Tracks m t → May m e → (op : OpId) → (m.actors op.actor).number < op.number → is_act_of op e ≡ false
 not_act m t (Acted other q x) tracks may op late = differs (op_eq other op) refl
   where
     differs : (b : Bool) → op_eq other op ≡ b → op_eq other op ≡ false
@@ -129,13 +129,13 @@ not_act m t (Stopped other) tracks may op late = refl
 not_act m t (Failed other x) tracks may op late = refl
 not_act m t Dumped tracks may op late = refl
 
-pub quiet_more : (m : Moment) (t : Tree) (before : List Event) (e : Event) → Tracks m t → Quiet m before → May m e → Quiet (after m e) (before ++ e ∷ [])
+pub quiet_more : (m : WorldState) (t : Tree) (before : List Event) (e : Event) → Tracks m t → Quiet m before → May m e → Quiet (after m e) (before ++ e ∷ [])
 quiet_more m t before e tracks quiet may op late =
     let old : (m.actors op.actor).number < op.number = omega (arith, numbers_grow m e may op.actor) in
     let none : transactions (e ∷ []) op ≡ 0 = rw (not_act m t e tracks may op old) refl in
     transactions-append before (e ∷ []) op ∙ omega (arith, quiet op old, none)
 
-pub quiet_run : (m : Moment) (t : Tree) (before es : List Event) → Tracks m t → Quiet m before → RunFrom m es → Quiet (after_all m es) (before ++ es)
+pub quiet_run : (m : WorldState) (t : Tree) (before es : List Event) → Tracks m t → Quiet m before → RunFrom m es → Quiet (after_all m es) (before ++ es)
 quiet_run m t before [] tracks quiet run = rw append-nil quiet
 quiet_run m t before (e ∷ es) tracks quiet run =
     let more : Quiet (after_all (after m e) es) ((before ++ e ∷ []) ++ es) =

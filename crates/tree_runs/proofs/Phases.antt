@@ -34,10 +34,10 @@ use Rattle.tree_model.specs.declared.step.TreeStep.TheVariants as step
 use Rattle.tree_model.specs.declared.step.TreeReply.{TreeReply}
 use Rattle.tree_model.specs.declared.step.TreeReply.TheVariants.{Ok, Refused}
 use Rattle.tree_model.specs.Tree.{Tree, tree_next, tree_change}
-use Rattle.op_names.specs.declared.program.Phase.{Phase}
-use Rattle.op_names.specs.declared.program.Phase.TheVariants.{Walk, Bind, Grant, Swap, Release, End}
-use Rattle.op_names.specs.Paths.{last_name}
-use Rattle.op_names.specs.Programs.{object_number, own_hold, new_path, at_last, first_ask, phase_ask, phase_hear, first_hear, grant_ask, release_ask, look_ask, refusal, walked, looked, look_heard, checked, entries_heard, unbound_heard, source_heard, then_release, bound_heard, swapped_heard}
+use Rattle.program_rules.specs.declared.program.Phase.{Phase}
+use Rattle.program_rules.specs.declared.program.Phase.TheVariants.{Walk, Bind, Grant, Swap, Release, End}
+use Rattle.program_rules.specs.Paths.{last_name}
+use Rattle.program_rules.specs.Programs.{object_number, own_hold, new_path, at_last, first_ask, phase_ask, phase_hear, first_hear, grant_ask, release_ask, look_ask, refusal, walked, looked, look_heard, checked, entries_heard, unbound_heard, source_heard, then_release, bound_heard, swapped_heard}
 use Rattle.world_runs.specs.Moments.{next_serial}
 use Rattle.world_runs.specs.TreeSteps.{told_as, tree_step, says, tree_after, where_refused}
 use Rattle.tree_runs.specs.View.{Made, view, AllMade, MakesNew}

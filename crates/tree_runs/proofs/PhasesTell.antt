@@ -25,10 +25,10 @@ use Rattle.store_rules.specs.Views.{as_parent, as_found, as_listing, as_bound, a
 use Rattle.store_rules.specs.Store.{Store, store_reply}
 use Rattle.tree_model.specs.declared.step.TreeStep.TheVariants as step
 use Rattle.tree_model.specs.Tree.{opening_tree}
-use Rattle.op_names.specs.declared.program.Phase.{Phase}
-use Rattle.op_names.specs.declared.program.Phase.TheVariants.{Walk, Bind, Grant, Swap, Release, End}
-use Rattle.op_names.specs.Paths.{last_name}
-use Rattle.op_names.specs.Programs.{root, way, new_path, at_last, own_hold, first_ask, look_ask, grant_ask, release_ask, phase_ask, phase_hear, looked, checked, entries_heard, unbound_heard}
+use Rattle.program_rules.specs.declared.program.Phase.{Phase}
+use Rattle.program_rules.specs.declared.program.Phase.TheVariants.{Walk, Bind, Grant, Swap, Release, End}
+use Rattle.program_rules.specs.Paths.{last_name}
+use Rattle.program_rules.specs.Programs.{root, way, new_path, at_last, own_hold, first_ask, look_ask, grant_ask, release_ask, phase_ask, phase_hear, looked, checked, entries_heard, unbound_heard}
 use Rattle.world_runs.specs.TreeSteps.{Told, told_as, tree_step, says, tree_after, IsTreeRun}
 use Rattle.world_runs.specs.Points.{of_op, Walked, Point}
 use Rattle.tree_runs.specs.View.{Made, AllMade, MakesNew}

@@ -23,7 +23,7 @@ use Rattle.tree_model.specs.declared.step.Refusal.TheVariants as refusals
 use Rattle.tree_model.specs.declared.step.TreeReply.{TreeReply}
 use Rattle.tree_model.specs.declared.step.TreeReply.TheVariants.{Ok, Refused}
 use Rattle.tree_model.specs.Tree.{is_ok}
-use Rattle.op_names.specs.Programs.{refusal, dir_refusal, grant_ask}
+use Rattle.program_rules.specs.Programs.{refusal, dir_refusal, grant_ask}
 use Rattle.world_runs.specs.TreeSteps.{says}
 use Rattle.world_runs.specs.Points.{refused_answer, Lists}
 

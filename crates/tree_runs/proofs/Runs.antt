@@ -14,11 +14,11 @@ use Rattle.store_rules.specs.Store.{Store, store_reply}
 use Rattle.tree_model.specs.declared.step.TreeStep.{TreeStep}
 use Rattle.tree_model.specs.declared.step.TreeReply.{TreeReply}
 use Rattle.tree_model.specs.Tree.{Tree, opening_tree, tree_next}
-use Rattle.op_names.specs.declared.program.Program.{Program}
-use Rattle.op_names.specs.Programs.{object_number, phase_ask, first_phase, from_root}
+use Rattle.program_rules.specs.declared.program.Program.{Program}
+use Rattle.program_rules.specs.Programs.{object_number, phase_ask, first_phase, from_root}
 use Rattle.world_runs.specs.declared.event.Event.{Event}
 use Rattle.world_runs.specs.declared.event.Event.TheVariants.{Began, Refused, Acted, Ended, Stopped, Failed, Dumped}
-use Rattle.world_runs.specs.Moments.{Actor, Moment, opening, May, CanBegin, after, after_all, RunFrom, IsWorldRun, moment, asked, program_ask, program_of, next_serial, heard, with_actor}
+use Rattle.world_runs.specs.Moments.{Actor, WorldState, opening, May, CanBegin, after, after_all, RunFrom, IsWorldRun, moment, asked, program_ask, program_of, next_serial, heard, with_actor}
 use Rattle.world_runs.specs.TreeSteps.{Told, told_as, told_of, tree_steps, tree_step, says, tree_after, IsTreeRun}
 use Rattle.tree_runs.specs.View.{Made, view, Shows, AllMade, TreeFollows, StepShows}
 use Rattle.tree_runs.proofs.RequestsShow.{request_shows}
@@ -64,7 +64,7 @@ asks_of (Some p) op serial q e = at (op_eq p.op op) refl e
     at true is e = let same : p.op ≡ op = grind (arith, op_eq_cases p.op op) in record { program = p; runs = refl; its = same; asks = rw same at e }
     at false is e = absurd (let k : None ≡ Some q = e in cc)
 
-module _ (m : Moment) (made : Made) (tracks : Tracks m (view m.store made)) (op : OpId) (q : AnyReq) (a : Asks (m.actors op.actor).running op (m.actors op.actor).serial q) where
+module _ (m : WorldState) (made : Made) (tracks : Tracks m (view m.store made)) (op : OpId) (q : AnyReq) (a : Asks (m.actors op.actor).running op (m.actors op.actor).serial q) where
   -- how many commands the actor began
   abbrev own_number : ℕ
   own_number = (m.actors op.actor).number
@@ -151,10 +151,10 @@ module _ (m : Moment) (made : Made) (tracks : Tracks m (view m.store made)) (op 
 -- ---- the events
 
 -- the tree follows an event
-abbrev Tracked : Moment → Tree → Event → Type 0
+abbrev Tracked : WorldState → Tree → Event → Type 0
 Tracked m t e = Tracks (after m e) (tree_after t (told_of e)) × IsTreeRun t (told_of e)
 
-acted_tracked : (m : Moment) (t : Tree) → Tracks m t → (op : OpId) (q : AnyReq) → asked m op ≡ Some q → Tracked m t (Acted op q (store_reply m.store q))
+acted_tracked : (m : WorldState) (t : Tree) → Tracks m t → (op : OpId) (q : AnyReq) → asked m op ≡ Some q → Tracked m t (Acted op q (store_reply m.store q))
 acted_tracked m t tracks op q e =
     let same : view m.store t.made ≡ t = tracks.shown in
     let it : Tracks m (view m.store t.made) = subst (λ (u : Tree). Tracks m u) (sym same) tracks in
@@ -162,7 +162,7 @@ acted_tracked m t tracks op q e =
     subst (λ (u : Tree). Tracked m u (Acted op q (store_reply m.store q))) same (acted_tracks m t.made it op q a, acted_run m t.made it op q a)
 
 -- an actor's running command changes, and its numbers as they may
-restarted : (m : Moment) (t : Tree) → Tracks m t → (a : ℕ) (state : Actor) → state.serial ≡ (m.actors a).serial → (m.actors a).number ≤ state.number → state.number < 2 ^ 31
+restarted : (m : WorldState) (t : Tree) → Tracks m t → (a : ℕ) (state : Actor) → state.serial ≡ (m.actors a).serial → (m.actors a).number ≤ state.number → state.number < 2 ^ 31
     → Knows a state.number state.serial state.running → Tracks (with_actor m a state) t
 restarted m t tracks a state same more few knows = record {
   shown = tracks.shown;
@@ -187,14 +187,14 @@ first_knows number serial (commands.Rename p []) l = tt
 first_knows number serial (commands.Rename p (n ∷ to)) l = root_knows number serial (commands.Rename p (n ∷ to)) p _ l
 first_knows number serial _ l = tt
 
-began_tracks : (m : Moment) (t : Tree) → Tracks m t → (op : OpId) (c : Command) → CanBegin (m.actors op.actor) op → Tracks (after m (Began op c)) t
+began_tracks : (m : WorldState) (t : Tree) → Tracks m t → (op : OpId) (c : Command) → CanBegin (m.actors op.actor) op → Tracks (after m (Began op c)) t
 began_tracks m t tracks op c can = restarted m t tracks op.actor _ refl (omega (arith, can.next)) (omega (arith, can.few))
     ((can.is_actor).0, refl, refl, first_knows _ _ c (omega (arith, can.next, tracks.serials op.actor)))
 
-refused_tracks : (m : Moment) (t : Tree) → Tracks m t → (op : OpId) (c : Command) → CanBegin (m.actors op.actor) op → Tracks (after m (Refused op c)) t
+refused_tracks : (m : WorldState) (t : Tree) → Tracks m t → (op : OpId) (c : Command) → CanBegin (m.actors op.actor) op → Tracks (after m (Refused op c)) t
 refused_tracks m t tracks op c can = restarted m t tracks op.actor _ refl (omega (arith, can.next)) (omega (arith, can.few)) ((can.is_actor).0, refl, refl, tt)
 
-pub event_tracked : (m : Moment) (t : Tree) (e : Event) → Tracks m t → May m e → Tracked m t e
+pub event_tracked : (m : WorldState) (t : Tree) (e : Event) → Tracks m t → May m e → Tracked m t e
 event_tracked m t (Began op c) tracks may = (began_tracks m t tracks op c may.0, tt)
 event_tracked m t (Refused op c) tracks may = (refused_tracks m t tracks op c may.0, tt)
 event_tracked m t (Acted op q x) tracks may = subst (λ (y : AnyReply). Tracked m t (Acted op q y)) (sym may.1) (acted_tracked m t tracks op q may.0)
@@ -203,7 +203,7 @@ event_tracked m t (Stopped op) tracks may = (restarted m t tracks op.actor _ ref
 event_tracked m t (Failed op a) tracks may = (restarted m t tracks op.actor _ refl (omega arith) (tracks.numbers op.actor) tt, tt)
 event_tracked m t Dumped tracks may = (tracks, tt)
 
-pub run_tracked : (m : Moment) (t : Tree) (es : List Event) → Tracks m t → RunFrom m es → Tracks (after_all m es) (tree_after t (tree_steps es)) × IsTreeRun t (tree_steps es)
+pub run_tracked : (m : WorldState) (t : Tree) (es : List Event) → Tracks m t → RunFrom m es → Tracks (after_all m es) (tree_after t (tree_steps es)) × IsTreeRun t (tree_steps es)
 run_tracked m t [] tracks run = (tracks, tt)
 run_tracked m t (e ∷ es) tracks run =
     let now : Tracked m t e = event_tracked m t e tracks run.0 in

@@ -13,10 +13,10 @@ use Rattle.tect_ids.specs.Keys.{op_eq}
 use Rattle.tect_ids.proofs.KeyTests.{op_eq_cases, num_eq_cases}
 use Rattle.store_rules.specs.Names.{key_in}
 use Rattle.tree_model.specs.Tree.{Tree, opening_tree}
-use Rattle.op_names.specs.Programs.{root, object_number, first_phase}
+use Rattle.program_rules.specs.Programs.{root, object_number, first_phase}
 use Rattle.world_runs.specs.declared.event.Event.{Event}
 use Rattle.world_runs.specs.declared.event.Event.TheVariants.{Began, Refused, Acted, Ended, Stopped, Failed, Dumped}
-use Rattle.world_runs.specs.Moments.{Moment, opening, CanBegin, after, after_all, RunFrom, IsWorldRun}
+use Rattle.world_runs.specs.Moments.{WorldState, opening, CanBegin, after, after_all, RunFrom, IsWorldRun}
 use Rattle.world_runs.specs.TreeSteps.{tree_steps, tree_after}
 use Rattle.world_runs.specs.Report.{transactions, report, report_after, answer_line, client_name}
 use Rattle.world_runs.specs.Follows.{Acts, IsEndOf, EndsAfter, BeginsAndEnds, DoesLine, Busy, none_busy, with_busy, FollowsFrom, Follows, NoneFails}
@@ -30,7 +30,7 @@ use Rattle.tree_runs.proofs.Comes.{Stands, Comes, Goes, look_goes, create_goes}
 -- ---- transactions alone
 
 -- they change no number
-pub acts_numbers : (m : Moment) (op : OpId) (n : ℕ) (es : List Event) (a : ℕ) → Acts op n es → ((after_all m es).actors a).number ≡ (m.actors a).number
+pub acts_numbers : (m : WorldState) (op : OpId) (n : ℕ) (es : List Event) (a : ℕ) → Acts op n es → ((after_all m es).actors a).number ≡ (m.actors a).number
 acts_numbers m op n [] a acts = refl
 acts_numbers m op n (Acted o q x ∷ es) a acts =
     acts_numbers (after m (Acted o q x)) op (acts.1).0 es a (acts.1).2 ∙ actor_cases (λ st. st.number ≡ (m.actors a).number) m.actors o.actor _ a (λ e. rw e refl) (λ d. refl)
@@ -70,7 +70,7 @@ acts_count op n (Dumped ∷ es) acts = absurd acts
 -- ---- a command
 
 -- as the tree plays it
-command_goes : (m : Moment) (t : Tree) (op : OpId) (c : Command) (own number : ℕ) → op.actor ≡ 1 → IsPlayed c → Stands m t op c own (first_phase c)
+command_goes : (m : WorldState) (t : Tree) (op : OpId) (c : Command) (own number : ℕ) → op.actor ≡ 1 → IsPlayed c → Stands m t op c own (first_phase c)
     → Goes m t op (played t own number c) (played t own number c).transactions
 command_goes m t op (commands.Look (n ∷ [])) own number one is st = look_goes m t op (commands.Look (n ∷ [])) own root n refl st
 command_goes m t op (commands.Create (n ∷ [])) own number one is st =
@@ -79,14 +79,14 @@ command_goes m t op (commands.Create (n ∷ [])) own number one is st =
 command_goes m t op c own number one is st = absurd is
 
 -- between two commands: what stood in the history so far has no transaction of a later op
-record Rests (m : Moment) (t : Tree) (before : List Event) (own number : ℕ) : Type 0 where
+record Rests (m : WorldState) (t : Tree) (before : List Event) (own number : ℕ) : Type 0 where
   tracks : Tracks m t
   quiet : Quiet m before
   serial : (m.actors 1).serial ≡ own
   count : (m.actors 1).number ≡ number
 
 -- the events of a line
-module _ (counts : Counts) (clients : List (List ℕ)) (m : Moment) (t : Tree) (before : List Event) (own number : ℕ) (rests : Rests m t before own number)
+module _ (counts : Counts) (clients : List (List ℕ)) (m : WorldState) (t : Tree) (before : List Event) (own number : ℕ) (rests : Rests m t before own number)
     (op : OpId) (c : Command) (one : op.actor ≡ 1) (is : IsPlayed c) (front : List Event) (n : ℕ) (a : Answer) (acts : Acts op n front)
     (run : RunFrom m (Began op c ∷ front ++ Ended op a ∷ [])) where
   -- what the tree plays
@@ -98,7 +98,7 @@ module _ (counts : Counts) (clients : List (List ℕ)) (m : Moment) (t : Tree) (
   part = Began op c ∷ front ++ Ended op a ∷ []
 
   -- the moment after it began
-  abbrev mid : Moment
+  abbrev mid : WorldState
   mid = after m (Began op c)
 
   -- the history once it began
@@ -145,7 +145,7 @@ module _ (counts : Counts) (clients : List (List ℕ)) (m : Moment) (t : Tree) (
   tree_now : tree_after t (tree_steps part) ≡ p.tree
   tree_now = ap (tree_after t) (tree_steps-append front (Ended op a ∷ []) ∙ append-nil (tree_steps front)) ∙ comes.tree
 
-  last : Moment
+  last : WorldState
   last = after_all mid front
 
   ended : after_all m part ≡ after last (Ended op a)
@@ -154,11 +154,11 @@ module _ (counts : Counts) (clients : List (List ℕ)) (m : Moment) (t : Tree) (
 
   serial_now : ((after_all m part).actors 1).serial ≡ p.serial
   unfolding last
-  serial_now = ap (λ (z : Moment). (z.actors 1).serial) ended ∙ subst (λ (i : ℕ). ((after last (Ended op a)).actors i).serial ≡ p.serial) one (rw same_actor comes.serial)
+  serial_now = ap (λ (z : WorldState). (z.actors 1).serial) ended ∙ subst (λ (i : ℕ). ((after last (Ended op a)).actors i).serial ≡ p.serial) one (rw same_actor comes.serial)
 
   count_after : ((after_all m part).actors 1).number ≡ number + 1
   unfolding last
-  count_after = ap (λ (z : Moment). (z.actors 1).number) ended ∙ subst (λ (i : ℕ). ((after last (Ended op a)).actors i).number ≡ number + 1) one (rw same_actor (acts_numbers mid op n front op.actor acts ∙ rw same_actor number_now))
+  count_after = ap (λ (z : WorldState). (z.actors 1).number) ended ∙ subst (λ (i : ℕ). ((after last (Ended op a)).actors i).number ≡ number + 1) one (rw same_actor (acts_numbers mid op n front op.actor acts ∙ rw same_actor number_now))
 
   rests_after : Rests (after_all m part) p.tree (before ++ part) p.serial (number + 1)
   rests_after = record {
@@ -173,10 +173,10 @@ module _ (counts : Counts) (clients : List (List ℕ)) (m : Moment) (t : Tree) (
 -- the lines of the commands are those of the tree, from each moment between two commands
 abbrev LinesAgree : Counts → List (List ℕ) → List ℕ → List Command → Type 0
 LinesAgree counts clients client cs =
-    (m : Moment) (t : Tree) (before es : List Event) (own number : ℕ) (busy : Busy) → Rests m t before own number → busy 1 ≡ None → AllByRecursion IsPlayed cs
+    (m : WorldState) (t : Tree) (before es : List Event) (own number : ℕ) (busy : Busy) → Rests m t before own number → busy 1 ≡ None → AllByRecursion IsPlayed cs
     → RunFrom m es → NoneFails es → FollowsFrom busy (session_script client cs) es → report_after counts clients before es ≡ session_lines clients t own number cs
 
-module _ (counts : Counts) (clients : List (List ℕ)) (client : List ℕ) (c : Command) (cs : List Command) (others : LinesAgree counts clients client cs) (m : Moment) (t : Tree) (before es : List Event) (own number : ℕ)
+module _ (counts : Counts) (clients : List (List ℕ)) (client : List ℕ) (c : Command) (cs : List Command) (others : LinesAgree counts clients client cs) (m : WorldState) (t : Tree) (before es : List Event) (own number : ℕ)
     (busy : Busy) (rests : Rests m t before own number) (all : AllByRecursion IsPlayed (c ∷ cs)) (run : RunFrom m es) (none : NoneFails es) where
   -- the lines from here on are those of the tree
   abbrev Agrees : Type 0

@@ -26,10 +26,10 @@ use Rattle.tree_model.specs.declared.step.Shown.TheVariants as shown
 use Rattle.tree_model.specs.declared.step.TreeReply.{TreeReply}
 use Rattle.tree_model.specs.declared.step.TreeReply.TheVariants.{Ok, Refused}
 use Rattle.tree_model.specs.Tree.{Tree, tree_reply, opening_tree, is_ok}
-use Rattle.op_names.specs.declared.program.Phase.{Phase}
-use Rattle.op_names.specs.declared.program.Phase.TheVariants.{Walk, Bind, Grant, Swap, Release, End}
-use Rattle.op_names.specs.Paths.{last_name}
-use Rattle.op_names.specs.Programs.{root, way, last, refusal, walked, source_heard, then_release, bound_heard, swapped_heard}
+use Rattle.program_rules.specs.declared.program.Phase.{Phase}
+use Rattle.program_rules.specs.declared.program.Phase.TheVariants.{Walk, Bind, Grant, Swap, Release, End}
+use Rattle.program_rules.specs.Paths.{last_name}
+use Rattle.program_rules.specs.Programs.{root, way, last, refusal, walked, source_heard, then_release, bound_heard, swapped_heard}
 use Rattle.world_runs.specs.TreeSteps.{Told, told_as, says, tree_after, where_refused, IsTreeRun}
 use Rattle.world_runs.specs.Points.{of_op, Walked, Seen, refused_answer, done_answer, StopsWalk, Finds, Lists, FindsSource, IsRefusal, Decides, Point, LacksName}
 use Rattle.tree_runs.proofs.Replies.{why_of, RefusesSo}

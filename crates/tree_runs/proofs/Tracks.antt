@@ -16,12 +16,12 @@ use Rattle.tree_model.specs.declared.step.TreeStep.TheVariants as step
 use Rattle.tree_model.specs.declared.step.TreeReply.{TreeReply}
 use Rattle.tree_model.specs.declared.step.TreeReply.TheVariants.{Ok, Refused}
 use Rattle.tree_model.specs.Tree.{Tree, opening_tree, tree_next, tree_change}
-use Rattle.op_names.specs.declared.program.Phase.{Phase}
-use Rattle.op_names.specs.declared.program.Phase.TheVariants.{Walk, Bind, Grant, Swap, Release, End}
-use Rattle.op_names.specs.declared.program.Program.{Program}
-use Rattle.op_names.specs.Paths.{last_name}
-use Rattle.op_names.specs.Programs.{object_number, new_path}
-use Rattle.world_runs.specs.Moments.{Actor, Moment, opening}
+use Rattle.program_rules.specs.declared.program.Phase.{Phase}
+use Rattle.program_rules.specs.declared.program.Phase.TheVariants.{Walk, Bind, Grant, Swap, Release, End}
+use Rattle.program_rules.specs.declared.program.Program.{Program}
+use Rattle.program_rules.specs.Paths.{last_name}
+use Rattle.program_rules.specs.Programs.{object_number, new_path}
+use Rattle.world_runs.specs.Moments.{Actor, WorldState, opening}
 use Rattle.tree_runs.specs.MapValues.{map_values}
 use Rattle.tree_runs.specs.View.{Made, view, Shows, AllMade, shown_dir, shown_file, shown_entry}
 use Rattle.tree_runs.proofs.ValuesSeen.{get-map_values, dir_put}
@@ -62,7 +62,7 @@ Knows a number serial None = Unit {0}
 Knows a number serial (Some p) = (1 ≤ a) × (p.op.actor ≡ a) × (p.op.number ≡ number) × PhaseKnows number serial p.command p.phase
 
 -- the moment shows the tree, and its actors keep their numbers
-pub record Tracks (m : Moment) (t : Tree) : Type 0 where
+pub record Tracks (m : WorldState) (t : Tree) : Type 0 where
   pub shown : Shows m.store t
   pub made : TreeMade t
   pub fresh : (a : ℕ) → 1 ≤ a → Fresh t.made a (m.actors a).serial

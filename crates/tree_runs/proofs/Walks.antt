@@ -14,7 +14,7 @@ use Rattle.tree_model.specs.declared.step.Shown.TheVariants as shown
 use Rattle.tree_model.specs.declared.step.TreeReply.{TreeReply}
 use Rattle.tree_model.specs.declared.step.TreeReply.TheVariants.{Ok}
 use Rattle.tree_model.specs.Tree.{tree_reply, opening_tree}
-use Rattle.op_names.specs.Programs.{root, way}
+use Rattle.program_rules.specs.Programs.{root, way}
 use Rattle.world_runs.specs.TreeSteps.{Told, told_as, tree_after}
 use Rattle.world_runs.specs.Points.{of_op, Walked, Seen, DecidesAt, Point}
 

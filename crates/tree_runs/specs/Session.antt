@@ -22,7 +22,7 @@ use Rattle.tree_model.specs.declared.step.Shown.TheVariants as shown
 use Rattle.tree_model.specs.declared.step.TreeReply.{TreeReply}
 use Rattle.tree_model.specs.declared.step.TreeReply.TheVariants.{Ok, Refused}
 use Rattle.tree_model.specs.Tree.{Tree, tree_reply, tree_next}
-use Rattle.op_names.specs.Programs.{root, object_number}
+use Rattle.program_rules.specs.Programs.{root, object_number}
 use Rattle.world_runs.specs.Points.{refused_answer, done_answer}
 use Rattle.world_runs.specs.Report.{client_name}
 

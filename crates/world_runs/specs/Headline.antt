@@ -8,8 +8,8 @@ use Rattle.tect_ids.specs.Keys.{op_eq}
 use Rattle.tree_model.specs.Tree.{opening_tree}
 use Rattle.world_runs.specs.declared.event.Event.{Event}
 use Rattle.world_runs.specs.declared.event.Event.TheVariants.{Began, Refused, Acted, Ended, Stopped, Failed, Dumped}
-use Rattle.world_runs.specs.Moments.{no_room}
-use Rattle.world_runs.specs.TreeSteps.{Told, tree_steps, IsTreeRun}
+use Rattle.program_rules.specs.Lacks.{no_room}
+use Rattle.world_runs.specs.TreeSteps.{tree_steps, IsTreeRun}
 use Rattle.world_runs.specs.Points.{of_op, Point, LacksName}
 
 abbrev pub begun_by : Event → OpId → Option Command

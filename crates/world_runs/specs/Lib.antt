@@ -8,3 +8,12 @@ pub mod Follows
 pub mod Turns
 pub mod Report
 pub mod Races
+pub mod Standing
+pub mod Smooth
+pub mod Playable
+pub mod Events
+pub mod OwnRuns
+pub mod Limits
+pub mod Woven
+pub mod ClientLines
+pub mod PartReports

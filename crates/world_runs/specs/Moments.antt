@@ -4,16 +4,16 @@ use Rattle.tect_ids.specs.declared.ids.Counts.{Counts}
 use Rattle.tect_ids.specs.declared.ids.OpId.{OpId}
 use Rattle.tect_ids.specs.declared.command.Command.{Command}
 use Rattle.tect_ids.specs.declared.answer.Answer.{Answer}
-use Rattle.tect_ids.specs.declared.answer.Answer.TheVariants as answers
 use Rattle.tect_ids.specs.Keys.{op_eq}
 use Rattle.store_rules.specs.declared.any.AnyReq.{AnyReq}
 use Rattle.store_rules.specs.declared.any.AnyReply.{AnyReply}
 use Rattle.store_rules.specs.Places.{request_place}
 use Rattle.store_rules.specs.Store.{Store, opening_store, store_reply, store_step}
 use Rattle.store_rules.specs.Views.{is_made}
-use Rattle.op_names.specs.declared.program.Phase.TheVariants.{End}
-use Rattle.op_names.specs.declared.program.Program.{Program}
-use Rattle.op_names.specs.Programs.{object_number, phase_ask, phase_hear, phase_answer, started}
+use Rattle.program_rules.specs.declared.program.Phase.TheVariants.{End}
+use Rattle.program_rules.specs.declared.program.Program.{Program}
+use Rattle.program_rules.specs.Lacks.{no_room, IsLack}
+use Rattle.program_rules.specs.Programs.{object_number, phase_ask, phase_hear, phase_answer, started}
 use Rattle.world_runs.specs.declared.event.Event.{Event}
 use Rattle.world_runs.specs.declared.event.Event.TheVariants.{Began, Refused, Acted, Ended, Stopped, Failed, Dumped}
 use Rattle.world_runs.specs.Served.{IsServed}
@@ -25,7 +25,7 @@ pub record Actor : Type 0 where
   pub stopped : Bool
   pub running : Option Program
 
-pub record Moment : Type 0 where
+pub record WorldState : Type 0 where
   pub counts : Counts
   pub store : Store
   pub actors : ℕ → Actor
@@ -34,11 +34,11 @@ abbrev pub idle_actor : Actor
 idle_actor = record { number = 0; serial = 1; stopped = false; running = None }
 
 -- before anything was done: the root alone, and idle actors
-abbrev pub opening : Counts → Moment
+abbrev pub opening : Counts → WorldState
 opening counts = record { counts = counts; store = opening_store; actors = λ a. idle_actor }
 
 -- the moment with that actor in this state
-abbrev pub with_actor : Moment → ℕ → Actor → Moment
+abbrev pub with_actor : WorldState → ℕ → Actor → WorldState
 with_actor m a state = record m { actors = λ b. if eqb b a then state else m.actors b }
 
 -- the program that runs as that op
@@ -46,7 +46,7 @@ abbrev pub program_of : Option Program → OpId → Option Program
 program_of None op = None
 program_of (Some p) op = if op_eq p.op op then Some p else None
 
-abbrev pub running : Moment → OpId → Option Program
+abbrev pub running : WorldState → OpId → Option Program
 running m op = program_of (m.actors op.actor).running op
 
 -- the request that the op makes next
@@ -54,7 +54,7 @@ abbrev pub program_ask : ℕ → Option Program → Option AnyReq
 program_ask serial None = None
 program_ask serial (Some p) = phase_ask p.op (object_number p.op.actor serial) p.command p.phase
 
-abbrev pub asked : Moment → OpId → Option AnyReq
+abbrev pub asked : WorldState → OpId → Option AnyReq
 asked m op = program_ask (m.actors op.actor).serial (running m op)
 
 -- the answer that the op has come to
@@ -62,7 +62,7 @@ abbrev pub program_answer : Option Program → Option Answer
 program_answer None = None
 program_answer (Some p) = phase_answer p.phase
 
-abbrev pub answered : Moment → OpId → Option Answer
+abbrev pub answered : WorldState → OpId → Option Answer
 answered m op = program_answer (running m op)
 
 -- the op is the actor's next, and the actor is idle
@@ -73,18 +73,8 @@ pub record CanBegin (a : Actor) (op : OpId) : Type 0 where
   pub few : op.number < 2 ^ 31
   pub is_actor : (1 ≤ op.actor) × (op.actor ≤ 65)
 
--- the answer of an op whose actor had no room to note its begin: no place is numbered 256
-abbrev pub no_room : Answer
-no_room = answers.HistoryFull (record { 0 = 256 })
-
--- the answer of a command that ends for want of memory, or of room in its actor's own history
-abbrev pub IsLack : Answer → Type 0
-IsLack answers.NoMemory = Unit {0}
-IsLack (answers.HistoryFull p) = Unit {0}
-IsLack _ = ⊥
-
 -- What may happen at a moment. Memory may be wanting at any, and room in an actor's own history.
-abbrev pub May : Moment → Event → Type 0
+abbrev pub May : WorldState → Event → Type 0
 May m (Began op c) = CanBegin (m.actors op.actor) op × IsServed c
 May m (Refused op c) = CanBegin (m.actors op.actor) op × IsServed c
 May m (Acted op q x) = (asked m op ≡ Some q) × (x ≡ store_reply m.store q)
@@ -114,7 +104,7 @@ abbrev pub went_on : Counts → Actor → AnyReq → AnyReply → Actor
 went_on counts a q x = record a { serial = next_serial a.serial x; running = heard counts a.serial q x a.running }
 
 -- the moment after an event
-abbrev pub after : Moment → Event → Moment
+abbrev pub after : WorldState → Event → WorldState
 after m (Began op c) = with_actor m op.actor (begun (m.actors op.actor) op c)
 after m (Refused op c) = with_actor m op.actor (refused (m.actors op.actor) op c)
 after m (Acted op q x) = with_actor (record m { store = store_step m.store q }) op.actor (went_on m.counts (m.actors op.actor) q x)
@@ -123,12 +113,12 @@ after m (Stopped op) = with_actor m op.actor (record (m.actors op.actor) { runni
 after m (Failed op a) = with_actor m op.actor (record (m.actors op.actor) { running = None })
 after m Dumped = m
 
-abbrev pub after_all : Moment → List Event → Moment
+abbrev pub after_all : WorldState → List Event → WorldState
 after_all m [] = m
 after_all m (e ∷ es) = after_all (after m e) es
 
 -- each event may happen at the moment after those before it
-abbrev pub RunFrom : Moment → List Event → Type 0
+abbrev pub RunFrom : WorldState → List Event → Type 0
 RunFrom m [] = Unit {0}
 RunFrom m (e ∷ es) = May m e × RunFrom (after m e) es
 
@@ -137,9 +127,9 @@ abbrev pub IsWorldRun : Counts → List Event → Type 0
 IsWorldRun counts events = RunFrom (opening counts) events
 
 -- the moment after a history
-abbrev pub moment : Counts → List Event → Moment
+abbrev pub moment : Counts → List Event → WorldState
 moment counts events = after_all (opening counts) events
 
 -- so it is at each moment of a history, the first and the last among them
-abbrev pub AtEachMoment : (Moment → Type 0) → Counts → List Event → Type 0
+abbrev pub AtEachMoment : (WorldState → Type 0) → Counts → List Event → Type 0
 AtEachMoment P counts events = (n : ℕ) → P (moment counts (take n events))

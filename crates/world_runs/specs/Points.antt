@@ -1,11 +1,10 @@
 -- The point of a command: the step of the small machine at which its answer is decided.
-use Rattle.std.specs.Prelude.{◌≡◌, ℕ, Bool, true, false, if◌then◌else◌, Option, Some, None, List, [], ◌∷◌, ◌++◌, ◌⊎◌}
+use Rattle.std.specs.Prelude.{◌≡◌, ℕ, if◌then◌else◌, List, [], ◌∷◌, ◌++◌, ◌⊎◌}
 use Rattle.tect_ids.specs.declared.ids.DirId.{DirId}
 use Rattle.tect_ids.specs.declared.ids.Node.{Node}
 use Rattle.tect_ids.specs.declared.ids.Node.TheVariants.{Dir, File}
 use Rattle.tect_ids.specs.declared.ids.OpId.{OpId}
 use Rattle.tect_ids.specs.declared.key.Key.{Key}
-use Rattle.tect_ids.specs.declared.values.Over.{Over}
 use Rattle.tect_ids.specs.declared.values.Over.TheVariants as over
 use Rattle.tect_ids.specs.declared.values.Want.TheVariants.{AnyFile}
 use Rattle.tect_ids.specs.declared.command.Command.{Command}
@@ -16,15 +15,14 @@ use Rattle.tect_ids.specs.Keys.{op_eq}
 use Rattle.store_rules.specs.Names.{key_in}
 use Rattle.tree_model.specs.declared.step.TreeStep.{TreeStep}
 use Rattle.tree_model.specs.declared.step.TreeStep.TheVariants as step
-use Rattle.tree_model.specs.declared.step.Shown.{Shown}
 use Rattle.tree_model.specs.declared.step.Shown.TheVariants as shown
 use Rattle.tree_model.specs.declared.step.Refusal.{Refusal}
 use Rattle.tree_model.specs.declared.step.Refusal.TheVariants as refusal
 use Rattle.tree_model.specs.declared.step.TreeReply.{TreeReply}
 use Rattle.tree_model.specs.declared.step.TreeReply.TheVariants.{Ok, Refused}
 use Rattle.tree_model.specs.Tree.{tree_reply, opening_tree}
-use Rattle.op_names.specs.Paths.{last_name}
-use Rattle.op_names.specs.Programs.{root, way}
+use Rattle.program_rules.specs.Paths.{last_name}
+use Rattle.program_rules.specs.Programs.{root, way}
 use Rattle.world_runs.specs.TreeSteps.{Told, tree_after}
 
 -- the steps of one op

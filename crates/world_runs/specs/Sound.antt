@@ -1,6 +1,6 @@
 -- When a store is sound: each entry's node stands and lists the entry's hold, with that entry's key; no hold is bound twice;
 -- at most one entry names a directory or file.
-use Rattle.std.specs.Prelude.{◌≡◌, Option, Some, None}
+use Rattle.std.specs.Prelude.{◌≡◌, Option, Some}
 use Rattle.std.specs.FinMap.{get}
 use Rattle.tect_ids.specs.declared.ids.Hold.{Hold}
 use Rattle.tect_ids.specs.declared.ids.Node.{Node}
@@ -12,7 +12,7 @@ use Rattle.store_rules.specs.declared.names.Entry.{Entry}
 use Rattle.store_rules.specs.Names.{dir_lists}
 use Rattle.store_rules.specs.Files.{file_lists}
 use Rattle.store_rules.specs.Store.{Store}
-use Rattle.world_runs.specs.Moments.{Moment}
+use Rattle.world_runs.specs.Moments.{WorldState}
 
 -- what the node lists the hold for; nothing where the node does not stand
 abbrev pub lists : Store → Node → Hold → Option Upper
@@ -24,5 +24,5 @@ pub record IsSoundStore (s : Store) : Type 0 where
   pub bound_once : (k l : Key) (e d : Entry) → get s.names.entries k ≡ Some e → get s.names.entries l ≡ Some d → e.hold ≡ d.hold → k ≡ l
   pub named_once : (k l : Key) (e d : Entry) → get s.names.entries k ≡ Some e → get s.names.entries l ≡ Some d → e.node ≡ d.node → k ≡ l
 
-abbrev pub IsSound : Moment → Type 0
+abbrev pub IsSound : WorldState → Type 0
 IsSound m = IsSoundStore m.store

@@ -1,8 +1,6 @@
 -- The steps of the small machine in a history: the requests that are visible changes or readings of the tree, with what
 -- was replied.
-use Rattle.std.specs.Prelude.{◌≡◌, Option, Some, None, List, [], ◌∷◌, ◌++◌}
-use Rattle.tect_ids.specs.declared.ids.DirId.{DirId}
-use Rattle.tect_ids.specs.declared.ids.FileId.{FileId}
+use Rattle.std.specs.Prelude.{Option, Some, None, List, [], ◌∷◌, ◌++◌}
 use Rattle.tect_ids.specs.declared.ids.OpId.{OpId}
 use Rattle.store_rules.specs.declared.names.NameReq.{NameReq}
 use Rattle.store_rules.specs.declared.names.NameReq.TheVariants as names
@@ -22,7 +20,7 @@ use Rattle.tree_model.specs.declared.step.Shown.TheVariants as shown
 use Rattle.tree_model.specs.declared.step.Refusal.TheVariants.{NoDir, NoName, NoFile, Exists, IsDir, Sealed, Full, Changed}
 use Rattle.tree_model.specs.declared.step.TreeReply.{TreeReply}
 use Rattle.tree_model.specs.declared.step.TreeReply.TheVariants.{Ok, Refused}
-use Rattle.tree_model.specs.Tree.{Tree, Allowed, opening_tree, tree_next}
+use Rattle.tree_model.specs.Tree.{Tree, Allowed, tree_next}
 use Rattle.world_runs.specs.declared.event.Event.{Event}
 use Rattle.world_runs.specs.declared.event.Event.TheVariants.{Began, Refused as refusal, Acted, Ended, Stopped, Failed, Dumped}
 

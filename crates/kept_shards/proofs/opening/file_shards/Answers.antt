@@ -3,7 +3,7 @@ use Rattle.std.proofs.lemmas.List.{map-append, replicate-append-replicate}
 use Rattle.place_kit.specs.declared.any.AnyKept.{AnyKept}
 use Rattle.place_kit.specs.declared.any.AnyKept.TheVariants.{File}
 use Rattle.std.specs.FinMap.{empty}
-use Rattle.place_kit.specs.declared.entry.Entry.{Entry}
+use Rattle.entry_words.specs.declared.entry.Entry.{Entry}
 use Rattle.place_kit.specs.Logged.{Logged}
 use Rattle.store_rules.specs.Files.{Files}
 use Rattle.kept_shards.specs.Opening.{AreNew}

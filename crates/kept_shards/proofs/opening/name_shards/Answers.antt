@@ -2,7 +2,7 @@ use Rattle.std.proofs.Common.{◌≡◌, ◌+◌, arith, ◌++◌, ◌∷◌, []
 use Rattle.std.proofs.lemmas.List.{map-append}
 use Rattle.place_kit.specs.declared.any.AnyKept.{AnyKept}
 use Rattle.place_kit.specs.declared.any.AnyKept.TheVariants.{Name}
-use Rattle.place_kit.specs.declared.entry.Entry.{Entry}
+use Rattle.entry_words.specs.declared.entry.Entry.{Entry}
 use Rattle.place_kit.specs.Logged.{Logged}
 use Rattle.store_rules.specs.Names.{Names}
 use Rattle.all_shards.specs.Opening.{IsOpening}

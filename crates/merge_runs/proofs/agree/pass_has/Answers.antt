@@ -1,7 +1,7 @@
 use Rattle.std.proofs.Common.{rules}
 use Rattle.std.proofs.lemmas.List.Sorted.{answers_always}
-use Rattle.place_kit.specs.declared.entry.Moment.TheVariants.{Act}
-use Rattle.place_kit.specs.Moments.{stamp_of}
+use Rattle.entry_words.specs.declared.entry.Moment.TheVariants.{Act}
+use Rattle.entry_words.specs.Moments.{stamp_of}
 use Rattle.merge_runs.proofs.Search.{Climbs, climbs_trail, ok_element, err_answer}
 use Rattle.merge_runs.proofs.agree.pass_has.Goals as goal
 

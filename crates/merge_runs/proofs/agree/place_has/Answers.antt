@@ -1,6 +1,6 @@
 use Rattle.std.proofs.Common.{rules}
 use Rattle.std.proofs.lemmas.List.Sorted.{answers_always}
-use Rattle.place_kit.specs.declared.entry.Entry.{Entry}
+use Rattle.entry_words.specs.declared.entry.Entry.{Entry}
 use Rattle.merge_runs.proofs.Search.{Climbs, climbs_kept, ok_element, err_answer}
 use Rattle.merge_runs.proofs.agree.place_has.Goals as goal
 

@@ -3,7 +3,7 @@ use Rattle.std.specs.List.{flat_map}
 use Rattle.std.specs.List.Sorted.{IsPermutation}
 use Rattle.std.proofs.lemmas.List.Sorted.{answers_always}
 use Rattle.std.proofs.lemmas.Result.{IfOk-weaker}
-use Rattle.place_kit.specs.declared.entry.Moment.{Moment}
+use Rattle.entry_words.specs.declared.entry.Moment.{Moment}
 use Rattle.merge_runs.specs.declared.keyed.Keyed.{Keyed}
 use Rattle.merge_runs.specs.Keyed.{moment_in, key_in}
 use Rattle.merge_runs.specs.Merged.{moments_of, IsInOrder}

@@ -1,5 +1,5 @@
 use Rattle.std.proofs.Common.{arith, ap, length, List}
-use Rattle.place_kit.specs.declared.entry.Moment.{Moment}
+use Rattle.entry_words.specs.declared.entry.Moment.{Moment}
 use Rattle.merge_runs.proofs.Trails.{not_at}
 use Rattle.merge_runs.proofs.Splits.{entry_found}
 use Rattle.merge_runs.proofs.split.entry_at.Goals as goal

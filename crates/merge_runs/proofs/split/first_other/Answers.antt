@@ -1,5 +1,5 @@
 use Rattle.std.proofs.Common.{arith, subst, List}
-use Rattle.place_kit.specs.declared.entry.Entry.{Entry}
+use Rattle.entry_words.specs.declared.entry.Entry.{Entry}
 use Rattle.place_kit.specs.Kept.{history_of}
 use Rattle.merge_runs.specs.Splits.{IsFirst, IsOther}
 use Rattle.merge_runs.proofs.Firsts.{first_flat, none_flat}

@@ -1,5 +1,5 @@
 use Rattle.std.proofs.Common.{Option}
-use Rattle.place_kit.specs.declared.entry.Entry.{Entry}
+use Rattle.entry_words.specs.declared.entry.Entry.{Entry}
 use Rattle.merge_runs.specs.Splits.{IsInPass, IsInPlace}
 use Rattle.merge_runs.proofs.Matches.{match_copied}
 use Rattle.merge_runs.proofs.Splits.{apart_differs}

@@ -1,7 +1,7 @@
 use Rattle.std.proofs.Common.{◌≡◌, ◌<◌, List, length, map, take, sym, ap, ◌∙◌, subst, arith}
 use Rattle.std.proofs.lemmas.List.{drop_all, length-map, take_all}
-use Rattle.place_kit.specs.declared.entry.Moment.{Moment}
-use Rattle.place_kit.specs.Moments.{stamp_of}
+use Rattle.entry_words.specs.declared.entry.Moment.{Moment}
+use Rattle.entry_words.specs.Moments.{stamp_of}
 use Rattle.all_shards.proofs.Lent.{read_map}
 use Rattle.race_runs.proofs.Timing.{AllUpTo}
 use Rattle.race_ends.proofs.Replays.{after_all, all_are_early, early_are, late_are, next_early, next_shards, none_is_late}

@@ -1,6 +1,6 @@
 use Rattle.std.proofs.Common.{◌≡◌, map, take}
-use Rattle.noted_runs.specs.Events.{events_of}
-use Rattle.noted_runs.specs.OwnRuns.{stored_after}
+use Rattle.world_runs.specs.Events.{events_of}
+use Rattle.world_runs.specs.OwnRuns.{stored_after}
 use Rattle.race_runs.proofs.Timing.{AllUpTo}
 use Rattle.race_ends.proofs.replay.redo_up_to.Given as goal
 

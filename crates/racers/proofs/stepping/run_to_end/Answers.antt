@@ -1,7 +1,8 @@
 use Rattle.std.proofs.Common.{refl, ◌+◌, ◌∙◌, sym, subst}
 use Rattle.std.proofs.lemmas.Result.{err_from_is_err_and}
 use Rattle.clients.specs.Steps.{OwnStep}
-use Rattle.racers.proofs.Going.{stepped_none, stepped_more, stepped_end, stepped_counts, stepped_nearer}
+use Rattle.racers.proofs.Going.{stepped_none, stepped_more, stepped_end, stepped_counts}
+use Rattle.clients.proofs.Following.{step_nearer}
 use Rattle.racers.proofs.stepping.run_to_end.Goals as goal
 
 pub steps-init : goal.steps-init
@@ -20,9 +21,8 @@ returns-in-Done-clause-end g c =
 pub steps-smaller : goal.steps-smaller
 steps-smaller g c =
     let done = g.C.Commits.done in
-    let had = c.steps.invariant.2 in
     let step = subst (OwnStep done c.steps.at c.step.new.at c.steps.client c.step.new.self) c.in-Going.is c.in_ok-step.ensures.step in
-    stepped_nearer done c.steps.at c.step.new.at had.0 c.args.client.now c.steps.client c.step.new.self had.1 step
+    step_nearer done c.steps.at c.step.new.at c.steps.client c.step.new.self c.in_ok-step.ensures.life step
 
 pub steps-preserved : goal.steps-preserved
 steps-preserved g c =

@@ -1,6 +1,5 @@
 use Rattle.std.proofs.Common.{◌≡◌, ℕ}
-use Rattle.clients.specs.Lives.{state_in}
-use Rattle.racers.proofs.OneStep.{left_of}
+use Rattle.clients.specs.Lives.{left_in}
 use Rattle.racers.proofs.Going.{HasStepped}
 use Rattle.racers.proofs.stepping.run_to_end.Given as goal
 
@@ -8,4 +7,4 @@ abbrev pub invariant-steps : goal.invariant-steps
 invariant-steps g l = (g.C.Commits.counts l.at ≡ l.client.counts) × (g.C.Commits.counts l.at ≡ g.C.Commits.counts l.initial.at) × ((n : ℕ) × HasStepped n l.initial.client l.client)
 
 abbrev pub decreases-steps : goal.decreases-steps
-decreases-steps g l = left_of (state_in l.client).running
+decreases-steps g l = left_in l.client

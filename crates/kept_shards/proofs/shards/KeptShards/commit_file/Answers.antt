@@ -4,8 +4,8 @@ use Rattle.store_rules.specs.Places.{request_place}
 use Rattle.store_rules.specs.declared.any.AnyReq.TheVariants as any
 use Rattle.store_rules.specs.declared.any.AnyReply.TheVariants as reply_of
 use Rattle.place_kit.specs.declared.any.AnyKept.TheVariants.{Name, File}
-use Rattle.place_kit.specs.declared.entry.Label.{Label}
-use Rattle.place_kit.specs.declared.entry.Refused.TheVariants.{HistoryFull}
+use Rattle.entry_words.specs.declared.entry.Label.{Label}
+use Rattle.entry_words.specs.declared.entry.Refused.TheVariants.{HistoryFull}
 use Rattle.place_kit.specs.Commits.{IsFull}
 use Rattle.kept_shards.specs.KeptStore.{KeptStore}
 use Rattle.kept_shards.proofs.Committed.{file_keeps, file_label, file_failed, file_result, clock_is, first_err}

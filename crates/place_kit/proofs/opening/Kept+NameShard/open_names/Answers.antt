@@ -1,5 +1,5 @@
 use Rattle.std.proofs.Common.{ap, sym, ◌∙◌, Bool, false}
-use Rattle.place_kit.specs.declared.entry.Label.{Label}
+use Rattle.entry_words.specs.declared.entry.Label.{Label}
 use Rattle.place_kit.specs.Machines.{has_root, name_opening}
 use Rattle.place_kit.proofs.Openings.{opens_so}
 use Rattle.place_kit.proofs.opening.Kept+NameShard.open_names.Goals as goal

@@ -1,5 +1,5 @@
 use Rattle.std.proofs.Common.{◌+◌}
-use Rattle.place_kit.specs.Moments.{op_of}
+use Rattle.entry_words.specs.Moments.{op_of}
 use Rattle.place_kit.proofs.Keeping.{ends_none, ends_cost, run_by}
 use Rattle.place_kit.proofs.pass.Pass.end.Goals as goal
 

@@ -1,5 +1,5 @@
 use Rattle.std.proofs.Common.{arith, ap}
-use Rattle.place_kit.specs.declared.entry.Moment.{Moment}
+use Rattle.entry_words.specs.declared.entry.Moment.{Moment}
 use Rattle.place_kit.specs.Logged.{Logged}
 use Rattle.place_kit.proofs.Keeping.{IsPass-room}
 use Rattle.place_kit.proofs.pass.Pass.lower.Goals as goal

@@ -1,5 +1,0 @@
-use Rattle.noted_runs.proofs.Replies.{places_reply}
-use Rattle.noted_runs.proofs.places_reply.Goals as goal
-
-pub returns : goal.returns
-returns c = places_reply

@@ -1,0 +1,114 @@
+ghost use Rattle.std.specs.Prelude.{◌≡◌, IfOk};
+ghost use Rattle.tect_calls.specs.Teaching.{taught};
+ghost use Rattle.op_names.specs.Carrying.{first, second, opening, upper_from, own_from, spent_in, given_up, lost_from, carried};
+
+use crate::shown::Shown;
+use program_rules::Phase;
+use std::alloc::Global;
+use store_rules::{AnyReply, AnyReq};
+use tect_calls::{Fact, Learned, Made, Spent, learn};
+use tect_ids::NoMemory;
+
+// The first two tokens.
+fn both(tokens: Vec<Fact>) -> (Option<Fact>, Option<Fact>)
+    ensures first { result.0 ≡ first tokens.items }
+    ensures second { result.1 ≡ second tokens.items }
+{
+    let mut tokens = tokens.into_iter();
+    let first = tokens.next();
+    let second = tokens.next();
+    (first, second)
+}
+
+// The tokens that a reply teaches: never more than two.
+pub(crate) fn facts_of(
+    alloc: Global,
+    req: &AnyReq,
+    reply: &AnyReply,
+) -> Result<(Option<Fact>, Option<Fact>), NoMemory>
+    ensures first { IfOk result (λ facts. facts.0 ≡ first (taught req.now reply.now)) }
+    ensures second { IfOk result (λ facts. facts.1 ≡ second (taught req.now reply.now)) }
+{
+    let Learned { tokens } = learn(alloc, req, reply)?;
+    Ok(both(tokens))
+}
+
+// The tokens of a command that begins.
+pub(crate) fn opening_of(phase: &Phase) -> Shown
+    ensures { result ≡ opening phase.now }
+{
+    match phase {
+        Phase::Walk { .. } => Shown::Upper(Made::root()),
+        _ => Shown::Nothing,
+    }
+}
+
+fn upper_of(had: Shown, fact: Option<Fact>) -> Shown
+    ensures { result ≡ upper_from had fact }
+{
+    match fact {
+        Some(Fact::Made(made)) => Shown::Upper(made),
+        _ => had,
+    }
+}
+
+fn own_of(had: Shown, fact: Option<Fact>) -> Shown
+    ensures { result ≡ own_from had fact }
+{
+    match fact {
+        Some(Fact::Granted(granted)) => Shown::Own(granted),
+        _ => had,
+    }
+}
+
+fn spent_of(fact: Option<Fact>) -> Option<Spent>
+    ensures { result ≡ spent_in fact }
+{
+    match fact {
+        Some(Fact::Spent(spent)) => Some(spent),
+        _ => None,
+    }
+}
+
+// The own hold is given up, or the other spent one comes next.
+fn give_up(had: Shown) -> Shown
+    ensures { result ≡ given_up had }
+{
+    match had {
+        Shown::Own(granted) => Shown::Lost {
+            hold: granted.give_up(),
+            old: None,
+        },
+        Shown::Lost {
+            old: Some(hold),
+            ..
+        } => Shown::Lost { hold, old: None },
+        _ => had,
+    }
+}
+
+fn lost_of(had: Shown, first: Option<Fact>, second: Option<Fact>) -> Shown
+    ensures { result ≡ lost_from had first second }
+{
+    match first {
+        Some(Fact::Spent(hold)) => Shown::Lost {
+            hold,
+            old: spent_of(second),
+        },
+        _ => give_up(had),
+    }
+}
+
+// The tokens of the next phase, from those that the phase before it held and those that the reply taught.
+pub(crate) fn carry(phase: &Phase, had: Shown, first: Option<Fact>, second: Option<Fact>) -> Shown
+    ensures { result ≡ carried phase.now had first second }
+{
+    match phase {
+        Phase::Walk { .. } => upper_of(had, first),
+        Phase::Bind { .. } => own_of(had, second),
+        Phase::Grant { .. } => had,
+        Phase::Swap { .. } => own_of(had, first),
+        Phase::Release { .. } => lost_of(had, first, second),
+        Phase::End { .. } => Shown::Nothing,
+    }
+}

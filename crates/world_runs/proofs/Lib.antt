@@ -1,0 +1,4 @@
+pub mod Actors
+pub mod Owns
+pub mod Limits
+pub mod OwnLines

@@ -1,0 +1,23 @@
+-- How the actors stand at a moment: the op that each is busy with, and what its turn tells of it.
+use Rattle.std.specs.Prelude.{◌≡◌, false, Option, Some, None}
+use Rattle.tect_ids.specs.declared.ids.OpId.{OpId}
+use Rattle.program_rules.specs.declared.program.Program.{Program}
+use Rattle.world_runs.specs.Moments.{Actor, WorldState}
+use Rattle.world_runs.specs.Follows.{Busy}
+use Rattle.world_runs.specs.Turns.{ClientTurn}
+use Rattle.world_runs.specs.Turns as turns
+
+-- the op of an actor's running command
+abbrev pub op_of : Option Program → Option OpId
+op_of None = None
+op_of (Some p) = Some p.op
+
+-- the ops that are busy at the moment, by actor
+abbrev pub busy_at : WorldState → Busy
+busy_at m actor = op_of (m.actors actor).running
+
+-- what its turn tells of an actor: whether it may go on, and whether its command has ended
+abbrev pub AtTurn : ClientTurn → Actor → Type 0
+AtTurn turns.Idle a = (a.running ≡ None) × (a.stopped ≡ false)
+AtTurn turns.Busy a = a.stopped ≡ false
+AtTurn turns.Gone a = a.running ≡ None
