@@ -26,12 +26,12 @@ use Rattle.world_runs.specs.OwnRuns.{own_state}
 use Rattle.world_runs.specs.Woven.{IsSilent}
 use Rattle.world_runs.proofs.Actors.{same_number}
 use Rattle.world_runs.proofs.Limits.{used-append}
-use Rattle.actors.specs.ActorState.{ActorState, op_of, next_op_of}
+use Rattle.clients.specs.ActorState.{ActorState, op_of, next_op_of}
 use Rattle.clients.specs.declared.client.Client.TheInside.{Inside}
 use Rattle.clients.specs.Lives.{events_in, RefusesNext}
 use Rattle.program_rules.specs.Asking.{op_running, WasRefused}
 use Rattle.clients.specs.Phases.{RunsIn}
-use Rattle.clients.specs.Inside.{life_of, IsFullOnce, IsClient}
+use Rattle.clients.specs.ClientInside.{life_of, IsFullOnce, IsClient}
 use Rattle.program_rules.proofs.Phases.{smooth_begins}
 use Rattle.clients.proofs.Growing.{quiet, count_other, program_own, some_op}
 use Rattle.clients.proofs.Weights.{pass_use, silent_cost}

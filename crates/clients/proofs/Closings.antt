@@ -14,16 +14,16 @@ use Rattle.place_kit.specs.declared.pass.Pass.{Pass}
 use Rattle.place_kit.specs.Commits as passes
 use Rattle.world_runs.specs.Moments.{Actor, begun}
 use Rattle.world_runs.specs.Served.{IsServed}
-use Rattle.actors.specs.ActorState.{ActorState, op_of, next_op_of}
-use Rattle.actors.specs.Turns.{turned_by}
+use Rattle.clients.specs.ActorState.{ActorState, op_of, next_op_of}
+use Rattle.clients.specs.Turns.{turned_by}
 use Rattle.clients.specs.declared.client.Client.TheInside.{Inside}
-use Rattle.clients.specs.declared.turns.Turn.{Turn}
+use Rattle.clients.specs.declared.steps.Step.{Step}
 use Rattle.clients.specs.Lives.{ClientLife, state_in, IsLife, RefusesNext}
-use Rattle.clients.specs.Inside.{life_of, IsClient}
+use Rattle.clients.specs.ClientInside.{life_of, IsClient}
 use Rattle.clients.specs.Steps.{OwnStep}
-use Rattle.clients.specs.Turns.{Finishes, TookTurn}
+use Rattle.clients.specs.PassSteps.{Finishes, TookStep}
 use Rattle.clients.proofs.Stages.{Stage}
-use Rattle.clients.proofs.OwnTurns.{life_at, turn_stage, turn_step}
+use Rattle.clients.proofs.OwnSteps.{life_at, step_stage, own_step}
 use Rattle.clients.proofs.Lives.{is_life, life_noted, stage_of, client_of}
 use Rattle.clients.proofs.Begins.{none_of, refuses, is_full, all_noted, begun_stage, stopped_stage}
 
@@ -86,7 +86,7 @@ module _ (a : Inside) (l : ClientLife) (is : IsClient a) (view : life_of a ≡ l
   pub noted_here : ¬ RefusesNext l → a.refused.items ≡ []
   noted_here room = all_noted a is (λ full. room (subst RefusesNext view full))
 
--- ---- a turn
+-- ---- a step
 
 finished_actor : (a b : ActorState) (p r : Pass) (answer : Option Answer) → Finishes a b p r answer → b.actor ≡ a.actor
 finished_actor a b p r None done = ap (λ (x : ActorState). x.actor) done.0
@@ -100,12 +100,12 @@ module _ {W : Type 0} (done : W → W → ℕ → AnyReq → Result Entry Refuse
   noted_after : b.refused.items ≡ []
   noted_after = ap (λ (x : _). x.items) refused ∙ noted_before
 
-  module _ (turn : Turn) (took : TookTurn done a.counts w v a.actor b.actor a.pass b.pass turn) where
-    pub turned_client : b.transactions ≡ a.transactions + turn.transactions → IsClient b
+  module _ (step : Step) (took : TookStep done a.counts w v a.actor b.actor a.pass b.pass step) where
+    pub turned_client : b.transactions ≡ a.transactions + step.transactions → IsClient b
     turned_client count =
-        let stage : Stage a.counts b.actor b.pass (a.transactions + turn.transactions) =
-        turn_stage done a.counts w v a.actor b.actor a.pass b.pass a.transactions (stage_of a noted_before is) (runs_here a l is view runs) turn took in
-        let own : b.actor.actor ≡ a.actor.actor = finished_actor _ b.actor _ b.pass turn.answer took.finishes in
+        let stage : Stage a.counts b.actor b.pass (a.transactions + step.transactions) =
+        step_stage done a.counts w v a.actor b.actor a.pass b.pass a.transactions (stage_of a noted_before is) (runs_here a l is view runs) step took in
+        let own : b.actor.actor ≡ a.actor.actor = finished_actor _ b.actor _ b.pass step.answer took.finishes in
         client_of b noted_after (rw counts is.places) (rw own is.is_actor) (rw (counts, count) stage)
 
     life_after : life_at a.counts b.actor b.pass ≡ life_of b
@@ -114,11 +114,11 @@ module _ {W : Type 0} (done : W → W → ℕ → AnyReq → Result Entry Refuse
     life_before : life_at a.counts a.actor a.pass ≡ l
     life_before = sym (life_noted a noted_before) ∙ view
 
-    pub turned_step : OwnStep done w v l (life_of b) (turned_by turn.answer)
+    pub turned_step : OwnStep done w v l (life_of b) (turned_by step.answer)
     turned_step =
-        let here = turn_step done a.counts w v a.actor b.actor a.pass b.pass a.transactions (stage_of a noted_before is) (runs_here a l is view runs) turn took in
-        subst (λ (x : ClientLife). OwnStep done w v x (life_of b) (turned_by turn.answer)) life_before
-        (subst (λ (x : ClientLife). OwnStep done w v (life_at a.counts a.actor a.pass) x (turned_by turn.answer)) life_after here)
+        let here = own_step done a.counts w v a.actor b.actor a.pass b.pass a.transactions (stage_of a noted_before is) (runs_here a l is view runs) step took in
+        subst (λ (x : ClientLife). OwnStep done w v x (life_of b) (turned_by step.answer)) life_before
+        (subst (λ (x : ClientLife). OwnStep done w v (life_at a.counts a.actor a.pass) x (turned_by step.answer)) life_after here)
 
 -- ---- passes that differ in room alone
 

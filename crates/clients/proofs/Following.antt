@@ -1,5 +1,5 @@
 -- what a step tells: its op's transaction, or its end; and a command that goes on is nearer to its end
-use Rattle.std.proofs.Common.{◌≡◌, inl, inr, ℕ, ◌<◌, Option, Some, None, IsSome, List, [], ◌∷◌, ◌++◌, refl, ap, ◌∙◌}
+use Rattle.std.proofs.Common.{◌≡◌, inl, inr, ℕ, ◌+◌, ◌<◌, Option, Some, None, List, [], ◌∷◌, ◌++◌, refl, ap, ◌∙◌, length, length-append, arith}
 use Rattle.std.specs.Prelude.{Result, Ok, Err, MatchResult, OnOk, OnErr}
 use Rattle.tect_ids.specs.declared.ids.Counts.{Counts}
 use Rattle.tect_ids.specs.declared.ids.OpId.{OpId}
@@ -7,28 +7,24 @@ use Rattle.tect_ids.specs.declared.command.Command.{Command}
 use Rattle.tect_ids.specs.declared.answer.Answer.{Answer}
 use Rattle.tect_ids.specs.declared.answer.Answer.TheVariants as answers
 use Rattle.store_rules.specs.declared.any.AnyReq.{AnyReq}
-use Rattle.store_rules.specs.declared.any.AnyReply.{AnyReply}
-use Rattle.store_rules.specs.Places.{request_place}
-use Rattle.program_rules.specs.declared.program.Program.{Program}
-use Rattle.program_rules.specs.Programs.{object_number}
 use Rattle.entry_words.specs.declared.entry.Entry.{Entry}
+use Rattle.entry_words.specs.declared.entry.Moment.TheVariants.{Act}
 use Rattle.entry_words.specs.declared.entry.Refused.{Refused}
 use Rattle.entry_words.specs.declared.entry.Refused.TheVariants as refusals
 use Rattle.world_runs.specs.declared.event.Event.{Event}
 use Rattle.world_runs.specs.declared.event.Event.TheVariants.{Ended}
 use Rattle.world_runs.specs.Follows.{Acts, IsEndOf, EndsAfter}
-use Rattle.world_runs.specs.Moments.{Actor, idle_actor, program_ask, heard, went_on}
+use Rattle.world_runs.specs.Moments.{Actor, idle_actor, went_on}
 use Rattle.world_runs.specs.Events.{end_event}
 use Rattle.world_runs.specs.OwnRuns.{own_state, own_after}
 use Rattle.world_runs.proofs.Actors.{own_state-append}
-use Rattle.actors.specs.declared.turned.Turned.{Turned}
-use Rattle.actors.specs.declared.turned.Turned.TheVariants.{Going, Done}
-use Rattle.actors.specs.Turns.{turned_by}
+use Rattle.clients.specs.declared.turned.Turned.{Turned}
+use Rattle.clients.specs.declared.turned.Turned.TheVariants.{Going, Done}
+use Rattle.clients.specs.Turns.{turned_by}
 use Rattle.clients.specs.declared.commits.Astray.{Astray}
-use Rattle.clients.specs.Lives.{ClientLife, events_in, state_in, op_in, Begins}
-use Rattle.clients.specs.Steps.{Tried, Unasked, Did, Denied, Asks, EndsSo, state_after, WentAstray, tried_events, end_events, tried_life, ended_with, ended_life, OwnStep}
-use Rattle.clients.specs.Turns.{act_count}
-use Rattle.clients.proofs.Ranks.{rank, rank_falls}
+use Rattle.clients.specs.Lives.{ClientLife, events_in, state_in, op_in, Begins, left_in, IsLife}
+use Rattle.clients.specs.Steps.{entry_in, Tried, Unasked, Did, Denied, EndsSo, state_after, WentAstray, tried_events, end_events, tried_life, ended_with, ended_life, OwnStep}
+use Rattle.clients.specs.PassSteps.{act_count}
 
 -- the events of a step
 abbrev pub step_events : List Event → OpId → Tried → Option Answer → List Event
@@ -155,31 +151,15 @@ begin_same old new c (Err e) ok err = (ap (λ (l : ClientLife). l.counts) err, a
 
 -- ---- a command that goes on
 
--- how near a running command is to its end: at most how many transactions are to come
-abbrev pub rank_of : Option Program → ℕ
-rank_of None = 0
-rank_of (Some p) = rank p.phase
+did_adds : (l : ClientLife) (st : Actor) (stamp : ℕ) (op : OpId) (tried : Tried) → EndsSo st tried None → length (ended_life (tried_life l stamp tried) op None).moments ≡ length l.moments + 1
+did_adds l st stamp op (Did q x) ends = length-append l.moments (Act (entry_in l stamp q x) ∷ [])
+did_adds l st stamp op Unasked ends = absurd ends
+did_adds l st stamp op (Denied q e) ends = absurd ends
 
-pub record Nearer (old new : Option Program) : Type 0 where
-  pub runs : IsSome new
-  pub less : rank_of new < rank_of old
-
-heard_nearer : (counts : Counts) (serial : ℕ) (q : AnyReq) (x : AnyReply) (o : Option Program) → program_ask serial o ≡ Some q → Nearer o (heard counts serial q x o)
-heard_nearer counts serial q x None asks = absurd cc
-heard_nearer counts serial q x (Some p) asks =
-    record { runs = refl; less = rank_falls (request_place counts q) p.op (object_number p.op.actor serial) p.command p.phase x q asks }
-
-did_nearer : (counts : Counts) (s st : Actor) (silent : List Event) (op : OpId) (tried : Tried) → Asks s tried → EndsSo st tried None
-    → Nearer s.running (own_state counts s (step_events silent op tried None)).running
-did_nearer counts s st silent op (Did q x) asks ends = heard_nearer counts s.serial q x s.running asks
-did_nearer counts s st silent op Unasked asks ends = absurd ends
-did_nearer counts s st silent op (Denied q e) asks ends = absurd ends
-
-pub step_nearer : {W : Type 0} (done : W → W → ℕ → AnyReq → Result Entry Refused → Type 0) (w v : W) (old new : ClientLife) → OwnStep done w v old new Going
-    → Nearer (state_in old).running (state_in new).running
-step_nearer done w v old new step =
+-- its pass has one moment more, and so there is room for fewer
+pub step_nearer : {W : Type 0} (done : W → W → ℕ → AnyReq → Result Entry Refused → Type 0) (w v : W) (old new : ClientLife) → IsLife new → OwnStep done w v old new Going → left_in new < left_in old
+step_nearer done w v old new is step =
     let none : step.answer ≡ None = not_done step.answer step.told in
-    let here = did_nearer old.counts (state_in old) (state_after old.counts (state_in old) step.tried) old.silent (op_in old) step.tried step.asks (rw none at step.ends) in
-    let state : state_in new ≡ own_state old.counts (state_in old) (step_events old.silent (op_in old) step.tried None) =
-    step_state done w v old new Going step ∙ ap (λ (a : Option Answer). own_state old.counts (state_in old) (step_events old.silent (op_in old) step.tried a)) none in
-    rw state here
+    let adds = did_adds old (state_after old.counts (state_in old) step.tried) step.stamp (op_in old) step.tried (rw none at step.ends) in
+    let life : new ≡ ended_life (tried_life old step.stamp step.tried) (op_in old) None = step.life ∙ ap (ended_life (tried_life old step.stamp step.tried) (op_in old)) none in
+    omega (arith, is.few, adds, ap (λ (l : ClientLife). length l.moments) life)

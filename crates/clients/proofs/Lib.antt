@@ -1,12 +1,12 @@
 pub mod Growing
 pub mod Weights
 pub mod Stages
-pub mod OwnTurns
+pub mod OwnSteps
 pub mod Lives
 pub mod Refusals
 pub mod Begins
 pub mod RefusedSteps
-pub mod TurnCases
+pub mod StepCases
 pub mod Closings
-pub mod Ranks
 pub mod Following
+pub mod Few

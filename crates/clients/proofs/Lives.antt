@@ -14,14 +14,14 @@ use Rattle.world_runs.specs.Events.{event_of, own}
 use Rattle.world_runs.specs.Limits.{OwnLimits}
 use Rattle.world_runs.specs.OwnRuns.{OwnRun, own_state}
 use Rattle.world_runs.specs.Woven.{IsSilent}
-use Rattle.actors.specs.ActorState.{op_of}
+use Rattle.clients.specs.ActorState.{op_of}
 use Rattle.clients.specs.declared.client.Client.TheInside.{Inside}
 use Rattle.clients.specs.Lives.{events_in, state_in, op_in, IsLife}
 use Rattle.clients.specs.Phases.{RunsIn}
-use Rattle.clients.specs.Inside.{life_of, IsClient}
+use Rattle.clients.specs.ClientInside.{life_of, IsClient}
 use Rattle.clients.proofs.Growing.{transactions-few, serials-few}
 use Rattle.clients.proofs.Stages.{own_events, Stage}
-use Rattle.clients.proofs.OwnTurns.{life_at}
+use Rattle.clients.proofs.OwnSteps.{life_at}
 
 length_of : (p : Pass) → length (own_events p) ≡ length p.moments.items
 length_of p = length-map p.moments.items event_of
@@ -34,6 +34,7 @@ is_life a is = record {
   run = is.run;
   limits = is.limits;
   own = is.own;
+  few = omega (arith, a.pass.known.few);
   moments_own = rw (← is.same) a.pass.known.own;
   notes_own = rw (← is.same) a.pass.known.notes_own;
   rising = a.pass.known.rising;

@@ -15,12 +15,12 @@ use Rattle.world_runs.specs.Events.{events_of, own}
 use Rattle.world_runs.specs.Limits.{KeepsRoom, OwnLimits}
 use Rattle.world_runs.specs.OwnRuns.{OwnMay, OwnRun, own_after, own_state}
 use Rattle.world_runs.specs.Woven.{IsSilent}
-use Rattle.actors.specs.ActorState.{op_of}
+use Rattle.clients.specs.ActorState.{op_of}
 use Rattle.clients.specs.declared.client.Client.TheInside.{Inside}
 use Rattle.clients.specs.Lives.{events_in, state_in}
 use Rattle.program_rules.specs.Asking.{WasRefused}
 use Rattle.clients.specs.Phases.{RunsIn}
-use Rattle.clients.specs.Inside.{life_of, IsFullOnce, IsClient}
+use Rattle.clients.specs.ClientInside.{life_of, IsFullOnce, IsClient}
 use Rattle.clients.proofs.Growing.{state_push, run_push, limits_push, own_push}
 
 -- one event more that is not noted

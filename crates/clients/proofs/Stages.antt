@@ -30,10 +30,10 @@ use Rattle.world_runs.specs.Limits.{KeepsRoom, OwnLimits}
 use Rattle.world_runs.specs.OwnRuns.{OwnMay, OwnRun, own_after, own_state}
 use Rattle.world_runs.specs.Events.{IsPlaced}
 use Rattle.world_runs.proofs.Actors.{same_number}
-use Rattle.actors.specs.ActorState.{ActorState, op_of}
+use Rattle.clients.specs.ActorState.{ActorState, op_of}
 use Rattle.clients.specs.Commits.{Committed, NotedEnd, entry_at}
 use Rattle.program_rules.specs.Asking.{RunsSmoothly, op_running}
-use Rattle.clients.specs.Turns.{ended}
+use Rattle.clients.specs.PassSteps.{ended}
 use Rattle.program_rules.proofs.Phases.{smooth_hears, smooth_answers}
 use Rattle.clients.proofs.Growing.{state_push, run_push, limits_push, own_push, program_own, heard_own, plain_end, count_act, count_other, end_no_act}
 use Rattle.clients.proofs.Weights.{fills, has_room}

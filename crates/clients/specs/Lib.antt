@@ -1,6 +1,9 @@
+pub mod ActorState
+pub mod ActorInside
+pub mod Turns
 pub mod Lives
 pub mod Commits
 pub mod Phases
 pub mod Steps
-pub mod Turns
-pub mod Inside
+pub mod PassSteps
+pub mod ClientInside

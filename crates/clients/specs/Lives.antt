@@ -1,5 +1,5 @@
 -- What contracts see of a client: what it noted, and what it did in ops that were refused. All else is told by that.
-use Rattle.std.specs.Prelude.{◌≡◌, ℕ, ◌+◌, ◌<◌, ◌≤◌, ◌^◌, ◌⊎◌, true, List, [], ◌∷◌, ◌++◌, None}
+use Rattle.std.specs.Prelude.{◌≡◌, ℕ, ◌+◌, ◌-◌, ◌<◌, ◌≤◌, ◌^◌, ◌⊎◌, true, List, [], ◌∷◌, ◌++◌, length, None}
 use Rattle.std.specs.List.{All}
 use Rattle.tect_ids.specs.declared.ids.Counts.{Counts}
 use Rattle.tect_ids.specs.declared.ids.OpId.{OpId}
@@ -71,6 +71,10 @@ stopped_with life (e ∷ es) = record life { silent = life.silent ++ Stopped (op
 abbrev pub stopped_life : ClientLife → ClientLife
 stopped_life life = stopped_with life life.silent
 
+-- how many moments more its pass may have
+abbrev pub left_in : ClientLife → ℕ
+left_in life = 65536 - length life.moments
+
 -- What is so of each client: its events are a run of its own, and keep its limits, unless its clock has come to its own.
 pub record IsLife (life : ClientLife) : Type 0 where
   pub places : HasPlaces life.counts
@@ -78,6 +82,7 @@ pub record IsLife (life : ClientLife) : Type 0 where
   pub run : OwnRun life.counts idle_actor (events_in life)
   pub limits : life.clock < 2 ^ 63 → OwnLimits life.counts [] idle_actor (events_in life)
   pub own : own life.actor (events_in life) ≡ events_in life
+  pub few : length life.moments ≤ 65536
   pub moments_own : all_of_actor life.actor life.moments ≡ true
   pub notes_own : all_notes_of life.actor life.moments ≡ true
   pub rising : rises 0 life.clock life.moments ≡ true

@@ -17,8 +17,8 @@ use Rattle.world_runs.specs.declared.event.Event.{Event}
 use Rattle.world_runs.specs.declared.event.Event.TheVariants.{Acted, Ended}
 use Rattle.world_runs.specs.Moments.{Actor, program_ask, program_answer, went_on}
 use Rattle.world_runs.specs.Events.{end_event}
-use Rattle.actors.specs.declared.turned.Turned.{Turned}
-use Rattle.actors.specs.Turns.{turned_by}
+use Rattle.clients.specs.declared.turned.Turned.{Turned}
+use Rattle.clients.specs.Turns.{turned_by}
 use Rattle.clients.specs.Lives.{ClientLife, events_in, state_in, op_in}
 
 -- what came of the command's next request: it made none, or it was done with that reply, or refused

@@ -7,13 +7,14 @@ ghost use Rattle.program_rules.specs.Lacks.{no_room};
 ghost use Rattle.world_runs.specs.Moments.{program_ask};
 ghost use Rattle.world_runs.specs.Report.{transactions};
 ghost use Rattle.world_runs.specs.Served.{IsServed};
-ghost use Rattle.actors.specs.Turns.{turned_by};
+ghost use Rattle.clients.specs.Turns.{turned_by};
 ghost use Rattle.clients.specs.Lives.{events_in, state_in, op_in, RefusesNext, idle_life, begun_life, refused_life, Begins, stopped_life, IsLife};
 ghost use Rattle.clients.specs.Steps.{OwnStep, WentAstray};
 
+use crate::actor::Actor;
 use crate::commits::{Astray, Commits};
-use crate::turns::take_turn;
-use actors::{Actor, Turned};
+use crate::steps::take_step;
+use crate::turned::Turned;
 use entry_words::Note;
 use place_kit::Pass;
 use std::alloc::Global;
@@ -37,7 +38,7 @@ impl Model for Client {
 
     ghost Value = { ClientLife };
 
-    ghost use Rattle.clients.specs.Inside.{life_of, IsClient};
+    ghost use Rattle.clients.specs.ClientInside.{life_of, IsClient};
 
     ghost view = { life_of };
 
@@ -135,9 +136,11 @@ impl Client {
         self.actor.is_running()
     }
 
-    /// How many transactions its last command took so far, also after its end. It takes no memory.
+    /// How many transactions its last command took so far, also after its end: never more than its pass has moments. It takes
+    /// no memory.
     pub fn transactions(&self) -> u64
-        ensures { result ≡ transactions (events_in self.now) (op_in self.now) }
+        ensures count { result ≡ transactions (events_in self.now) (op_in self.now) }
+        ensures few { result ≤ 65536 }
     {
         self.transactions
     }
@@ -267,9 +270,9 @@ impl Client {
         ensures step { MatchResult result (OwnStep C.done at.old at.new self.old self.new)
             (λ e. WentAstray C.done at.old at.new self.old self.new (refusals.Astray e.want e.found)) }
     {
-        let turn = take_turn(&self.counts, &mut self.actor, &mut self.pass, at)?;
-        self.transactions += turn.transactions;
-        Ok(turned_of(turn.answer))
+        let step = take_step(&self.counts, &mut self.actor, &mut self.pass, at)?;
+        self.transactions += step.transactions;
+        Ok(turned_of(step.answer))
     }
 
     // An op that was refused ends.

@@ -1,13 +1,17 @@
-//! A client: an actor, with the pass that notes what it does. Its requests are committed wherever its caller says.
+//! A client: an actor, which begins commands that run by their programs, one request at a time, with the pass that notes
+//! what it does. Its requests are committed wherever its caller says.
 #![tactic(auto)]
 
+mod actor;
 mod client;
 mod commits;
-mod turns;
+mod steps;
+mod turned;
 
-pub use actors::Turned;
+pub use actor::Actor;
 pub use client::Client;
 pub use commits::{Astray, Commits};
+pub use turned::Turned;
 
 #[cfg(test)]
 mod tests;

@@ -2,9 +2,9 @@ ghost use Rattle.std.specs.Prelude.{◌≡◌, OnOk};
 ghost use Rattle.world_runs.specs.Served.{IsServed};
 
 use crate::{Client, Commits, Turned};
+use entry_words::Refused;
 use file_shard::FileShard;
 use name_shard::NameShard;
-use entry_words::Refused;
 use place_kit::{Kept, Pass};
 use std::alloc::Global;
 use std::process::Abort;

@@ -17,50 +17,52 @@ use tect_ids::{
     Answer, Command, DirId, FileId, Key, Name, NoMemory, Node, OpId, Over, Path, Place,
 };
 
+/// What a request came to: the reply, the place where it was made, and the number that an object made by it has.
+#[derive(Drop)]
+pub struct Heard<'a> {
+    pub reply: &'a AnyReply,
+    pub place: Place,
+    pub number: u64,
+}
+
 /// The end of a command that was refused, by a request that concerned the entry.
-fn refused(alloc: Global, place: Place, key: &Key, reply: &AnyReply) -> Result<Phase, NoMemory>
-    ensures { IfOk result (λ phase. phase ≡ Phase.End (refusal place key.now reply.now)) }
+fn refused(alloc: Global, heard: &Heard, key: &Key) -> Result<Phase, NoMemory>
+    ensures { IfOk result (λ phase. phase ≡ Phase.End (refusal heard.now.place key.now heard.now.reply.now)) }
 {
-    let answer = refusal_of(alloc, place, key, reply)?;
+    let answer = refusal_of(alloc, heard.place, key, heard.reply)?;
     Ok(Phase::End { answer })
 }
 
 /// The last look of a command that looks a path up.
-fn look_heard_of(
-    alloc: Global,
-    place: Place,
-    dir: DirId,
-    path: &Path,
-    reply: &AnyReply,
-) -> Result<Phase, NoMemory>
-    ensures { IfOk result (λ phase. phase ≡ look_heard place dir path.now reply.now) }
+fn look_heard_of(alloc: Global, heard: &Heard, dir: DirId, path: &Path) -> Result<Phase, NoMemory>
+    ensures { IfOk result (λ phase. phase ≡ look_heard heard.now.place dir path.now heard.now.reply.now) }
 {
     let Some(key) = last_key(alloc, dir, path)? else {
-        let answer = match reply {
+        let answer = match heard.reply {
             AnyReply::Name(NameReply::DirIs { .. }) => Answer::Found {
                 node: Node::Dir(dir),
             },
-            _ => dir_refusal_of(place, reply),
+            _ => dir_refusal_of(heard.place, heard.reply),
         };
         return Ok(Phase::End { answer });
     };
-    match reply.as_found() {
+    match heard.reply.as_found() {
         Some(node) => Ok(Phase::End {
             answer: Answer::Found { node },
         }),
-        None => refused(alloc, place, &key, reply),
+        None => refused(alloc, heard, &key),
     }
 }
 
 /// The reply to a listing.
-fn entries_heard_of(place: Place, reply: &AnyReply) -> Result<Phase, NoMemory>
-    ensures { IfOk result (λ phase. phase ≡ entries_heard place reply.now (as_listing reply.now)) }
+fn entries_heard_of(heard: &Heard) -> Result<Phase, NoMemory>
+    ensures { IfOk result (λ phase. phase ≡ entries_heard heard.now.place heard.now.reply.now (as_listing heard.now.reply.now)) }
 {
-    let answer = match reply {
+    let answer = match heard.reply {
         AnyReply::Name(NameReply::Listing { items, .. }) => Answer::Entries {
             items: items.clone()?,
         },
-        _ => dir_refusal_of(place, reply),
+        _ => dir_refusal_of(heard.place, heard.reply),
     };
     Ok(Phase::End { answer })
 }
@@ -68,37 +70,31 @@ fn entries_heard_of(place: Place, reply: &AnyReply) -> Result<Phase, NoMemory>
 /// What was made is bound next.
 fn made_heard_of(
     alloc: Global,
-    place: Place,
+    heard: &Heard,
     key: Key,
     node: Node,
     over: Over,
-    reply: &AnyReply,
 ) -> Result<Phase, NoMemory>
-    ensures { IfOk result (λ phase. phase ≡ made_heard place key node over reply.now) }
+    ensures { IfOk result (λ phase. phase ≡ made_heard heard.now.place key node over heard.now.reply.now) }
 {
-    if reply.is_made() {
+    if heard.reply.is_made() {
         return Ok(Phase::Bind { key, node, over });
     }
-    refused(alloc, place, &key, reply)
+    refused(alloc, heard, &key)
 }
 
 /// The hold of what an unbind took the name from is released next.
-fn unbound_heard_of(
-    alloc: Global,
-    place: Place,
-    key: &Key,
-    reply: &AnyReply,
-) -> Result<Phase, NoMemory>
-    ensures { IfOk result (λ phase. phase ≡ unbound_heard place key.now reply.now (as_unbound reply.now)) }
+fn unbound_heard_of(alloc: Global, heard: &Heard, key: &Key) -> Result<Phase, NoMemory>
+    ensures { IfOk result (λ phase. phase ≡ unbound_heard heard.now.place key.now heard.now.reply.now (as_unbound heard.now.reply.now)) }
 {
-    match reply.as_unbound() {
+    match heard.reply.as_unbound() {
         Some((node, hold)) => Ok(Phase::Release {
             node,
             hold,
             old: None,
             answer: Answer::Done,
         }),
-        None => refused(alloc, place, key, reply),
+        None => refused(alloc, heard, key),
     }
 }
 
@@ -113,17 +109,11 @@ fn ends_with(path: &Path, name: &Name) -> bool
 }
 
 /// The node under the old name of a rename was found, or not.
-fn source_heard_of(
-    alloc: Global,
-    place: Place,
-    key: Key,
-    to: &Path,
-    reply: &AnyReply,
-) -> Result<Phase, NoMemory>
-    ensures { IfOk result (λ phase. phase ≡ source_heard place key (last_name to.now) reply.now (as_found reply.now)) }
+fn source_heard_of(alloc: Global, heard: &Heard, key: Key, to: &Path) -> Result<Phase, NoMemory>
+    ensures { IfOk result (λ phase. phase ≡ source_heard heard.now.place key (last_name to.now) heard.now.reply.now (as_found heard.now.reply.now)) }
 {
-    match reply.as_found() {
-        None => refused(alloc, place, &key, reply),
+    match heard.reply.as_found() {
+        None => refused(alloc, heard, &key),
         Some(node) => {
             if ends_with(to, &key.name) {
                 return Ok(Phase::End {
@@ -138,40 +128,38 @@ fn source_heard_of(
 /// The phase after the reply to a command's first own request.
 fn first_hear_of(
     alloc: Global,
-    place: Place,
-    number: u64,
+    heard: &Heard,
     dir: DirId,
     command: &Command,
-    reply: &AnyReply,
 ) -> Result<Phase, NoMemory>
-    ensures { IfOk result (λ phase. phase ≡ first_hear place number dir command.now reply.now) }
+    ensures { IfOk result (λ phase. phase ≡ first_hear heard.now.place heard.now.number dir command.now heard.now.reply.now) }
 {
     match command {
-        Command::Look { path } => look_heard_of(alloc, place, dir, path, reply),
-        Command::List { .. } => entries_heard_of(place, reply),
+        Command::Look { path } => look_heard_of(alloc, heard, dir, path),
+        Command::List { .. } => entries_heard_of(heard),
         Command::Create { path } => match last_key(alloc, dir, path)? {
             Some(key) => {
-                let node = Node::File(FileId(number));
-                made_heard_of(alloc, place, key, node, Over::File, reply)
+                let node = Node::File(FileId(heard.number));
+                made_heard_of(alloc, heard, key, node, Over::File)
             }
-            None => Ok(odd(place)),
+            None => Ok(odd(heard.place)),
         },
         Command::Mkdir { path } => match last_key(alloc, dir, path)? {
             Some(key) => {
-                let node = Node::Dir(DirId(number));
-                made_heard_of(alloc, place, key, node, Over::Absent, reply)
+                let node = Node::Dir(DirId(heard.number));
+                made_heard_of(alloc, heard, key, node, Over::Absent)
             }
-            None => Ok(odd(place)),
+            None => Ok(odd(heard.place)),
         },
         Command::Delete { path } => match last_key(alloc, dir, path)? {
-            Some(key) => unbound_heard_of(alloc, place, &key, reply),
-            None => Ok(odd(place)),
+            Some(key) => unbound_heard_of(alloc, heard, &key),
+            None => Ok(odd(heard.place)),
         },
         Command::Rename { from, to } => match last_key(alloc, dir, from)? {
-            Some(key) => source_heard_of(alloc, place, key, to, reply),
-            None => Ok(odd(place)),
+            Some(key) => source_heard_of(alloc, heard, key, to),
+            None => Ok(odd(heard.place)),
         },
-        _ => Ok(odd(place)),
+        _ => Ok(odd(heard.place)),
     }
 }
 
@@ -202,15 +190,14 @@ fn then_release_of(old: Option<Replaced>, answer: Answer) -> Phase
 /// A command whose bind or swap was refused gives its own hold back.
 fn give_back(
     alloc: Global,
-    place: Place,
+    heard: &Heard,
     op: OpId,
     key: &Key,
     node: Node,
-    reply: &AnyReply,
 ) -> Result<Phase, NoMemory>
-    ensures { IfOk result (λ phase. phase ≡ Phase.Release node (own_hold op) None (refusal place key.now reply.now)) }
+    ensures { IfOk result (λ phase. phase ≡ Phase.Release node (own_hold op) None (refusal heard.now.place key.now heard.now.reply.now)) }
 {
-    let answer = refusal_of(alloc, place, key, reply)?;
+    let answer = refusal_of(alloc, heard.place, key, heard.reply)?;
     Ok(Phase::Release {
         node,
         hold: hold_of(op),
@@ -221,58 +208,50 @@ fn give_back(
 
 fn bound_heard_of(
     alloc: Global,
-    place: Place,
+    heard: &Heard,
     op: OpId,
     key: &Key,
     node: Node,
-    reply: &AnyReply,
 ) -> Result<Phase, NoMemory>
-    ensures { IfOk result (λ phase. phase ≡ bound_heard place op key.now node reply.now (as_bound reply.now)) }
+    ensures { IfOk result (λ phase. phase ≡ bound_heard heard.now.place op key.now node heard.now.reply.now (as_bound heard.now.reply.now)) }
 {
-    match reply.as_bound() {
+    match heard.reply.as_bound() {
         Some(old) => Ok(then_release_of(old, Answer::Found { node })),
-        None => give_back(alloc, place, op, key, node, reply),
+        None => give_back(alloc, heard, op, key, node),
     }
 }
 
 fn swapped_heard_of(
     alloc: Global,
-    place: Place,
+    heard: &Heard,
     op: OpId,
     key: &Key,
     node: Node,
-    reply: &AnyReply,
 ) -> Result<Phase, NoMemory>
-    ensures { IfOk result (λ phase. phase ≡ swapped_heard place op key.now node reply.now (as_swapped reply.now)) }
+    ensures { IfOk result (λ phase. phase ≡ swapped_heard heard.now.place op key.now node heard.now.reply.now (as_swapped heard.now.reply.now)) }
 {
-    match reply.as_swapped() {
+    match heard.reply.as_swapped() {
         Some((hold, old)) => Ok(Phase::Release {
             node,
             hold,
             old,
             answer: Answer::Done,
         }),
-        None => give_back(alloc, place, op, key, node, reply),
+        None => give_back(alloc, heard, op, key, node),
     }
 }
 
 /// A look on the way that found no directory ends the command.
-fn walk_ends(
-    alloc: Global,
-    place: Place,
-    dir: DirId,
-    name: &Name,
-    reply: &AnyReply,
-) -> Result<Phase, NoMemory>
-    ensures { IfOk result (λ phase. phase ≡ walk_end place (key_in dir name.now) reply.now (as_found reply.now)) }
+fn walk_ends(alloc: Global, heard: &Heard, dir: DirId, name: &Name) -> Result<Phase, NoMemory>
+    ensures { IfOk result (λ phase. phase ≡ walk_end heard.now.place (key_in dir name.now) heard.now.reply.now (as_found heard.now.reply.now)) }
 {
-    match reply.as_found() {
+    match heard.reply.as_found() {
         Some(_) => Ok(Phase::End {
             answer: Answer::NotDir,
         }),
         None => {
             let key = key_at(alloc, dir, name)?;
-            refused(alloc, place, &key, reply)
+            refused(alloc, heard, &key)
         }
     }
 }
@@ -281,29 +260,25 @@ fn walk_ends(
 /// up.
 fn next_phase(
     alloc: Global,
-    place: Place,
+    heard: &Heard,
     op: OpId,
-    number: u64,
     command: &Command,
     phase: &mut Phase,
-    reply: &AnyReply,
 ) -> Result<Phase, NoMemory>
-    ensures ok { IfOk result (λ next. next ≡ phase_hear place op number command.now phase.old reply.now) }
+    ensures ok { IfOk result (λ next. next ≡ phase_hear heard.now.place op heard.now.number command.now phase.old heard.now.reply.now) }
     ensures err { OnErr result (phase.new ≡ phase.old) }
 {
     match phase {
-        Phase::Walk { dir, rest } => walk_heard_of(
-            alloc, place, number, *dir, rest, command, reply,
-        ),
-        Phase::Bind { key, node, .. } => bound_heard_of(alloc, place, op, key, *node, reply),
+        Phase::Walk { dir, rest } => walk_heard_of(alloc, heard, *dir, rest, command),
+        Phase::Bind { key, node, .. } => bound_heard_of(alloc, heard, op, key, *node),
         Phase::Grant { key, node } => {
-            if !reply.is_granted() {
-                return refused(alloc, place, key, reply);
+            if !heard.reply.is_granted() {
+                return refused(alloc, heard, key);
             }
             let key = key.copy(alloc)?;
             Ok(Phase::Swap { key, node: *node })
         }
-        Phase::Swap { key, node } => swapped_heard_of(alloc, place, op, key, *node, reply),
+        Phase::Swap { key, node } => swapped_heard_of(alloc, heard, op, key, *node),
         Phase::Release { old, answer, .. } => {
             let answer = mem::replace(answer, Answer::Done);
             Ok(then_release_of(*old, answer))
@@ -317,19 +292,17 @@ fn next_phase(
 /// The phase after the reply to a look on the way, or to the command's first own request where nothing is left to walk.
 fn walk_heard_of(
     alloc: Global,
-    place: Place,
-    number: u64,
+    heard: &Heard,
     dir: DirId,
     rest: &mut Path,
     command: &Command,
-    reply: &AnyReply,
 ) -> Result<Phase, NoMemory>
-    ensures ok { IfOk result (λ next. next ≡ walk_heard place number dir rest.old command.now reply.now) }
+    ensures ok { IfOk result (λ next. next ≡ walk_heard heard.now.place heard.now.number dir rest.old command.now heard.now.reply.now) }
     ensures err { OnErr result (rest.new ≡ rest.old) }
 {
     match rest.as_slice() {
-        [] => first_hear_of(alloc, place, number, dir, command, reply),
-        [name, ..] => match reply.as_found() {
+        [] => first_hear_of(alloc, heard, dir, command),
+        [name, ..] => match heard.reply.as_found() {
             Some(Node::Dir(found)) => {
                 let names = mem::replace(rest, Path::new(alloc));
                 Ok(Phase::Walk {
@@ -337,32 +310,24 @@ fn walk_heard_of(
                     rest: without_first(names),
                 })
             }
-            _ => walk_ends(alloc, place, dir, name, reply),
+            _ => walk_ends(alloc, heard, dir, name),
         },
     }
 }
 
-/// The program goes on at the reply to its request, which was made at that place. For want of memory it stays as it was.
-pub fn hear(
-    program: &mut Program,
-    alloc: Global,
-    place: Place,
-    number: u64,
-    reply: &AnyReply,
-) -> Result<(), NoMemory>
+/// The program goes on at the reply to its request. For want of memory it stays as it was.
+pub fn hear(program: &mut Program, alloc: Global, heard: &Heard) -> Result<(), NoMemory>
     ensures ok { OnOk result (program.new ≡ record program.old {
-      phase = phase_hear place program.old.op number program.old.command program.old.phase reply.now;
+      phase = phase_hear heard.now.place program.old.op heard.now.number program.old.command program.old.phase heard.now.reply.now;
     }) }
     ensures err { OnErr result (program.new ≡ program.old) }
 {
     program.phase = next_phase(
         alloc,
-        place,
+        heard,
         program.op,
-        number,
         &program.command,
         &mut program.phase,
-        reply,
     )?;
     Ok(())
 }

@@ -6,7 +6,7 @@ ghost use Rattle.op_names.specs.Serials.{after_reply};
 
 use crate::ask::ask;
 use crate::carrying::{carry, facts_of, opening_of};
-use crate::hear::hear;
+use crate::hear::{Heard, hear};
 use crate::showing::show;
 use crate::shown::Shown;
 use crate::start::start;
@@ -110,7 +110,12 @@ impl Running {
             unreachable!()
         };
         let (first, second) = facts_of(alloc, &req, reply)?;
-        hear(&mut self.program, alloc, place, number, reply)?;
+        let heard = Heard {
+            reply,
+            place,
+            number,
+        };
+        hear(&mut self.program, alloc, &heard)?;
         if reply.is_made() {
             memory.take_serial();
         }

@@ -1,34 +1,25 @@
 -- How far a replay has come.
-use Rattle.std.proofs.Common.{◌≡◌, Bool, true, false, ℕ, zero, suc, ◌+◌, ◌<◌, ◌≤◌, Option, Some, List, [], ◌∷◌, ◌++◌, length, get_or, take, drop, map, length-take, refl, sym, ap, subst, ◌∙◌, append_assoc, arith}
+use Rattle.std.proofs.Common.{◌≡◌, Bool, true, false, ℕ, zero, suc, ◌+◌, ◌<◌, ◌≤◌, Option, List, [], ◌∷◌, ◌++◌, length, get_or, take, drop, length-take, refl, sym, ap, subst, ◌∙◌, append_assoc, arith}
 use Rattle.std.specs.List.{AllByRecursion}
 use Rattle.std.proofs.lemmas.List.{take_all, take_more, take-append-drop, append-nil}
 use Rattle.tect_ids.specs.declared.ids.Counts.{Counts}
-use Rattle.tect_ids.specs.declared.answer.Answer.TheVariants as answers
 use Rattle.tect_ids.specs.declared.command.Command.{Command}
-use Rattle.tect_ids.specs.declared.dump.DumpLine.{DumpLine}
 use Rattle.tect_ids.specs.declared.script.Act.{Act}
 use Rattle.tect_ids.specs.declared.script.Act.TheVariants as acts
 use Rattle.tect_ids.specs.declared.script.Line.{Line}
 use Rattle.tect_ids.specs.declared.script.Line.TheVariants as lines
 use Rattle.tect_ids.specs.declared.script.Plan.{Plan}
 use Rattle.tect_ids.specs.declared.script.ReportLine.{ReportLine}
-use Rattle.tect_ids.specs.declared.script.ReportLine.TheVariants as report_lines
-use Rattle.store_rules.specs.Dumps.{store_dump}
 use Rattle.world_runs.specs.declared.event.Event.{Event}
 use Rattle.world_runs.specs.declared.event.Event.TheVariants.{Began, Refused, Acted, Ended, Stopped, Failed, Dumped}
 use Rattle.world_runs.specs.Served.{IsServed}
-use Rattle.program_rules.specs.Lacks.{IsLack}
-use Rattle.world_runs.specs.Moments.{WorldState, after, opening, moment, RunFrom, IsWorldRun}
+use Rattle.world_runs.specs.Moments.{opening, moment, IsWorldRun}
 use Rattle.world_runs.specs.Follows.{Follows, FollowsFrom}
 use Rattle.world_runs.specs.Turns.{Turns, ClientTurn, Idle, Busy as IsBusy, Gone, TakesAct, turn_after, with_turn, all_idle, turns_after, InTurn, InTurnFrom}
-use Rattle.world_runs.specs.Report.{lines_at, report_after}
-use Rattle.sound_runs.proofs.RunsKeep.{no_run_answers_odd}
-use Rattle.session_runs.proofs.Scripts.{session_reported}
-use Rattle.world_runs.proofs.Histories.{run-append, report-append}
-use Rattle.world_runs.proofs.Actors.{after_all-append}
-use Rattle.run_claims.proofs.Claims.{every_run_is_claimed}
+use Rattle.world_runs.specs.Report.{report_after}
+use Rattle.world_runs.proofs.Histories.{report-append}
 use Rattle.world_runs.specs.Standing.{busy_at, AtTurn}
-use Rattle.world_runs.specs.Smooth.{EndsAtOnce, StepsOn, AllStepOn}
+use Rattle.world_runs.specs.Smooth.{EndsAtOnce}
 use Rattle.script_runs.proofs.AtOnce.{at_once-append}
 use Rattle.script_runs.proofs.FollowOn.{run_follows_on, stands_by_turn}
 use Rattle.script_runs.specs.RunningOut.{RefusesAsFull}
@@ -36,74 +27,13 @@ use Rattle.script_runs.proofs.RunOut.{each_script_can_be_run_out}
 use Rattle.world_runs.specs.Limits.{KeepsLimits, KeepsLimitsAfter, EndsFull, used}
 use Rattle.std.specs.Prelude.{nat_le}
 use Rattle.std.proofs.lemmas.Bool.Decides.{nat_tests}
-use Rattle.script_runs.proofs.Fixed.{script_fixes_run}
 use Rattle.tect_world.specs.Life.{Life, present}
 use Rattle.tect_replay.specs.Output.{lines_text, end_text, plan_report, AppendsPrefix}
 use Rattle.world_runs.specs.Playable.{IsWithin, IsPlayable}
-use Rattle.tect_replay.specs.Replays.{IsNotOdd, IsHistoryOf, IsCutReplay}
+use Rattle.tect_replay.specs.Replays.{IsRunOf, IsCutReplay}
 use Rattle.tect_replay.specs.Plays.{AllShallow, CanStart, CanDo, CanPlay, PlaysLine}
 use Rattle.tect_replay.proofs.Shallow.{shallow-append}
 use Rattle.tect_replay.proofs.Texts.{prefix_longer, prefix_less, lines-append}
-
--- ---- no answer is odd
-
-all-append : {X : Type 0} (P : X → Type 0) (xs ys : List X) → AllByRecursion P xs → AllByRecursion P ys → AllByRecursion P (xs ++ ys)
-all-append P [] ys a b = b
-all-append P (x ∷ xs) ys a b = (a.0, all-append P xs ys a.1 b)
-
-dump_not_odd : (ls : List DumpLine) → AllByRecursion IsNotOdd (map report_lines.Dump ls)
-dump_not_odd [] = tt
-dump_not_odd (l ∷ ls) = (λ name number steps place is. absurd cc, dump_not_odd ls)
-
-event_not_odd : (counts : Counts) (clients : List (List ℕ)) (before : List Event) (e : Event) → IsWorldRun counts before → RunFrom (moment counts before) (e ∷ [])
-    → AllByRecursion IsNotOdd (lines_at counts clients before e)
-event_not_odd counts clients before (Ended op a) run may =
-    (λ name number steps place is. no_run_answers_odd counts before run op place (may.0 ∙ (let same : a ≡ answers.Odd place = cc in ap Some same)), tt)
-event_not_odd counts clients before (Failed op a) run may =
-    (λ name number steps place is. (let same : a ≡ answers.Odd place = cc in subst IsLack same (may.0).0), tt)
-event_not_odd counts clients before (Stopped op) run may = (λ name number steps place is. absurd cc, tt)
-event_not_odd counts clients before Dumped run may = dump_not_odd (store_dump (moment counts before).store)
-event_not_odd counts clients before (Began op c) run may = tt
-event_not_odd counts clients before (Refused op c) run may = tt
-event_not_odd counts clients before (Acted op q x) run may = tt
-
-none_odd_after : (counts : Counts) (clients : List (List ℕ)) (before es : List Event) → IsWorldRun counts before → RunFrom (moment counts before) es
-    → AllByRecursion IsNotOdd (report_after counts clients before es)
-none_odd_after counts clients before [] run rest = tt
-none_odd_after counts clients before (e ∷ es) run rest =
-    let first : RunFrom (moment counts before) (e ∷ []) = (rest.0, tt) in
-    let next : moment counts (before ++ e ∷ []) ≡ after (moment counts before) e = after_all-append (opening counts) before (e ∷ []) in
-    all-append IsNotOdd (lines_at counts clients before e) (report_after counts clients (before ++ e ∷ []) es)
-    (event_not_odd counts clients before e run first)
-    (none_odd_after counts clients (before ++ e ∷ []) es (run-append (opening counts) before (e ∷ []) run first) (subst (λ (m : WorldState). RunFrom m es) (sym next) rest.1))
-
--- ---- what is claimed of a history
-
-step_on : (clients : ℕ) (l : Line) → IsWithin clients l → StepsOn l
-step_on clients (lines.Client client actor (acts.Step n)) w = w.1
-step_on clients (lines.Client client actor (acts.Do c)) w = tt
-step_on clients (lines.Client client actor (acts.Begin c)) w = tt
-step_on clients (lines.Client client actor acts.Run) w = tt
-step_on clients (lines.Client client actor acts.Stop) w = tt
-step_on clients lines.Dump w = tt
-step_on clients (lines.Store counts) w = tt
-step_on clients lines.Sweep w = tt
-step_on clients (lines.Lose disk) w = tt
-
-all_step_on : (clients : ℕ) (ls : List Line) → AllByRecursion (IsWithin clients) ls → AllStepOn ls
-all_step_on clients [] all = tt
-all_step_on clients (l ∷ ls) all = (step_on clients l all.0, all_step_on clients ls all.1)
-
-pub history_of : (plan : Plan) (history : List Event) → IsPlayable plan → IsWorldRun plan.counts history → KeepsLimits plan.counts history → Follows plan.lines history → EndsAtOnce (opening plan.counts) history → IsHistoryOf plan history
-history_of plan history is run limits follows at_once = record {
-  claim = every_run_is_claimed plan.counts history run limits;
-  follows = follows;
-  at_once = at_once;
-  none_odd = none_odd_after plan.counts plan.clients [] history tt run;
-  alone = λ client cs same played none. session_reported plan.counts plan.clients client cs history played run none (subst (λ ls. Follows ls history) same follows);
-  fixed = λ none other smooth follows'.
-      script_fixes_run plan.counts plan.lines other history (all_step_on (length plan.clients) plan.lines is.within) smooth (record { run = run; none_fails = none; at_once = at_once }) follows' follows;
-}
 
 -- ---- turns
 
@@ -269,9 +199,19 @@ cut_by plan n world old new is r part =
     ap lines_text shown ∙ lines-append (plan_report plan world.history) (report_after plan.counts plan.clients world.history on.0) in
     record {
       history = whole;
-      of_plan = history_of plan whole is on.1 (limits-append plan.counts [] world.history on.0 r.limits (refuses_so plan.counts world.history on.0 on.4)) (subst (λ ls. Follows ls whole) all on.2) (at_once-append (opening plan.counts) world.history on.0 r.at_once on.3);
+      of_plan = record {
+        run = on.1;
+        limits = limits-append plan.counts [] world.history on.0 r.limits (refuses_so plan.counts world.history on.0 on.4);
+        follows = subst (λ ls. Follows ls whole) all on.2;
+        at_once = at_once-append (opening plan.counts) world.history on.0 r.at_once on.3;
+      };
       written = prefix_less old new (lines_text (plan_report plan whole)) end_text (rw text (prefix_longer old new _ _ part)) (omega arith);
     }
 
-pub history_all : (plan : Plan) (n : ℕ) (world : Life) → IsPlayable plan → length plan.lines ≤ n → HasPlayed plan (take n plan.lines) world → IsHistoryOf plan world.history
-history_all plan n world is le r = history_of plan world.history is r.run r.limits (subst (λ ls. Follows ls world.history) (take_all n plan.lines le) r.follows) r.at_once
+pub run_of_all : (plan : Plan) (n : ℕ) (world : Life) → length plan.lines ≤ n → HasPlayed plan (take n plan.lines) world → IsRunOf plan world.history
+run_of_all plan n world le r = record {
+  run = r.run;
+  limits = r.limits;
+  follows = subst (λ ls. Follows ls world.history) (take_all n plan.lines le) r.follows;
+  at_once = r.at_once;
+}

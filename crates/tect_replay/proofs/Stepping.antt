@@ -12,8 +12,8 @@ use Rattle.world_runs.specs.Moments.{WorldState, IsWorldRun, after_all, answered
 use Rattle.world_runs.specs.Follows.{Acts}
 use Rattle.world_runs.specs.Smooth.{EndsAtOnce}
 use Rattle.tect_world.specs.Life.{Life, present, grown, last_op, actor_asks, transaction, ending, step_answer}
-use Rattle.actors.specs.declared.turned.Turned.TheVariants.{Going, Done}
-use Rattle.actors.specs.Turns.{turned_by}
+use Rattle.clients.specs.declared.turned.Turned.TheVariants.{Going, Done}
+use Rattle.clients.specs.Turns.{turned_by}
 use Rattle.tect_world.specs.Steps.{EndsWith, FailsWith, Stepped}
 use Rattle.world_runs.specs.Limits.{KeepsLimits}
 use Rattle.tect_replay.specs.Plays.{StepsUpTo}

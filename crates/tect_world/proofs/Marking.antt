@@ -4,7 +4,7 @@ use Rattle.tect_ids.specs.declared.ids.OpId.{OpId}
 use Rattle.tect_ids.specs.declared.answer.Answer.{Answer}
 use Rattle.tect_ids.proofs.KeyTests.{num_eq_cases}
 use Rattle.world_runs.specs.declared.event.Event.{Event}
-use Rattle.actors.specs.Turns.{turned_by}
+use Rattle.clients.specs.Turns.{turned_by}
 use Rattle.clients.specs.Steps.{Tried, Unasked, Did, Denied, tried_events, end_events}
 use Rattle.tect_world.specs.declared.marks.Mark.{Mark}
 use Rattle.tect_world.specs.declared.marks.Mark.TheVariants as marks

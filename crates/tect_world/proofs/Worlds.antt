@@ -26,9 +26,9 @@ use Rattle.world_runs.proofs.Actors.{own_run-rest}
 use Rattle.world_runs.proofs.Owns.{counts_stay}
 use Rattle.world_runs.proofs.OwnLines.{transactions_own}
 use Rattle.all_shards.proofs.Stepped.{any_default}
-use Rattle.actors.specs.declared.turned.Turned.{Turned}
-use Rattle.actors.specs.declared.turned.Turned.TheVariants.{Done}
-use Rattle.actors.specs.Turns.{turned_by}
+use Rattle.clients.specs.declared.turned.Turned.{Turned}
+use Rattle.clients.specs.declared.turned.Turned.TheVariants.{Done}
+use Rattle.clients.specs.Turns.{turned_by}
 use Rattle.clients.specs.Lives.{ClientLife, IsLife, events_in, state_in, op_in, next_op_in, idle_life, begun_life, refused_life}
 use Rattle.program_rules.specs.Asking.{WasRefused}
 use Rattle.clients.specs.Phases.{RunsIn}

@@ -4,8 +4,8 @@ use Rattle.tect_ids.specs.declared.answer.Answer.{Answer}
 use Rattle.tect_ids.specs.declared.command.Command.{Command}
 use Rattle.clients.specs.Lives.{ClientLife, Begins, stopped_life, op_in}
 use Rattle.clients.specs.Steps.{Tried, OwnStep, tried_events, end_events}
-use Rattle.actors.specs.declared.turned.Turned.{Turned}
-use Rattle.actors.specs.declared.turned.Turned.TheVariants as turns
+use Rattle.clients.specs.declared.turned.Turned.{Turned}
+use Rattle.clients.specs.declared.turned.Turned.TheVariants as turns
 use Rattle.world_runs.specs.declared.event.Event.{Event}
 use Rattle.kept_shards.specs.KeptStore.{KeptStore}
 use Rattle.kept_shards.specs.KeptStore as kept

@@ -7,9 +7,9 @@ use Rattle.world_runs.specs.declared.event.Event.{Event}
 use Rattle.world_runs.specs.declared.event.Event.TheVariants.{Began, Refused, Acted, Ended, Stopped, Failed, Dumped}
 use Rattle.world_runs.specs.Follows.{Acts, IsBeginOf}
 use Rattle.program_rules.specs.Lacks.{IsLack}
-use Rattle.actors.specs.declared.turned.Turned.{Turned}
-use Rattle.actors.specs.declared.turned.Turned.TheVariants.{Done}
-use Rattle.actors.specs.Turns.{turned_by}
+use Rattle.clients.specs.declared.turned.Turned.{Turned}
+use Rattle.clients.specs.declared.turned.Turned.TheVariants.{Done}
+use Rattle.clients.specs.Turns.{turned_by}
 use Rattle.tect_world.specs.Life.{Life, present, grown, actor_asks, transaction, step_answer, step_events}
 
 -- The op begins the command, or is refused.

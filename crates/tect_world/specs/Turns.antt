@@ -1,2 +1,2 @@
 -- Whether a command came to its end.
-pub use Rattle.actors.specs.Turns.{turned_by}
+pub use Rattle.clients.specs.Turns.{turned_by}

@@ -6,7 +6,7 @@ ghost use Rattle.tect_world.specs.Clients.{AreIdle};
 ghost use Rattle.tect_world.specs.ClientSteps.{StepsOnce, BeginsOnce, StopsOnce, StaysSo, act_marks, end_marks};
 
 use crate::marks::{Mark, push_mark};
-use actors::Turned;
+use clients::Turned;
 use clients::Client;
 use kept_shards::KeptShards;
 use std::alloc::Global;

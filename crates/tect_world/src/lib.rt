@@ -7,7 +7,7 @@ mod history;
 mod marks;
 mod world;
 
-pub use actors::Turned;
+pub use clients::Turned;
 pub use history::WorldHistory;
 pub use world::World;
 

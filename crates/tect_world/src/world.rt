@@ -13,7 +13,7 @@ ghost use Rattle.tect_world.specs.Told.{IsGathered};
 use crate::acting::{begin_client, idle_clients, step_client, stop_client};
 use crate::history::{WorldHistory, gather_all, take_passes};
 use crate::marks::{Mark, is_short, push_mark};
-use actors::Turned;
+use clients::Turned;
 use clients::Client;
 use kept_shards::KeptShards;
 use std::alloc::Global;
@@ -205,9 +205,10 @@ impl World {
         self.clients[actor as usize - 1].op()
     }
 
-    /// How many transactions the actor's last command took so far, also after its end.
+    /// How many transactions the actor's last command took so far, also after its end: never more than its pass has moments.
     pub fn transactions(&self, actor: u32) -> u64
         requires { (1 ≤ actor) × (actor ≤ 65) }
+        ensures few { result ≤ 65536 }
         ensures count { result ≡ transactions self.now.history (last_op (present self.now) actor) }
         ensures run { IsWorldRun self.now.counts self.now.history }
         ensures limits { KeepsLimits self.now.counts self.now.history }

@@ -1,5 +1,5 @@
 use Rattle.std.proofs.Common.{◌+◌, ◌<◌, subst, arith}
-use Rattle.actors.specs.declared.turned.Turned.{Turned}
+use Rattle.clients.specs.declared.turned.Turned.{Turned}
 use Rattle.tect_world.specs.Life.{present, last_op}
 use Rattle.tect_world.specs.Steps.{Stepped}
 use Rattle.tect_replay.proofs.Stepping.{stepped_more, stepped_end, steps_within}

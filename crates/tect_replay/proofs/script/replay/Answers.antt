@@ -2,7 +2,7 @@ use Rattle.std.proofs.Common.{◌≡◌, ◌<◌, ◌≤◌, ◌+◌, [], length
 use Rattle.std.proofs.KnownBytes.{Appends-nil, Appends-trans}
 use Rattle.tect_replay.specs.Plays.{PlaysLine, shown_lines}
 use Rattle.tect_replay.proofs.Results.{on_ok, on_err, on_err_by}
-use Rattle.tect_replay.proofs.Reached.{played_none, can_play, played_next, text_next, cut_by, history_all}
+use Rattle.tect_replay.proofs.Reached.{played_none, can_play, played_next, text_next, cut_by, run_of_all}
 use Rattle.tect_replay.proofs.Texts.{prefix_none, prefix_whole, prefix_then, proper_then}
 use Rattle.tect_replay.proofs.script.replay.Goals as goal
 
@@ -63,7 +63,7 @@ returns-clause-whole g c =
     on_ok c.write_piece.result
     (λ whole. record {
       history = c.lines.world.history;
-      of_plan = history_all plan c.lines.line-index c.lines.world c.requires le c.lines.invariant.played;
+      of_plan = run_of_all plan c.lines.line-index c.lines.world le c.lines.invariant.played;
       written = Appends-trans _ _ _ _ _ c.lines.invariant.written whole;
     })
     c.write_piece.ensures.whole
@@ -75,7 +75,7 @@ returns-clause-cut g c =
     on_err_by c.write_piece.result
     (λ part. record {
       history = c.lines.world.history;
-      of_plan = history_all plan c.lines.line-index c.lines.world c.requires le c.lines.invariant.played;
+      of_plan = run_of_all plan c.lines.line-index c.lines.world le c.lines.invariant.played;
       written = proper_then _ _ _ _ _ c.lines.invariant.written part;
     })
     c.write_piece.ensures.part

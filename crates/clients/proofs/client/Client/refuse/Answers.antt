@@ -4,7 +4,7 @@ use Rattle.tect_ids.specs.declared.ids.OpId.{OpId}
 use Rattle.tect_ids.specs.declared.command.Command.{Command}
 use Rattle.world_runs.specs.declared.event.Event.{Event}
 use Rattle.world_runs.specs.declared.event.Event.TheVariants.{Refused}
-use Rattle.actors.specs.ActorState.{next_op_of, op_of}
+use Rattle.clients.specs.ActorState.{next_op_of, op_of}
 use Rattle.clients.specs.declared.client.Client.TheInside.{Inside}
 use Rattle.clients.proofs.Begins.{refused_client}
 use Rattle.clients.proofs.Closings.{idle_here, goes_here, few_here, full_here}

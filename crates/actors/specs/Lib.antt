@@ -1,3 +1,0 @@
-pub mod ActorState
-pub mod Inside
-pub mod Turns
