@@ -21,7 +21,7 @@ pub struct Kept<M: Machine> {
     pub(crate) history: Log<Entry>,
     pub(crate) clock: u64,
     pub(crate) count: u64,
-    ghost kept: { IsKept M.after M.answer M.opening label machine base.value history.items clock count } by { IsKept-prop M.code M.after M.answer M.opening label machine base.value history.items clock count },
+    ghost kept: { IsKept M.after M.answer M.opening label machine base.value history.items clock count } by { IsKept-prop M.code _ _ _ _ _ _ _ _ _ },
 }
 
 impl<M: Machine> Kept<M> {
@@ -81,7 +81,8 @@ impl<M: Machine> Kept<M> {
         ensures room { OnOk result (n ≤ self.new.history.spare) }
         ensures keeps { self.old.history.spare ≤ self.new.history.spare }
         ensures history { self.new.history.items ≡ self.old.history.items }
-        ensures same { (self.new.label ≡ self.old.label) × (self.new.machine ≡ self.old.machine) × (self.new.base.value ≡ self.old.base.value)
+        ensures same { (self.new.label ≡ self.old.label) × (self.new.machine ≡ self.old.machine)
+            × (self.new.base.value ≡ self.old.base.value)
             × (self.new.clock ≡ self.old.clock) }
         ensures enough { n ≤ self.old.history.spare → IsOk result × (self.new ≡ self.old) }
         ensures err { OnErr result (self.new ≡ self.old) }
@@ -104,14 +105,19 @@ impl<M: Machine> Kept<M> {
         ensures pass { (pass.new.actor ≡ pass.old.actor) × (pass.new.running ≡ pass.old.running) }
         ensures reply { IfOk result (λ r. M.wide_reply r ≡ M.answer self.old.machine (M.wide req)) }
         ensures state { OnOk result (self.new.machine ≡ M.after self.old.machine (M.wide req)) }
-        ensures history { IfOk result (λ r. self.new.history.items ≡ self.old.history.items ++ entry_of self.old.label self.old.clock pass.old (M.wide req) (M.wide_reply r) ∷ []) }
-        ensures trail { IfOk result (λ r. pass.new.moments.items ≡ pass.old.moments.items ++ Moment.Act (entry_of self.old.label self.old.clock pass.old (M.wide req) (M.wide_reply r)) ∷ []) }
-        ensures clocks { OnOk result ((self.new.clock ≡ next_stamp self.old.clock pass.old) × (pass.new.clock ≡ next_stamp self.old.clock pass.old) × (pass.new.steps ≡ pass.old.steps + 1)) }
+        ensures history { IfOk result (λ r. self.new.history.items ≡ self.old.history.items
+            ++ entry_of self.old.label self.old.clock pass.old (M.wide req) (M.wide_reply r) ∷ []) }
+        ensures trail { IfOk result (λ r. pass.new.moments.items ≡ pass.old.moments.items
+            ++ Moment.Act (entry_of self.old.label self.old.clock pass.old (M.wide req) (M.wide_reply r)) ∷ []) }
+        ensures clocks { OnOk result ((self.new.clock ≡ next_stamp self.old.clock pass.old)
+            × (pass.new.clock ≡ next_stamp self.old.clock pass.old) × (pass.new.steps ≡ pass.old.steps + 1)) }
         ensures bytes { IfOk result (λ r. pass.new.bytes ≡ pass.old.bytes + reply_bytes (M.wide_reply r)) }
-        ensures spares { OnOk result (0 < self.old.history.spare → 0 < spare_of pass.old → (self.new.history.spare + 1 ≡ self.old.history.spare) × (spare_of pass.new + 1 ≡ spare_of pass.old)) }
+        ensures spares { OnOk result (0 < self.old.history.spare → 0 < spare_of pass.old
+            → (self.new.history.spare + 1 ≡ self.old.history.spare) × (spare_of pass.new + 1 ≡ spare_of pass.old)) }
         ensures full { (result ≡ Err (Refused.HistoryFull self.old.label.place)) ↔ IsFull pass.old }
         ensures memory { OnErr result (¬ IsFull pass.old → result ≡ Err Refused.NoMemory) }
-        ensures free { M.is_free self.old.machine (M.wide req) ≡ true → 0 < self.old.history.spare → 0 < spare_of pass.old → ¬ (result ≡ Err Refused.NoMemory) }
+        ensures free { M.is_free self.old.machine (M.wide req) ≡ true → 0 < self.old.history.spare → 0 < spare_of pass.old
+            → ¬ (result ≡ Err Refused.NoMemory) }
         ensures err { OnErr result ((self.new ≡ self.old) × (pass.new ≡ pass.old)) }
     {
         if pass.is_full() {
@@ -134,16 +140,19 @@ impl<M: Machine> Kept<M> {
         ensures pass { (pass.new.actor ≡ pass.old.actor) × (pass.new.running ≡ pass.old.running) }
         ensures reply { IfOk result (λ r. M.wide_reply r ≡ M.answer self.old.machine (M.wide req)) }
         ensures state { OnOk result (self.new.machine ≡ M.after self.old.machine (M.wide req)) }
-        ensures history { IfOk result (λ r. self.new.history.items ≡ self.old.history.items ++ entry_of self.old.label self.old.clock pass.old (M.wide req) (M.wide_reply r) ∷ []) }
-        ensures trail { IfOk result (λ r. pass.new.moments.items ≡ pass.old.moments.items ++ Moment.Act (entry_of self.old.label self.old.clock pass.old (M.wide req) (M.wide_reply r)) ∷ []) }
-        ensures clocks { OnOk result ((self.new.clock ≡ next_stamp self.old.clock pass.old) × (pass.new.clock ≡ next_stamp self.old.clock pass.old) × (pass.new.steps ≡ pass.old.steps + 1)) }
+        ensures history { IfOk result (λ r. self.new.history.items ≡ self.old.history.items
+            ++ entry_of self.old.label self.old.clock pass.old (M.wide req) (M.wide_reply r) ∷ []) }
+        ensures trail { IfOk result (λ r. pass.new.moments.items ≡ pass.old.moments.items
+            ++ Moment.Act (entry_of self.old.label self.old.clock pass.old (M.wide req) (M.wide_reply r)) ∷ []) }
+        ensures clocks { OnOk result ((self.new.clock ≡ next_stamp self.old.clock pass.old)
+            × (pass.new.clock ≡ next_stamp self.old.clock pass.old) × (pass.new.steps ≡ pass.old.steps + 1)) }
         ensures bytes { IfOk result (λ r. pass.new.bytes ≡ pass.old.bytes + reply_bytes (M.wide_reply r)) }
-        ensures spares { OnOk result (0 < self.old.history.spare → 0 < spare_of pass.old → (self.new.history.spare + 1 ≡ self.old.history.spare) × (spare_of pass.new + 1 ≡ spare_of pass.old)) }
+        ensures spares { OnOk result (0 < self.old.history.spare → 0 < spare_of pass.old
+            → (self.new.history.spare + 1 ≡ self.old.history.spare) × (spare_of pass.new + 1 ≡ spare_of pass.old)) }
         ensures free { M.is_free self.old.machine (M.wide req) ≡ true → 0 < self.old.history.spare → 0 < spare_of pass.old → IsOk result }
         ensures err { OnErr result ((self.new ≡ self.old) × (pass.new ≡ pass.old)) }
     {
-        let alloc = self.history.allocator();
-        let prepared = Prepared::new(alloc, pass, req)?;
+        let prepared = Prepared::new(pass, req)?;
         let spare = prepared.spare();
         match self.serve(pass, prepared) {
             Ok((reply, entry)) => {
@@ -191,7 +200,7 @@ impl<M: Machine> Kept<M> {
         let Ok(()) = self.history.reserve(1) else {
             return Err(NoMemory);
         };
-        is_short(self.history.as_slice());
+        note_that_short(self.history.as_slice());
         let stamp = self.clock.max(pass.clock) + 1;
         let Ok(()) = change(&mut self.machine, &req) else {
             self.history.lower(room);
@@ -221,8 +230,8 @@ fn change<M: Machine>(machine: &mut M, req: &M::Req) -> Result<(), NoMemory>
     Ok(())
 }
 
-// A history is short, since its entries take room.
-fn is_short(history: &[Entry])
+/// For the proof alone: a history is short, since its entries take room.
+fn note_that_short(history: &[Entry])
     ensures { length history.now < 2 ^ 59 }
 {
     let _len = history.len();

@@ -33,7 +33,7 @@ fn answer_line(
     ensures { IfOk result (λ line. line ≡ line_of names.now (events_in client.now) (op_in client.now) answer) }
 {
     Ok(ReportLine::Client {
-        client: names[client.actor() as usize - 1].copy(alloc)?,
+        client: names[client.actor() as usize - 1].clone()?,
         op: client.op().number,
         steps: steps_of(client),
         answer,
