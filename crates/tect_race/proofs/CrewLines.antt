@@ -8,9 +8,9 @@ use Rattle.tect_ids.specs.declared.script.Line.TheVariants as lines
 use Rattle.world_runs.specs.Turns.{ClientTurn, TakesAct}
 use Rattle.world_runs.specs.Standing.{AtTurn}
 use Rattle.clients.specs.Lives.{state_in}
-use Rattle.racers.specs.declared.racer.Racer.{Racer}
+use Rattle.players.specs.declared.racer.Racer.{Racer}
 use Rattle.tect_race.specs.declared.crew.Crew.{Crew}
-use Rattle.racers.specs.Lines.{Plays}
+use Rattle.players.specs.Lines.{Plays}
 use Rattle.tect_race.specs.Lines.{Ran, PlaysOrRests}
 use Rattle.tect_race.specs.Crews.{CrewPlays, CrewRan}
 use Rattle.tect_race.specs.Ready.{IsReady, IsCrew, IsOfClient}

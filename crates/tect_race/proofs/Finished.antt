@@ -17,8 +17,8 @@ use Rattle.world_runs.specs.Limits.{OwnLimits}
 use Rattle.world_runs.specs.OwnRuns.{OwnRun}
 use Rattle.clients.specs.Lives.{ClientLife, events_in, IsLife}
 use Rattle.race_runs.specs.Stories.{Part, Story, AllSilent, all_moments, all_events}
-use Rattle.racers.specs.declared.racer.Racer.{Racer}
-use Rattle.racers.specs.Lives.{busy_in}
+use Rattle.players.specs.declared.racer.Racer.{Racer}
+use Rattle.players.specs.Lives.{busy_in}
 use Rattle.tect_race.specs.Crews.{Closed}
 use Rattle.tect_race.specs.Standing.{Stands, all_silent}
 use Rattle.race_ends.specs.HaveRun.{HasStory}

@@ -13,8 +13,8 @@ use Rattle.clients.specs.Lives.{ClientLife, idle_life, events_in, state_in}
 use Rattle.race_runs.specs.Stories.{Story, Part}
 use Rattle.race_runs.specs.Gathered.{IsLineOf, is_dump, answers_now, part_of, rest_of}
 use Rattle.race_runs.proofs.Growing.{no_story, dumped}
-use Rattle.racers.specs.declared.racer.Racer.{Racer}
-use Rattle.racers.specs.Lives.{busy_in}
+use Rattle.players.specs.declared.racer.Racer.{Racer}
+use Rattle.players.specs.Lives.{busy_in}
 use Rattle.race_ends.specs.declared.ended.EndedPart.{EndedPart}
 use Rattle.race_ends.specs.HaveRun.{clocks_of, HasStory, HaveAnswers, HaveRun}
 use Rattle.world_runs.specs.Standing.{AtTurn}

@@ -5,7 +5,7 @@ use Rattle.std.proofs.lemmas.Option.{slice_get_within, slice_get-get_or, get_or_
 use Rattle.std.proofs.Math.Nat.{mod-lt}
 use Rattle.tect_ids.specs.declared.ids.Counts.{Counts}
 use Rattle.tect_ids.specs.declared.script.Line.{Line}
-use Rattle.racers.specs.declared.racer.Racer.{Racer}
+use Rattle.players.specs.declared.racer.Racer.{Racer}
 use Rattle.tect_race.specs.declared.crew.Crew.{Crew}
 use Rattle.tect_race.specs.Lines.{Ran}
 use Rattle.tect_race.specs.Crews.{CrewRan, CrewEnds, CrewsRan, RacersRan}

@@ -1,7 +1,7 @@
 -- The passes of the clients of a race.
 use Rattle.std.specs.Prelude.{◌≡◌, ◌<◌, ◌^◌}
 use Rattle.place_kit.specs.declared.pass.Pass.{Pass}
-use Rattle.racers.specs.declared.racer.Racer.{Racer}
+use Rattle.players.specs.declared.racer.Racer.{Racer}
 
 -- it is what the client noted, and its clock has not come to the limit
 pub record IsPassOf (r : Racer) (p : Pass) : Type 0 where

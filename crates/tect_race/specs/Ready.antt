@@ -7,7 +7,7 @@ use Rattle.tect_ids.specs.declared.script.Line.TheVariants as lines
 use Rattle.world_runs.specs.Turns.{Turns, InTurnFrom}
 use Rattle.world_runs.specs.Standing.{AtTurn}
 use Rattle.clients.specs.Lives.{state_in}
-use Rattle.racers.specs.declared.racer.Racer.{Racer}
+use Rattle.players.specs.declared.racer.Racer.{Racer}
 use Rattle.tect_race.specs.declared.crew.Crew.{Crew}
 
 -- the line is of one of so many clients

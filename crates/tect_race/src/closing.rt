@@ -4,7 +4,7 @@ ghost use Rattle.tect_race.specs.Crews.{AllClosed, Ended};
 
 use entry_words::CLOCK_LIMIT;
 use race_ends::{EndedPart, RaceFault};
-use racers::Racer;
+use players::Racer;
 use std::alloc::Global;
 use tect_ids::{NoMemory, ReportLine};
 

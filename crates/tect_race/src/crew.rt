@@ -1,4 +1,4 @@
-use racers::Racer;
+use players::Racer;
 
 /// The clients of a worker: number i, from 0, is of the worker `i % workers`, and stands at `i / workers`.
 #[derive(Drop)]

@@ -1,9 +1,9 @@
 ghost use Rattle.std.specs.Prelude.{◌≡◌, ◌<◌, [], List, IfOk, length};
-ghost use Rattle.racers.specs.declared.racer.Racer.{Racer as OneRacer};
+ghost use Rattle.players.specs.declared.racer.Racer.{Racer as OneRacer};
 ghost use Rattle.tect_race.specs.Ready.{AreDealt};
 
 use crate::crew::Crew;
-use racers::Racer;
+use players::Racer;
 use std::alloc::Global;
 use tect_ids::NoMemory;
 

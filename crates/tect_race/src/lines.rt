@@ -10,7 +10,7 @@ ghost use Rattle.tect_race.specs.Faults.{race_result};
 use crate::course::Course;
 use crate::crew::Crew;
 use race_ends::RaceFault;
-use racers::{Locked, RacerFault, play_act};
+use players::{Locked, RacerFault, play_act};
 use std::sync::Wait;
 use tect_edge::Gate;
 use tect_ids::Line;

@@ -11,7 +11,7 @@ use crate::course::Course;
 use crate::crew::Crew;
 use crate::crews::{deal, muster};
 use race_ends::RaceFault;
-use racers::Racer;
+use players::Racer;
 use std::sync::Wait;
 use std::thread;
 use std::thread::Threads;

@@ -4,7 +4,7 @@ ghost use Rattle.tect_race.specs.Passes.{IsPassOf};
 
 use entry_words::CLOCK_LIMIT;
 use place_kit::Pass;
-use racers::Racer;
+use players::Racer;
 use std::alloc::Global;
 use tect_ids::NoMemory;
 

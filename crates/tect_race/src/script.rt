@@ -10,7 +10,7 @@ use crate::course::Course;
 use crate::part::run_part;
 use clients::Client;
 use race_ends::{EndedPart, RaceFault};
-use racers::Racer;
+use players::Racer;
 use std::alloc::Global;
 use std::sync::Wait;
 use std::thread::Threads;

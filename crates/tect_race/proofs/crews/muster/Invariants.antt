@@ -1,5 +1,5 @@
 use Rattle.std.proofs.Common.{◌≡◌, List, length}
-use Rattle.racers.specs.declared.racer.Racer.{Racer}
+use Rattle.players.specs.declared.racer.Racer.{Racer}
 use Rattle.tect_race.specs.Ready.{AreDealt, IsMustered}
 use Rattle.tect_race.proofs.crews.muster.Given as goal
 

@@ -1,5 +1,5 @@
 use Rattle.std.proofs.Common.{◌≡◌, ◌<◌, List, length, drop, slice_range, sym, subst, ◌∙◌}
-use Rattle.racers.specs.declared.racer.Racer.{Racer}
+use Rattle.players.specs.declared.racer.Racer.{Racer}
 use Rattle.tect_race.specs.Crews.{RacersRan}
 use Rattle.tect_race.specs.Ready.{AreCrews, AreDealt, AreRacers}
 use Rattle.tect_race.proofs.Mustering.{crews_dealt, after, after_length, after_dealt, after_ran, after_ready}

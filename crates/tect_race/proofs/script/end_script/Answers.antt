@@ -1,7 +1,7 @@
 use Rattle.std.proofs.Common.{◌≡◌, List, length, sym, ap, subst, ◌∙◌}
 use Rattle.std.specs.List.{flat_map}
 use Rattle.std.proofs.lemmas.List.{with_items_is}
-use Rattle.racers.specs.declared.racer.Racer.{Racer}
+use Rattle.players.specs.declared.racer.Racer.{Racer}
 use Rattle.race_ends.specs.HaveRun.{HaveRun}
 use Rattle.tect_race.specs.Crews.{AllClosed, Closed}
 use Rattle.tect_race.proofs.Coming.{come_to_end}
