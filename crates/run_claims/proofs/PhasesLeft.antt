@@ -23,7 +23,7 @@ use Rattle.program_rules.specs.declared.program.Phase.{Phase}
 use Rattle.program_rules.specs.declared.program.Phase.TheVariants.{Walk, Bind, Grant, Swap, Release, End}
 use Rattle.program_rules.specs.Paths.{but_last, last_name}
 use Rattle.program_rules.specs.Programs.{new_path, at_last, grant_ask, release_ask, phase_ask, phase_hear, first_ask, first_phase, walked, looked, checked, entries_heard, made_heard, unbound_heard, source_heard, first_hear, then_release, bound_heard, swapped_heard, refusal}
-use Rattle.run_bounds.specs.Bounds.{is_look, most_looks}
+use Rattle.run_claims.specs.Bounds.{is_look, most_looks}
 
 -- a look at the last name comes after the walk
 abbrev pub own_looks : Command → ℕ

@@ -20,12 +20,16 @@ use Rattle.world_runs.specs.Moments.{WorldState, opening, CanBegin, after, after
 use Rattle.world_runs.specs.TreeSteps.{tree_steps, tree_after}
 use Rattle.world_runs.specs.Report.{transactions, report, report_after, answer_line, client_name}
 use Rattle.world_runs.specs.Follows.{Acts, IsEndOf, EndsAfter, BeginsAndEnds, DoesLine, Busy, none_busy, with_busy, FollowsFrom, Follows, NoneFails}
-use Rattle.tree_runs.specs.Session.{Played, played, played_line, IsPlayed, session_lines, session_script}
-use Rattle.tree_runs.specs.Session as session
-use Rattle.tree_runs.proofs.Tracks.{Tracks, opening_tracks, actor_cases}
+use Rattle.session_runs.specs.Session.{Played, played, played_line, IsPlayed, session_lines, session_script}
+use Rattle.session_runs.specs.Session as session
+use Rattle.tree_runs.proofs.Tracks.{Tracks, opening_tracks}
 use Rattle.tree_runs.proofs.Runs.{event_tracked, run_tracked}
-use Rattle.tree_runs.proofs.Histories.{after_all-append, run-front, run-rest, tree_steps-append, report-append, transactions-append, none_fails-front, none_fails-rest, begin_is, Quiet, quiet_run}
-use Rattle.tree_runs.proofs.Comes.{Stands, Comes, Goes, look_goes, create_goes}
+use Rattle.tree_runs.proofs.Histories.{tree_steps-append}
+use Rattle.session_runs.proofs.Quiet.{Quiet, quiet_run}
+use Rattle.world_runs.proofs.Histories.{run-front, run-rest, report-append, none_fails-front, none_fails-rest, begin_is}
+use Rattle.world_runs.proofs.Actors.{after_all-append, changed}
+use Rattle.world_runs.proofs.OwnLines.{transactions-append}
+use Rattle.session_runs.proofs.Comes.{Stands, Comes, Goes, look_goes, create_goes}
 
 -- ---- transactions alone
 
@@ -33,7 +37,7 @@ use Rattle.tree_runs.proofs.Comes.{Stands, Comes, Goes, look_goes, create_goes}
 pub acts_numbers : (m : WorldState) (op : OpId) (n : ℕ) (es : List Event) (a : ℕ) → Acts op n es → ((after_all m es).actors a).number ≡ (m.actors a).number
 acts_numbers m op n [] a acts = refl
 acts_numbers m op n (Acted o q x ∷ es) a acts =
-    acts_numbers (after m (Acted o q x)) op (acts.1).0 es a (acts.1).2 ∙ actor_cases (λ st. st.number ≡ (m.actors a).number) m.actors o.actor _ a (λ e. rw e refl) (λ d. refl)
+    acts_numbers (after m (Acted o q x)) op (acts.1).0 es a (acts.1).2 ∙ changed (λ st. st.number ≡ (m.actors a).number) m.actors o.actor _ a (λ e. rw e refl) (λ d. refl)
 acts_numbers m op n (Began o c ∷ es) a acts = absurd acts
 acts_numbers m op n (Refused o c ∷ es) a acts = absurd acts
 acts_numbers m op n (Ended o c ∷ es) a acts = absurd acts

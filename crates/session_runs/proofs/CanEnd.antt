@@ -2,57 +2,47 @@
 use Rattle.std.proofs.Common.{◌≡◌, ◌≤◌, ◌+◌, ℕ, zero, suc, ◌⊎◌, inl, inr, true, false, ◌||◌, is_some, Option, Some, None, List, [], ◌∷◌, ◌++◌, refl, sym, subst, ◌∙◌, arith, take}
 use Rattle.tect_ids.specs.declared.ids.OpId.{OpId}
 use Rattle.tect_ids.specs.declared.answer.Answer.{Answer}
-use Rattle.tect_ids.specs.Keys.{op_eq}
-use Rattle.tect_ids.proofs.KeyTests.{op_eq_cases}
 use Rattle.store_rules.specs.declared.any.AnyReq.{AnyReq}
 use Rattle.store_rules.specs.Store.{store_reply}
 use Rattle.program_rules.specs.declared.program.Program.{Program}
 use Rattle.world_runs.specs.declared.event.Event.{Event}
 use Rattle.world_runs.specs.declared.event.Event.TheVariants.{Began, Refused, Acted, Ended, Stopped, Failed, Dumped}
-use Rattle.world_runs.specs.Moments.{WorldState, after, running, asked, answered, program_of}
+use Rattle.world_runs.specs.Moments.{WorldState, RunFrom, after, running, asked, answered}
 use Rattle.world_runs.specs.Follows.{Acts, EndsAfter, NoneFails}
 use Rattle.world_runs.specs.Report.{is_act_of}
-use Rattle.store_world.specs.Worlds.{Ghost}
-use Rattle.sound_runs.specs.Known.{AllSound, Knows}
-use Rattle.sound_runs.specs.Pasts.{ghost_after, world_of}
-use Rattle.sound_runs.proofs.MomentsKeep.{RunsAs, event_sound}
-use Rattle.sound_runs.proofs.RunsKeep.{knows_of, running_is_of, running_does}
-use Rattle.tree_runs.proofs.Histories.{acts_none_fail, none_fails-append}
-use Rattle.tree_runs.proofs.Ends.{CanEnd}
-use Rattle.run_bounds.specs.Bounds.{is_look_of, is_other_of}
-use Rattle.run_bounds.proofs.PhasesLeft.{looks_left, others_left, one_if}
-use Rattle.run_bounds.proofs.Steps.{Runs, GoesOn, own_acts}
-use Rattle.run_bounds.proofs.RunsShort.{event_splits}
-use Rattle.script_runs.proofs.Lines.{IsBusy}
+use Rattle.world_runs.proofs.Running.{AllWell, RunsAs, event_well, running_does, running_is_of}
+use Rattle.world_runs.proofs.Histories.{acts_none_fail, none_fails-append}
+use Rattle.run_claims.specs.Bounds.{is_look_of, is_other_of}
+use Rattle.run_claims.proofs.PhasesLeft.{looks_left, others_left, one_if}
+use Rattle.run_claims.proofs.Steps.{Runs, GoesOn, own_acts, same_op}
+use Rattle.run_claims.proofs.RunsShort.{event_splits}
 
 -- at most how many transactions are to come
 abbrev pub left : Program → ℕ
 left p = looks_left p.command p.phase + others_left p.phase
 
-itself : (op : OpId) → op_eq op op ≡ true
-itself op = grind (arith, op_eq_cases op op)
-
--- the program runs as its op
-pub runs_as_its_op : (o : Option Program) (p : Program) (op : OpId) → o ≡ Some p → p.op ≡ op → program_of o op ≡ Some p
-runs_as_its_op o p op is its = let yes : op_eq p.op op ≡ true = rw its (itself op) in rw (is, yes) refl
-
-pub busy_runs : (m : WorldState) (a : ℕ) (op : OpId) → (b : IsBusy m a op) → running m op ≡ Some b.program
-busy_runs m a op b = runs_as_its_op (m.actors op.actor).running b.program op (rw b.own b.runs) b.its
-
 -- a transaction leaves one less
 falls : (m : WorldState) (op : OpId) (q : AnyReq) (p : Program) (g : GoesOn m (Acted op q (store_reply m.store q)) op p) → left g.next + 1 ≤ left p
 falls m op q p g =
     let e : Event = Acted op q (store_reply m.store q) in
-    let one : 1 ≡ one_if (is_look_of op e) + one_if (is_other_of op e) = let own : one_if (is_act_of op e) ≡ 1 = rw (itself op) refl in sym own ∙ event_splits e op in
+    let one : 1 ≡ one_if (is_look_of op e) + one_if (is_other_of op e) = let own : one_if (is_act_of op e) ≡ 1 = rw (same_op op op refl) refl in sym own ∙ event_splits e op in
     omega (arith, one, g.looks, g.others)
 
 -- the op's number is one that its actor came to
-pub runs_old : (m : WorldState) (g : Ghost) → AllSound m g → (op : OpId) (p : Program) → running m op ≡ Some p → Runs m op p
-runs_old m g s op p is =
+runs_old : (m : WorldState) → AllWell m → (op : OpId) (p : Program) → running m op ≡ Some p → Runs m op p
+runs_old m s op p is =
     let r : RunsAs (m.actors op.actor).running op p = running_is_of m op p is in
-    let k : Knows (world_of m g) op.actor (m.actors op.actor).serial (m.actors op.actor).number p = knows_of m g s op.actor p r.is in
-    let last : op.number ≡ (m.actors op.actor).number = subst (λ (o : OpId). o.number ≡ (m.actors op.actor).number) r.same k.last in
+    let last : op.number ≡ (m.actors op.actor).number =
+    subst (λ (o : OpId). o.number ≡ (m.actors op.actor).number) r.same (s op.actor p r.is).begun.last in
     record { old = omega (arith, last); is = is }
+
+-- transactions of the op, and then its end
+pub record CanEnd (m : WorldState) (op : OpId) : Type 0 where
+  pub front : List Event
+  pub count : ℕ
+  pub answer : Answer
+  pub acts : Acts op count front
+  pub run : RunFrom m (front ++ Ended op answer ∷ [])
 
 end_now : (m : WorldState) (op : OpId) (a : Answer) → answered m op ≡ Some a → CanEnd m op
 end_now m op a is = record { front = []; count = 0; answer = a; acts = refl; run = (is, tt) }
@@ -67,8 +57,8 @@ act_then m op q asks e = record {
 }
 
 -- the op's own transaction
-goes_on : (m : WorldState) (g : Ghost) → AllSound m g → (op : OpId) (p : Program) → running m op ≡ Some p → (q : AnyReq) → asked m op ≡ Some q → GoesOn m (Acted op q (store_reply m.store q)) op p
-goes_on m g s op p is q asks = own_acts m op q (store_reply m.store q) (asks, refl) p (runs_old m g s op p is)
+goes_on : (m : WorldState) → AllWell m → (op : OpId) (p : Program) → running m op ≡ Some p → (q : AnyReq) → asked m op ≡ Some q → GoesOn m (Acted op q (store_reply m.store q)) op p
+goes_on m s op p is q asks = own_acts m op q (store_reply m.store q) (asks, refl) p (runs_old m s op p is)
 
 -- it asks, or has its answer
 asks_or_says : (o : Option AnyReq) (x : Option Answer) → (is_some o || is_some x) ≡ true → ((q : AnyReq) × (o ≡ Some q)) ⊎ ((a : Answer) × (x ≡ Some a))
@@ -77,23 +67,23 @@ asks_or_says None (Some a) does = inr (a, refl)
 asks_or_says None None does = absurd (let k : false ≡ true = does in cc)
 
 -- with so many transactions left, or fewer
-pub ends_within : (bound : ℕ) (m : WorldState) (g : Ghost) → AllSound m g → (op : OpId) (p : Program) → running m op ≡ Some p → left p ≤ bound → CanEnd m op
-ends_within zero m g s op p is few =
-    elim (asks_or_says (asked m op) (answered m op) (running_does m g s op p is)) [
-      | inl ask ↦ absurd (omega (arith, falls m op ask.0 p (goes_on m g s op p is ask.0 ask.1), few))
+pub ends_within : (bound : ℕ) (m : WorldState) → AllWell m → (op : OpId) (p : Program) → running m op ≡ Some p → left p ≤ bound → CanEnd m op
+ends_within zero m s op p is few =
+    elim (asks_or_says (asked m op) (answered m op) (running_does m s op p is)) [
+      | inl ask ↦ absurd (omega (arith, falls m op ask.0 p (goes_on m s op p is ask.0 ask.1), few))
       | inr say ↦ end_now m op say.0 say.1
     ]
-ends_within (suc bound) m g s op p is few =
-    elim (asks_or_says (asked m op) (answered m op) (running_does m g s op p is)) [
+ends_within (suc bound) m s op p is few =
+    elim (asks_or_says (asked m op) (answered m op) (running_does m s op p is)) [
       | inl ask ↦
           let e : Event = Acted op ask.0 (store_reply m.store ask.0) in
-          let on : GoesOn m e op p = goes_on m g s op p is ask.0 ask.1 in
-          act_then m op ask.0 ask.1 (ends_within bound (after m e) (ghost_after m g e) (event_sound m g e s (ask.1, refl)) op on.next (on.runs).is (omega (arith, falls m op ask.0 p on, few)))
+          let on : GoesOn m e op p = goes_on m s op p is ask.0 ask.1 in
+          act_then m op ask.0 ask.1 (ends_within bound (after m e) (event_well m e s (ask.1, refl)) op on.next (on.runs).is (omega (arith, falls m op ask.0 p on, few)))
       | inr say ↦ end_now m op say.0 say.1
     ]
 
-pub running_ends : (m : WorldState) (g : Ghost) → AllSound m g → (op : OpId) (p : Program) → running m op ≡ Some p → CanEnd m op
-running_ends m g s op p is = ends_within (left p) m g s op p is (omega arith)
+pub running_ends : (m : WorldState) → AllWell m → (op : OpId) (p : Program) → running m op ≡ Some p → CanEnd m op
+running_ends m s op p is = ends_within (left p) m s op p is (omega arith)
 
 -- the events to its end
 abbrev pub to_end : (m : WorldState) (op : OpId) → CanEnd m op → List Event

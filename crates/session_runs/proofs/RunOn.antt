@@ -12,22 +12,18 @@ use Rattle.world_runs.specs.declared.event.Event.TheVariants.{Began, Ended, Stop
 use Rattle.world_runs.specs.Served.{IsServed}
 use Rattle.world_runs.specs.Moments.{WorldState, May, opening, after, after_all, RunFrom, IsWorldRun, moment, running, program_of, begun}
 use Rattle.world_runs.specs.Follows.{Acts, DoesLine, Busy, FollowsFrom, NoneFails}
-use Rattle.world_runs.specs.Turns.{ClientTurn, Turns, all_idle, with_turn, turn_after, turns_after, TakesAct, InTurnFrom, InTurn}
+use Rattle.world_runs.specs.Turns.{ClientTurn, Turns, all_idle, with_turn, turn_after, turns_after, TakesAct, InTurnFrom}
 use Rattle.world_runs.specs.Turns as turns
-use Rattle.store_world.specs.Worlds.{Ghost, opening_ghost}
-use Rattle.sound_runs.specs.Known.{AllSound}
-use Rattle.sound_runs.specs.Pasts.{ghost_after, ghosts, ghosts_after}
-use Rattle.sound_runs.proofs.MomentsKeep.{event_sound, opening_all_sound}
-use Rattle.sound_runs.proofs.RunsKeep.{run_keeps, front_runs, run_all_sound}
-use Rattle.tree_runs.proofs.Histories.{run-front, run-append, none_fails-append, acts_none_fail}
-use Rattle.tree_runs.proofs.Ends.{CanEnd}
+use Rattle.world_runs.proofs.Running.{AllWell, all_well, event_well, opening_well, run_well}
+use Rattle.world_runs.proofs.Histories.{front_runs}
+use Rattle.world_runs.proofs.Histories.{run-front, run-append, none_fails-append, acts_none_fail}
 use Rattle.world_runs.specs.Standing.{op_of, busy_at, AtTurn}
 use Rattle.world_runs.specs.Smooth.{EndsAtOnce}
-use Rattle.script_runs.specs.Laws.{EachScriptCanBeRunOn}
-use Rattle.script_runs.proofs.Moves.{changed_there}
-use Rattle.script_runs.proofs.Lines.{IsBusy, busy_is, IsDone, line_does, busy_after}
-use Rattle.script_runs.proofs.FollowOn.{AllStand, stand_after, stand_by_turn, opening_stand, run_follows_on}
-use Rattle.script_runs.proofs.CanEnd.{runs_as_its_op, busy_runs, running_ends, to_end, end_follows, end_none_fails, acts_take}
+use Rattle.session_runs.specs.RunningOn.{EachScriptCanBeRunOn}
+use Rattle.world_runs.proofs.Actors.{changed_there}
+use Rattle.script_runs.proofs.Lines.{IsBusy, busy_is, busy_runs, runs_as_its_op, IsDone, line_does, busy_after}
+use Rattle.script_runs.proofs.FollowOn.{turn_front, turn_back, AllStand, stand_after, stand_by_turn, opening_stand, run_follows_on}
+use Rattle.session_runs.proofs.CanEnd.{CanEnd, running_ends, to_end, end_follows, end_none_fails, acts_take}
 use Rattle.script_runs.proofs.AtOnce.{at_once-append, end_at_once, take_at_once}
 
 -- ---- a line
@@ -45,7 +41,7 @@ nothing : (m : WorldState) (a : ℕ) (busy next : Option OpId) (act : Act) → D
 nothing m a busy next act does = record { events = []; next = next; run = tt; does = does; none_fails = tt; at_once = tt }
 
 -- an idle actor
-module _ (m : WorldState) (g : Ghost) (s : AllSound m g) (a : ℕ) (c : Command) (from : 1 ≤ a) (upto : a ≤ 64) (served : IsServed c) (stood : AtTurn turns.Idle (m.actors a))
+module _ (m : WorldState) (s : AllWell m) (a : ℕ) (c : Command) (from : 1 ≤ a) (upto : a ≤ 64) (served : IsServed c) (stood : AtTurn turns.Idle (m.actors a))
     (few : (m.actors a).number + 1 < 2 ^ 31) where
   -- its next op
   abbrev op : OpId
@@ -62,7 +58,7 @@ module _ (m : WorldState) (g : Ghost) (s : AllSound m g) (a : ℕ) (c : Command)
   runs = changed_there (λ st. program_of st.running op ≡ Some (started op c)) m.actors a (begun (m.actors a) op c) (runs_as_its_op (Some (started op c)) (started op c) op refl refl)
 
   can : CanEnd (after m began) op
-  can = running_ends (after m began) (ghost_after m g began) (event_sound m g began s may) op (started op c) runs
+  can = running_ends (after m began) (event_well m began s may) op (started op c) runs
 
   can_begin : CanDo m a None (acts.Begin c)
   can_begin = record { events = began ∷ []; next = Some op; run = (may, tt); does = (op, began, refl, refl, (refl, refl), refl); none_fails = (tt, tt); at_once = (tt, tt) }
@@ -78,15 +74,15 @@ module _ (m : WorldState) (g : Ghost) (s : AllSound m g) (a : ℕ) (c : Command)
   }
 
 -- a busy actor
-module _ (m : WorldState) (g : Ghost) (s : AllSound m g) (a : ℕ) (op : OpId) (is : busy_at m a ≡ Some op) where
+module _ (m : WorldState) (s : AllWell m) (a : ℕ) (op : OpId) (is : busy_at m a ≡ Some op) where
   busy : IsBusy m a op
-  busy = busy_is m g s a op is
+  busy = busy_is m s a op is
 
   runs_on : running m op ≡ Some busy.program
   runs_on = busy_runs m a op busy
 
   ends : CanEnd m op
-  ends = running_ends m g s op busy.program runs_on
+  ends = running_ends m s op busy.program runs_on
 
   can_run : CanDo m a (Some op) acts.Run
   can_run = record { events = to_end m op ends; next = None; run = ends.run; does = ((ends.count, end_follows m op ends), refl); none_fails = end_none_fails m op ends; at_once = end_at_once op m ends.count ends.front (Ended op ends.answer) refl ends.acts ends.run }
@@ -111,25 +107,25 @@ module _ (m : WorldState) (g : Ghost) (s : AllSound m g) (a : ℕ) (op : OpId) (
 either : (n k : ℕ) → (n ≤ k) ⊎ (k + 1 ≤ n)
 either n k = grind arith
 
-module _ (m : WorldState) (g : Ghost) (s : AllSound m g) (a : ℕ) where
+module _ (m : WorldState) (s : AllWell m) (a : ℕ) where
   step_can : (n : ℕ) (busy : Option OpId) → busy_at m a ≡ busy → CanDo m a busy (acts.Step n)
   step_can n None is = nothing m a None None (acts.Step n) (refl, refl)
-  step_can n (Some op) is = can_step m g s a op is n (either _ n)
+  step_can n (Some op) is = can_step m s a op is n (either _ n)
 
   run_can : (busy : Option OpId) → busy_at m a ≡ busy → CanDo m a busy acts.Run
   run_can None is = nothing m a None None acts.Run (refl, refl)
-  run_can (Some op) is = can_run m g s a op is
+  run_can (Some op) is = can_run m s a op is
 
   stop_can : (busy : Option OpId) → busy_at m a ≡ busy → CanDo m a busy acts.Stop
   stop_can None is = nothing m a None None acts.Stop (refl, refl)
-  stop_can (Some op) is = can_stop m g s a op is
+  stop_can (Some op) is = can_stop m s a op is
 
   -- any line in turn
   line_can : (turn : ClientTurn) (act : Act) → 1 ≤ a → a ≤ 64 → TakesAct turn act → AtTurn turn (m.actors a) → (m.actors a).number + 1 < 2 ^ 31 → CanDo m a (busy_at m a) act
   line_can turns.Idle (acts.Do c) from upto takes stood few =
-      subst (λ (o : Option OpId). CanDo m a o (acts.Do c)) (sym (ap op_of stood.0)) (can_do m g s a c from upto takes stood few)
+      subst (λ (o : Option OpId). CanDo m a o (acts.Do c)) (sym (ap op_of stood.0)) (can_do m s a c from upto takes stood few)
   line_can turns.Idle (acts.Begin c) from upto takes stood few =
-      subst (λ (o : Option OpId). CanDo m a o (acts.Begin c)) (sym (ap op_of stood.0)) (can_begin m g s a c from upto takes stood few)
+      subst (λ (o : Option OpId). CanDo m a o (acts.Begin c)) (sym (ap op_of stood.0)) (can_begin m s a c from upto takes stood few)
   line_can turns.Idle (acts.Step n) from upto takes stood few = absurd takes
   line_can turns.Idle acts.Run from upto takes stood few = absurd takes
   line_can turns.Idle acts.Stop from upto takes stood few = absurd takes
@@ -150,14 +146,14 @@ record CanFollow (m : WorldState) (ls : List Line) : Type 0 where
   none_fails : NoneFails events
   at_once : EndsAtOnce m events
 
-lines_can : (ls : List Line) (m : WorldState) (g : Ghost) (turns : Turns) (k : ℕ) → AllSound m g → InTurnFrom turns ls → AllStand m turns k → k + length ls < 2 ^ 31 → CanFollow m ls
-lines_can [] m g turns k s in_turn all few = record { events = []; run = tt; follows = refl; none_fails = tt; at_once = tt }
-lines_can (lines.Client client a act ∷ ls) m g turns k s in_turn all few =
-    let d : CanDo m a (busy_at m a) act = line_can m g s a (turns a) act in_turn.0 in_turn.1 in_turn.2 (all a).stands (omega (arith, (all a).began, few)) in
+lines_can : (ls : List Line) (m : WorldState) (turns : Turns) (k : ℕ) → AllWell m → InTurnFrom turns ls → AllStand m turns k → k + length ls < 2 ^ 31 → CanFollow m ls
+lines_can [] m turns k s in_turn all few = record { events = []; run = tt; follows = refl; none_fails = tt; at_once = tt }
+lines_can (lines.Client client a act ∷ ls) m turns k s in_turn all few =
+    let d : CanDo m a (busy_at m a) act = line_can m s a (turns a) act in_turn.0 in_turn.1 in_turn.2 (all a).stands (omega (arith, (all a).began, few)) in
     let n : WorldState = after_all m d.events in
-    let done : IsDone m n a act d.next = line_does m g s a act d.events d.next d.run d.does in
+    let done : IsDone m n a act d.next = line_does m s a act d.events d.next d.run d.does in
     let rest : CanFollow n ls =
-    lines_can ls n (ghosts_after m g d.events) (with_turn turns a (turn_after act)) (k + 1) (run_keeps d.events m g s d.run) in_turn.3
+    lines_can ls n (with_turn turns a (turn_after act)) (k + 1) (run_well d.events m s d.run) in_turn.3
     (stand_after m n turns k a act d.events d.next done d.does in_turn.2 all) (omega (arith, few)) in
     record {
       events = d.events ++ rest.events;
@@ -166,37 +162,21 @@ lines_can (lines.Client client a act ∷ ls) m g turns k s in_turn all few =
       none_fails = none_fails-append d.events rest.events d.none_fails rest.none_fails;
       at_once = at_once-append m d.events rest.events d.at_once rest.at_once;
     }
-lines_can (lines.Dump ∷ ls) m g turns k s in_turn all few =
-    let rest : CanFollow m ls = lines_can ls m g turns k s in_turn all (omega (arith, few)) in
+lines_can (lines.Dump ∷ ls) m turns k s in_turn all few =
+    let rest : CanFollow m ls = lines_can ls m turns k s in_turn all (omega (arith, few)) in
     record { events = Dumped ∷ rest.events; run = (tt, rest.run); follows = (rest.events, refl, rest.follows); none_fails = (tt, rest.none_fails); at_once = (tt, rest.at_once) }
-lines_can (lines.Store counts ∷ ls) m g turns k s in_turn all few = absurd in_turn
-lines_can (lines.Sweep ∷ ls) m g turns k s in_turn all few = absurd in_turn
-lines_can (lines.Lose disk ∷ ls) m g turns k s in_turn all few = absurd in_turn
+lines_can (lines.Store counts ∷ ls) m turns k s in_turn all few = absurd in_turn
+lines_can (lines.Sweep ∷ ls) m turns k s in_turn all few = absurd in_turn
+lines_can (lines.Lose disk ∷ ls) m turns k s in_turn all few = absurd in_turn
 
 -- ---- a script of two parts
-
-pub turn_front : (front back : List Line) (turns : Turns) → InTurnFrom turns (front ++ back) → InTurnFrom turns front
-turn_front [] back turns t = tt
-turn_front (lines.Client client a act ∷ ls) back turns t = (t.0, t.1, t.2, turn_front ls back (with_turn turns a (turn_after act)) t.3)
-turn_front (lines.Dump ∷ ls) back turns t = turn_front ls back turns t
-turn_front (lines.Store counts ∷ ls) back turns t = absurd t
-turn_front (lines.Sweep ∷ ls) back turns t = absurd t
-turn_front (lines.Lose disk ∷ ls) back turns t = absurd t
-
-pub turn_back : (front back : List Line) (turns : Turns) → InTurnFrom turns (front ++ back) → InTurnFrom (turns_after turns front) back
-turn_back [] back turns t = t
-turn_back (lines.Client client a act ∷ ls) back turns t = turn_back ls back (with_turn turns a (turn_after act)) t.3
-turn_back (lines.Dump ∷ ls) back turns t = turn_back ls back turns t
-turn_back (lines.Store counts ∷ ls) back turns t = absurd t
-turn_back (lines.Sweep ∷ ls) back turns t = absurd t
-turn_back (lines.Lose disk ∷ ls) back turns t = absurd t
 
 pub each_script_can_be_run_on : EachScriptCanBeRunOn
 each_script_can_be_run_on counts front back history in_turn few run f =
     let all : AllStand (moment counts history) (turns_after all_idle front) (0 + length front) =
-    stand_by_turn front (opening counts) opening_ghost all_idle 0 history (opening_all_sound counts) (turn_front front back all_idle in_turn) run f (opening_stand counts) in
+    stand_by_turn front (opening counts) all_idle 0 history (opening_well counts) (turn_front front back all_idle in_turn) run f (opening_stand counts) in
     let rest : CanFollow (moment counts history) back =
-    lines_can back (moment counts history) (ghosts counts history) (turns_after all_idle front) (0 + length front) (run_all_sound counts history run) (turn_back front back all_idle in_turn) all
+    lines_can back (moment counts history) (turns_after all_idle front) (0 + length front) (all_well counts history run) (turn_back front back all_idle in_turn) all
     (omega (arith, few, length-append front back)) in
     let whole : IsWorldRun counts (history ++ rest.events) = run-append (opening counts) history rest.events run rest.run in
     (rest.events, whole, run_follows_on counts front back history rest.events whole f rest.follows, rest.none_fails, rest.at_once)

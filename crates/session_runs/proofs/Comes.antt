@@ -46,8 +46,8 @@ use Rattle.world_runs.specs.TreeSteps.{told_of, told_as, tree_steps, tree_step, 
 use Rattle.world_runs.specs.Points.{refused_answer, done_answer}
 use Rattle.world_runs.specs.Follows.{Acts}
 use Rattle.tree_runs.specs.View.{AllMade, shown_entry}
-use Rattle.tree_runs.specs.Session.{Played, stepped, found_answer, releases}
-use Rattle.tree_runs.specs.Session as session
+use Rattle.session_runs.specs.Session.{Played, stepped, found_answer, releases}
+use Rattle.session_runs.specs.Session as session
 use Rattle.tree_runs.proofs.ValuesSeen.{get-map_values}
 use Rattle.tree_runs.proofs.Tracks.{Tracks, TreeMade, Knows, all_made, file_at}
 use Rattle.tree_runs.proofs.Phases.{make_file_made, look_same, bind_same, release_same}

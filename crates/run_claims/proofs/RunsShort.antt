@@ -12,9 +12,9 @@ use Rattle.world_runs.specs.declared.event.Event.TheVariants.{Began, Refused, Ac
 use Rattle.world_runs.specs.Moments.{WorldState, RunFrom, IsWorldRun, opening, after}
 use Rattle.world_runs.specs.Headline.{or_later, command_of}
 use Rattle.world_runs.specs.Report.{is_act_of, transactions}
-use Rattle.run_bounds.specs.Bounds.{is_look, is_look_of, is_other_of, looks_of, others_of, most_looks, IsShort}
-use Rattle.run_bounds.proofs.PhasesLeft.{looks_left, others_left, one_if, Leaves, first_leaves}
-use Rattle.run_bounds.proofs.Steps.{IsPast, Runs, IsAhead, IsNone, Rests, Declines, past_step, running_step, ahead_step}
+use Rattle.run_claims.specs.Bounds.{is_look, is_look_of, is_other_of, looks_of, others_of, most_looks, IsShort}
+use Rattle.run_claims.proofs.PhasesLeft.{looks_left, others_left, one_if, Leaves, first_leaves}
+use Rattle.run_claims.proofs.Steps.{IsPast, Runs, IsAhead, IsNone, Rests, Declines, past_step, running_step, ahead_step}
 
 -- ---- an op that is past
 

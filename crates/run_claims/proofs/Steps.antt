@@ -17,11 +17,11 @@ use Rattle.world_runs.specs.declared.event.Event.TheVariants.{Began, Refused, Ac
 use Rattle.program_rules.specs.Lacks.{no_room}
 use Rattle.world_runs.specs.Moments.{WorldState, Actor, May, after, program_of, running, program_ask, program_answer, begun, refused, went_on, heard}
 use Rattle.world_runs.specs.Headline.{begun_by}
-use Rattle.sound_runs.proofs.MomentsKeep.{RunsAs, runs_as}
-use Rattle.tree_runs.proofs.Histories.{numbers_grow}
-use Rattle.tree_runs.proofs.Tracks.{actor_cases}
-use Rattle.run_bounds.specs.Bounds.{is_look_of, is_other_of}
-use Rattle.run_bounds.proofs.PhasesLeft.{looks_left, others_left, one_if, looks_asked, others_asked, Falls, phase_falls}
+use Rattle.world_runs.proofs.Actors.{changed}
+use Rattle.world_runs.proofs.Running.{RunsAs, runs_as}
+use Rattle.world_runs.proofs.Histories.{numbers_grow}
+use Rattle.run_claims.specs.Bounds.{is_look_of, is_other_of}
+use Rattle.run_claims.proofs.PhasesLeft.{looks_left, others_left, one_if, looks_asked, others_asked, Falls, phase_falls}
 
 -- ---- where an op stands at a moment
 
@@ -73,7 +73,7 @@ other_none op (Failed other a) t = record { looks = refl; others = refl }
 other_none op Dumped t = record { looks = refl; others = refl }
 
 -- an op is itself
-same_op : (a b : OpId) → a ≡ b → op_eq a b ≡ true
+pub same_op : (a b : OpId) → a ≡ b → op_eq a b ≡ true
 same_op a b e = grind (arith, e, op_eq_cases a b)
 
 -- what asks runs
@@ -105,30 +105,30 @@ heard_alone counts serial q x o other op p e t =
 -- an event of another op leaves the op's program
 other_keeps : (m : WorldState) (e : Event) → May m e → (op : OpId) → op_eq (op_of e) op ≡ false → running (after m e) op ≡ running m op
 other_keeps m (Began other c) may op t =
-    actor_cases (λ st. program_of st.running op ≡ running m op) m.actors other.actor (begun (m.actors other.actor) other c) op.actor
+    changed (λ st. program_of st.running op ≡ running m op) m.actors other.actor (begun (m.actors other.actor) other c) op.actor
     (λ same. let idle : (m.actors op.actor).running ≡ None = rw same (may.0).idle in rw (t, idle) refl) (λ d. refl)
 other_keeps m (Refused other c) may op t =
-    actor_cases (λ st. program_of st.running op ≡ running m op) m.actors other.actor (refused (m.actors other.actor) other c) op.actor
+    changed (λ st. program_of st.running op ≡ running m op) m.actors other.actor (refused (m.actors other.actor) other c) op.actor
     (λ same. let idle : (m.actors op.actor).running ≡ None = rw same (may.0).idle in rw (t, idle) refl) (λ d. refl)
 other_keeps m (Acted other q x) may op t =
     let r : (p : Program) × (running m other ≡ Some p) = asks_runs (m.actors other.actor).serial (running m other) q may.0 in
-    actor_cases (λ st. program_of st.running op ≡ running m op) m.actors other.actor (went_on m.counts (m.actors other.actor) q x) op.actor
+    changed (λ st. program_of st.running op ≡ running m op) m.actors other.actor (went_on m.counts (m.actors other.actor) q x) op.actor
     (λ same. heard_alone m.counts (m.actors other.actor).serial q x (m.actors other.actor).running other op r.0 r.1 t ∙ sym (runs_alone m other op r.0 r.1 t same)) (λ d. refl)
 other_keeps m (Ended other a) may op t =
     let r : (p : Program) × (running m other ≡ Some p) = answers_runs (running m other) a may in
-    actor_cases (λ st. program_of st.running op ≡ running m op) m.actors other.actor (record (m.actors other.actor) { running = None }) op.actor
+    changed (λ st. program_of st.running op ≡ running m op) m.actors other.actor (record (m.actors other.actor) { running = None }) op.actor
     (λ same. sym (runs_alone m other op r.0 r.1 t same)) (λ d. refl)
 other_keeps m (Stopped other) may op t =
-    actor_cases (λ st. program_of st.running op ≡ running m op) m.actors other.actor (record (m.actors other.actor) { running = None; stopped = true }) op.actor
+    changed (λ st. program_of st.running op ≡ running m op) m.actors other.actor (record (m.actors other.actor) { running = None; stopped = true }) op.actor
     (λ same. sym (runs_alone m other op may.0 may.1 t same)) (λ d. refl)
 other_keeps m (Failed other a) may op t =
-    actor_cases (λ st. program_of st.running op ≡ running m op) m.actors other.actor (record (m.actors other.actor) { running = None }) op.actor
+    changed (λ st. program_of st.running op ≡ running m op) m.actors other.actor (record (m.actors other.actor) { running = None }) op.actor
     (λ same. sym (runs_alone m other op (may.1).0 (may.1).1 t same)) (λ d. refl)
 other_keeps m Dumped may op t = refl
 
 -- the actor itself after its event
 own_actor : (P : Actor → Type 0) (actors : ℕ → Actor) (a : ℕ) (state : Actor) → P state → P (if eqb a a then state else actors a)
-own_actor P actors a state h = actor_cases P actors a state a (λ e. h) (λ d. absurd (d refl))
+own_actor P actors a state h = changed P actors a state a (λ e. h) (λ d. absurd (d refl))
 
 -- ---- an op that is past
 
@@ -337,25 +337,25 @@ numbers_differ a b t same e = grind (arith, t, same, e)
 -- another op's event leaves the number of one that waits ahead
 still_new : (m : WorldState) (e : Event) → May m e → (op : OpId) → op_eq (op_of e) op ≡ false → (m.actors op.actor).number < op.number → ((after m e).actors op.actor).number < op.number
 still_new m (Began other c) may op t new =
-    actor_cases (λ st. st.number < op.number) m.actors other.actor (begun (m.actors other.actor) other c) op.actor
+    changed (λ st. st.number < op.number) m.actors other.actor (begun (m.actors other.actor) other c) op.actor
     (λ same.
     let next : other.number ≡ (m.actors op.actor).number + 1 = rw same (may.0).next in
     let differ : other.number ≢ op.number = numbers_differ other op t (sym same) in
     omega (arith, next, differ, new)) (λ d. new)
 still_new m (Refused other c) may op t new =
-    actor_cases (λ st. st.number < op.number) m.actors other.actor (refused (m.actors other.actor) other c) op.actor
+    changed (λ st. st.number < op.number) m.actors other.actor (refused (m.actors other.actor) other c) op.actor
     (λ same.
     let next : other.number ≡ (m.actors op.actor).number + 1 = rw same (may.0).next in
     let differ : other.number ≢ op.number = numbers_differ other op t (sym same) in
     omega (arith, next, differ, new)) (λ d. new)
 still_new m (Acted other q x) may op t new =
-    actor_cases (λ st. st.number < op.number) m.actors other.actor (went_on m.counts (m.actors other.actor) q x) op.actor (λ same. rw (sym same) new) (λ d. new)
+    changed (λ st. st.number < op.number) m.actors other.actor (went_on m.counts (m.actors other.actor) q x) op.actor (λ same. rw (sym same) new) (λ d. new)
 still_new m (Ended other a) may op t new =
-    actor_cases (λ st. st.number < op.number) m.actors other.actor (record (m.actors other.actor) { running = None }) op.actor (λ same. rw (sym same) new) (λ d. new)
+    changed (λ st. st.number < op.number) m.actors other.actor (record (m.actors other.actor) { running = None }) op.actor (λ same. rw (sym same) new) (λ d. new)
 still_new m (Stopped other) may op t new =
-    actor_cases (λ st. st.number < op.number) m.actors other.actor (record (m.actors other.actor) { running = None; stopped = true }) op.actor (λ same. rw (sym same) new) (λ d. new)
+    changed (λ st. st.number < op.number) m.actors other.actor (record (m.actors other.actor) { running = None; stopped = true }) op.actor (λ same. rw (sym same) new) (λ d. new)
 still_new m (Failed other a) may op t new =
-    actor_cases (λ st. st.number < op.number) m.actors other.actor (record (m.actors other.actor) { running = None }) op.actor (λ same. rw (sym same) new) (λ d. new)
+    changed (λ st. st.number < op.number) m.actors other.actor (record (m.actors other.actor) { running = None }) op.actor (λ same. rw (sym same) new) (λ d. new)
 still_new m Dumped may op t new = new
 
 -- another op's event is not its begin
