@@ -191,23 +191,20 @@ module _ {K F : Type 0} (c : Counts) (ns : List K) (fs : List F) (nm : K → Nam
           (grown ∙ ap (λ (e : Entry). history_of (na k) ++ e ∷ []) (name_entry r)) (ap (λ (o : Place). o.0) at)
           (names_done c ns fs nm fm na fa name file is started p (any.Name q) at q refl k read x label done)
 
-      pub name_result : {E : Type 0} (result : Result R E) (after : Pass) (stamp : ℕ) → IfOk result (λ r. wide r ≡ reply_of.Name (reply (name_answer (nm k) q)))
-          → OnOk result (nm x ≡ name_step (nm k) q)
-          → IfOk result (λ r. history_of (na x) ≡ history_of (na k) ++ entry_of (label_of (na k)) clock pass (any.Name q) (wide r) ∷ [])
-          → IfOk result (λ r. after.moments.items ≡ pass.moments.items ++ Act (entry_of (label_of (na k)) clock pass (any.Name q) (wide r)) ∷ [])
-          → OnOk result ((stamp ≡ next_stamp clock pass) × (after.clock ≡ next_stamp clock pass) × (after.steps ≡ pass.steps + 1))
-          → (after.actor ≡ pass.actor) × (after.running ≡ pass.running)
-          → IfOk result (λ r. IsDone before name_later pass after (any.Name q) (wide r))
-      name_result (Ok r) after stamp replied done grown trail clocks same = record {
+      pub name_result : (r : R) (after : Pass) → wide r ≡ reply_of.Name (reply (name_answer (nm k) q)) → nm x ≡ name_step (nm k) q
+          → history_of (na x) ≡ history_of (na k) ++ entry_of (label_of (na k)) clock pass (any.Name q) (wide r) ∷ []
+          → after.moments.items ≡ pass.moments.items ++ Act (entry_of (label_of (na k)) clock pass (any.Name q) (wide r)) ∷ []
+          → after.clock ≡ next_stamp clock pass → after.steps ≡ pass.steps + 1 → after.actor ≡ pass.actor → after.running ≡ pass.running
+          → IsDone before name_later pass after (any.Name q) (wide r)
+      name_result r after replied done grown trail clocks steps actor running = record {
         reply = replied ∙ name_reply_is c (map nm ns) (map fm fs) is p (any.Name q) at q refl (nm k) (name_read c ns fs nm fm na fa name file is started p (any.Name q) at q refl k read);
         state = name_committed r done grown;
         trail = trail ∙ ap (λ (e : Entry). pass.moments.items ++ Act e ∷ []) (name_entry r);
-        clock = clocks.1 ∙ ap (λ (e : Entry). e.stamp) (name_entry r);
-        steps = clocks.2;
-        actor = same.0;
-        running = same.1;
+        clock = clocks ∙ ap (λ (e : Entry). e.stamp) (name_entry r);
+        steps = steps;
+        actor = actor;
+        running = running;
       }
-      name_result (Err e) after stamp replied done grown trail clocks same = tt
 
   module _ (q : FileReq) (at : p ≡ request_place c (any.File q)) (k x : F) (read : k ≡ get_or fs (p.0 - c.names) k) (label : label_of (fa x) ≡ label_of (fa k)) where
     pub file_keeps : {R E : Type 0} (result : Result R E) → OnOk result (fm x ≡ file_step (fm k) q) → OnErr result (x ≡ k)
@@ -250,25 +247,27 @@ module _ {K F : Type 0} (c : Counts) (ns : List K) (fs : List F) (nm : K → Nam
           (grown ∙ ap (λ (e : Entry). history_of (fa k) ++ e ∷ []) (file_entry r)) (ap (λ (o : Place). o.0) at)
           (files_done c ns fs nm fm na fa name file is started p (any.File q) at q refl k read x label done)
 
-      pub file_result : {E : Type 0} (result : Result R E) (after : Pass) (stamp : ℕ) → IfOk result (λ r. wide r ≡ reply_of.File (reply (file_answer (fm k) q)))
-          → OnOk result (fm x ≡ file_step (fm k) q)
-          → IfOk result (λ r. history_of (fa x) ≡ history_of (fa k) ++ entry_of (label_of (fa k)) clock pass (any.File q) (wide r) ∷ [])
-          → IfOk result (λ r. after.moments.items ≡ pass.moments.items ++ Act (entry_of (label_of (fa k)) clock pass (any.File q) (wide r)) ∷ [])
-          → OnOk result ((stamp ≡ next_stamp clock pass) × (after.clock ≡ next_stamp clock pass) × (after.steps ≡ pass.steps + 1))
-          → (after.actor ≡ pass.actor) × (after.running ≡ pass.running)
-          → IfOk result (λ r. IsDone before file_later pass after (any.File q) (wide r))
-      file_result (Ok r) after stamp replied done grown trail clocks same = record {
+      pub file_result : (r : R) (after : Pass) → wide r ≡ reply_of.File (reply (file_answer (fm k) q)) → fm x ≡ file_step (fm k) q
+          → history_of (fa x) ≡ history_of (fa k) ++ entry_of (label_of (fa k)) clock pass (any.File q) (wide r) ∷ []
+          → after.moments.items ≡ pass.moments.items ++ Act (entry_of (label_of (fa k)) clock pass (any.File q) (wide r)) ∷ []
+          → after.clock ≡ next_stamp clock pass → after.steps ≡ pass.steps + 1 → after.actor ≡ pass.actor → after.running ≡ pass.running
+          → IsDone before file_later pass after (any.File q) (wide r)
+      file_result r after replied done grown trail clocks steps actor running = record {
         reply = replied ∙ file_reply_is c (map nm ns) (map fm fs) is p (any.File q) at q refl (fm k) (file_read c ns fs nm fm na fa name file is started p (any.File q) at q refl k read);
         state = file_committed r done grown;
         trail = trail ∙ ap (λ (e : Entry). pass.moments.items ++ Act e ∷ []) (file_entry r);
-        clock = clocks.1 ∙ ap (λ (e : Entry). e.stamp) (file_entry r);
-        steps = clocks.2;
-        actor = same.0;
-        running = same.1;
+        clock = clocks ∙ ap (λ (e : Entry). e.stamp) (file_entry r);
+        steps = steps;
+        actor = actor;
+        running = running;
       }
-      file_result (Err e) after stamp replied done grown trail clocks same = tt
 
 -- of two facts in case of an error, the first
 pub first_err : {R E : Type 0} (A B : Type 0) (result : Result R E) → OnErr result (A × B) → OnErr result A
 first_err A B (Ok r) h = tt
 first_err A B (Err e) h = h.0
+
+-- a fact for the value, if there is one
+pub if_ok : {R E : Type 0} {P Q : R → Type 0} (result : Result R E) → ((r : R) → P r → Q r) → IfOk result P → IfOk result Q
+if_ok (Ok r) f h = f r h
+if_ok (Err e) f h = tt

@@ -3,3 +3,4 @@ pub mod Keeping
 pub mod Openings
 pub mod Clones
 pub mod Alone
+pub mod Committing
