@@ -169,7 +169,7 @@ impl<M: Machine> Kept<M> {
         let Ok(()) = self.history.reserve(1) else {
             return Err(NoMemory);
         };
-        note_that_it_is_short(self.history.as_slice());
+        note_that_short(self.history.as_slice());
         let stamp = self.clock.max(pass.clock) + 1;
         let Ok(()) = change(&mut self.machine, &req) else {
             self.history.lower(room);
@@ -200,7 +200,7 @@ fn change<M: Machine>(machine: &mut M, req: &M::Req) -> Result<(), NoMemory>
 }
 
 /// Stands for its contract alone: a history is short, since its entries take room.
-fn note_that_it_is_short(history: &[Entry])
+fn note_that_short(history: &[Entry])
     ensures { length history.now < 2 ^ 59 }
 {
     let _len = history.len();
