@@ -1,12 +1,11 @@
 ghost use Rattle.std.specs.Prelude.{◌≡◌, ◌<◌, ◌≤◌, ◌^◌, [], true, false, length, IfOk, OnOk, OnErr, IsOk, ◌↔◌};
 ghost use Rattle.place_kit.specs.Replay.{IsKept, IsKept-prop};
-ghost use Rattle.place_kit.specs.Commits.{HasRoom, IsFull, spare_of};
+ghost use Rattle.passes.specs.Commits.{HasRoom, IsFull, spare_of};
 
-use crate::log::Log;
 use crate::machine::Machine;
-use crate::pass::Pass;
 use crate::prepared::Prepared;
 use entry_words::{Entry, Label, Refused};
+use passes::{Log, Pass};
 use std::alloc::Global;
 use std::snapshot::Snapshot;
 use tect_ids::{NoMemory, Place};
@@ -170,7 +169,7 @@ impl<M: Machine> Kept<M> {
             return Err(NoMemory);
         };
         note_that_short(self.history.as_slice());
-        let stamp = self.clock.max(pass.clock) + 1;
+        let stamp = self.clock.max(pass.clock()) + 1;
         let Ok(()) = change(&mut self.machine, &req) else {
             self.history.lower(room);
             return Err(NoMemory);

@@ -1,6 +1,6 @@
 use Rattle.std.proofs.Common.{arith}
-use Rattle.place_kit.proofs.Keeping.{IsPass-raised, aside-le}
-use Rattle.place_kit.proofs.pass.Pass.raise.Goals as goal
+use Rattle.passes.proofs.Keeping.{IsPass-raised, aside-le}
+use Rattle.passes.proofs.pass.Pass.raise.Goals as goal
 
 pub invariant_of-self : goal.invariant_of-self
 invariant_of-self c = record {

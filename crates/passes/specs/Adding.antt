@@ -8,8 +8,8 @@ use Rattle.entry_words.specs.declared.entry.Entry.{Entry}
 use Rattle.entry_words.specs.declared.entry.Note.{Note}
 use Rattle.entry_words.specs.declared.entry.Refused.{Refused}
 use Rattle.entry_words.specs.declared.entry.Moment.TheVariants.{Act}
-use Rattle.place_kit.specs.declared.pass.Pass.{Pass}
-use Rattle.place_kit.specs.Commits.{local_of, op_number}
+use Rattle.passes.specs.declared.pass.Pass.{Pass}
+use Rattle.passes.specs.Commits.{local_of, op_number}
 
 -- the entry of the pass's request at its place, with that stamp
 abbrev pub entry_at : Counts → ℕ → Pass → AnyReq → AnyReply → Entry

@@ -6,14 +6,14 @@ use tect_ids::NoMemory;
 
 /// A list that grows at its end. Contracts see its items, and for how many more the room is sure.
 #[derive(Drop)]
-pub(crate) struct Log<T> {
+pub struct Log<T> {
     items: Vec<T>,
     spare: usize,
 }
 
 impl<T> Model for Log<T> {
     ghost use Rattle.std.specs.Prelude.{◌+◌, ◌≤◌, vec_len, vec_capacity};
-    ghost use Rattle.place_kit.specs.Logged.{Logged, logged_code};
+    ghost use Rattle.passes.specs.Logged.{Logged, logged_code};
 
     ghost Value = { Logged T };
 
@@ -25,7 +25,7 @@ impl<T> Model for Log<T> {
 }
 
 impl<T> Log<T> {
-    pub(crate) fn new(alloc: Global) -> Log<T>
+    pub fn new(alloc: Global) -> Log<T>
         ensures { result ≡ record { items = []; spare = 0 } }
     {
         Log {
@@ -34,26 +34,26 @@ impl<T> Log<T> {
         }
     }
 
-    pub(crate) fn as_slice(&self) -> &[T]
+    pub fn as_slice(&self) -> &[T]
         ensures { result.now ≡ self.now.items }
     {
         self.items.as_slice()
     }
 
-    pub(crate) fn len(&self) -> usize
+    pub fn len(&self) -> usize
         ensures { result ≡ length self.now.items }
     {
         self.items.len()
     }
 
-    pub(crate) fn spare(&self) -> usize
+    pub fn spare(&self) -> usize
         ensures { result ≡ self.now.spare }
     {
         self.spare
     }
 
     // Makes the sure room at least `n`.
-    pub(crate) fn reserve(&mut self, n: usize) -> Result<(), NoMemory>
+    pub fn reserve(&mut self, n: usize) -> Result<(), NoMemory>
         ensures items { self.new.items ≡ self.old.items }
         ensures room { OnOk result (n ≤ self.new.spare) }
         ensures keeps { self.old.spare ≤ self.new.spare }
@@ -71,7 +71,7 @@ impl<T> Log<T> {
     }
 
     // There is sure room for one.
-    pub(crate) fn push(&mut self, item: T)
+    pub fn push(&mut self, item: T)
         requires { 0 < self.old.spare }
         ensures { self.new ≡ record { items = self.old.items ++ item ∷ []; spare = self.old.spare - 1 } }
     {
@@ -80,7 +80,7 @@ impl<T> Log<T> {
     }
 
     // Lets room go that was sure.
-    pub(crate) fn lower(&mut self, spare: usize)
+    pub fn lower(&mut self, spare: usize)
         requires { spare ≤ self.old.spare }
         ensures { self.new ≡ record { items = self.old.items; spare = spare } }
     {

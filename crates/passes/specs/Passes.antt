@@ -4,7 +4,7 @@ use Rattle.std.specs.Coded.{Coded-set, coded_bool, coded_ℕ, coded_option, le_p
 use Rattle.tect_ids.specs.declared.ids.OpId.{OpId}
 use Rattle.tect_ids.specs.Codes.{op_code}
 use Rattle.entry_words.specs.declared.entry.Moment.{Moment}
-use Rattle.place_kit.specs.Logged.{Logged}
+use Rattle.passes.specs.Logged.{Logged}
 use Rattle.entry_words.specs.Moments.{trail_of, rises, all_of_actor, steps_count, all_reply_bytes, running_in, all_notes_of, moments_cost}
 
 -- the moment that is put aside for the end of a running op

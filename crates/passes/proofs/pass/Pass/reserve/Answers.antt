@@ -1,6 +1,6 @@
 use Rattle.std.proofs.Common.{arith, refl}
-use Rattle.place_kit.proofs.Keeping.{IsPass-room, same_pass}
-use Rattle.place_kit.proofs.pass.Pass.reserve.Goals as goal
+use Rattle.passes.proofs.Keeping.{IsPass-room, same_pass}
+use Rattle.passes.proofs.pass.Pass.reserve.Goals as goal
 
 pub invariant_of-self : goal.invariant_of-self
 invariant_of-self c = record {

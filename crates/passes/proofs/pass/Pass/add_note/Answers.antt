@@ -1,8 +1,8 @@
 use Rattle.std.proofs.Common.{arith, ap}
 use Rattle.entry_words.specs.declared.entry.Moment.{Moment}
-use Rattle.place_kit.specs.Logged.{Logged}
-use Rattle.place_kit.proofs.Keeping.{IsPass-note}
-use Rattle.place_kit.proofs.pass.Pass.add_note.Goals as goal
+use Rattle.passes.specs.Logged.{Logged}
+use Rattle.passes.proofs.Keeping.{IsPass-note}
+use Rattle.passes.proofs.pass.Pass.add_note.Goals as goal
 
 pub invariant_of-self : goal.invariant_of-self
 invariant_of-self c = record {

@@ -1,5 +1,5 @@
-use Rattle.place_kit.proofs.Keeping.{aside-le, few_steps}
-use Rattle.place_kit.proofs.pass.Pass.note_that_small.Goals as goal
+use Rattle.passes.proofs.Keeping.{aside-le, few_steps}
+use Rattle.passes.proofs.pass.Pass.note_that_small.Goals as goal
 
 pub returns : goal.returns
 returns c =

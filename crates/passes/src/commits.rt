@@ -5,11 +5,11 @@ ghost use Rattle.store_rules.specs.declared.any.AnyReq.{AnyReq};
 ghost use Rattle.store_rules.specs.Places.{request_place};
 ghost use Rattle.entry_words.specs.declared.entry.Entry.{Entry};
 ghost use Rattle.entry_words.specs.declared.entry.Refused.{Refused};
-ghost use Rattle.place_kit.specs.Commits.{IsFull};
-ghost use Rattle.clients.specs.Commits.{Committed, entered};
+ghost use Rattle.passes.specs.Commits.{IsFull};
+ghost use Rattle.passes.specs.Adding.{Committed, entered};
 
+use crate::pass::Pass;
 use entry_words::{Label, Refused};
-use place_kit::Pass;
 use store_rules::AnyReply;
 use tect_calls::Asked;
 

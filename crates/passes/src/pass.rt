@@ -1,12 +1,12 @@
 ghost use Rattle.std.specs.Prelude.{◌≡◌, ◌+◌, ◌-◌, ◌<◌, ◌≤◌, ◌^◌, [], ◌∷◌, ◌++◌, length, Some, None, max, OnOk, OnErr};
 ghost use Rattle.std.specs.Prelude.{IsOk, IsTrue, ◌↔◌, false, true};
-ghost use Rattle.place_kit.specs.Passes.{IsPass, IsPass-prop, aside};
+ghost use Rattle.passes.specs.Passes.{IsPass, IsPass-prop, aside};
 ghost use Rattle.store_rules.specs.ReplyBytes.{reply_bytes};
 
 use crate::log::Log;
 use entry_words::{CLOCK_LIMIT, Entry, Moment, Note, Refused};
 use std::alloc::Global;
-use tect_calls::{AnyReply, AnyReq};
+use store_rules::{AnyReply, AnyReq};
 use tect_ids::{Command, NoMemory, OpId, Place};
 
 /// The most entries and notes of a pass.
@@ -18,17 +18,17 @@ pub const MOST_BYTES: u128 = 33_554_432;
 /// What one actor did: its entries and notes in order, and a clock that no stamp of them exceeds.
 #[derive(Drop)]
 pub struct Pass {
-    pub(crate) actor: u32,
-    pub(crate) clock: u64,
-    pub(crate) steps: u32,
-    pub(crate) bytes: u128,
-    pub(crate) running: Option<OpId>,
-    pub(crate) moments: Log<Moment>,
+    actor: u32,
+    clock: u64,
+    steps: u32,
+    bytes: u128,
+    running: Option<OpId>,
+    moments: Log<Moment>,
     ghost known: { IsPass actor clock steps bytes running moments } by { IsPass-prop actor clock steps bytes running moments },
 }
 
 impl Pass {
-    ghost use Rattle.place_kit.specs.Commits.{IsFull, IsFullForBegin, MayNote, begins, local_of, op_number, pass_place, spare_of, used};
+    ghost use Rattle.passes.specs.Commits.{IsFull, IsFullForBegin, MayNote, begins, local_of, op_number, pass_place, spare_of, used};
     ghost use Rattle.entry_words.specs.Moments.{running_after, op_of, moment_cost};
 
     /// A pass in which nothing was done. It takes no memory.
@@ -93,7 +93,7 @@ impl Pass {
     }
 
     // How many moments are put aside for the end of a running op.
-    pub(crate) fn aside(&self) -> usize
+    fn aside(&self) -> usize
         ensures { result ≡ aside self.now.running }
     {
         match self.running {
@@ -302,8 +302,8 @@ impl Pass {
         self.moments.push(Moment::Local { stamp, actor, note });
     }
 
-    // The entry of a transaction that the actor does next.
-    pub(crate) fn entry(&self, stamp: u64, place: Place, req: AnyReq, reply: AnyReply) -> Entry
+    /// The entry of a transaction that the actor does next, stamped so. It takes no memory.
+    pub fn entry(&self, stamp: u64, place: Place, req: AnyReq, reply: AnyReply) -> Entry
         ensures { result ≡ record {
           stamp = stamp;
           place = place;

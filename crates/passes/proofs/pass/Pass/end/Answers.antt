@@ -1,7 +1,7 @@
 use Rattle.std.proofs.Common.{◌+◌}
 use Rattle.entry_words.specs.Moments.{op_of}
-use Rattle.place_kit.proofs.Keeping.{ends_none, ends_cost, run_by}
-use Rattle.place_kit.proofs.pass.Pass.end.Goals as goal
+use Rattle.passes.proofs.Keeping.{ends_none, ends_cost, run_by}
+use Rattle.passes.proofs.pass.Pass.end.Goals as goal
 
 pub add_note-requires-clause-running : goal.add_note-requires-clause-running
 add_note-requires-clause-running c = ends_none c.args.self.now.running (c.args.self.now.clock + 1) c.args.self.now.actor
