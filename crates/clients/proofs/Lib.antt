@@ -9,3 +9,4 @@ pub mod RefusedSteps
 pub mod StepCases
 pub mod Closings
 pub mod Following
+pub mod Few

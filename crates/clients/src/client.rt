@@ -136,9 +136,11 @@ impl Client {
         self.actor.is_running()
     }
 
-    /// How many transactions its last command took so far, also after its end. It takes no memory.
+    /// How many transactions its last command took so far, also after its end: never more than its pass has moments. It takes
+    /// no memory.
     pub fn transactions(&self) -> u64
-        ensures { result ≡ transactions (events_in self.now) (op_in self.now) }
+        ensures count { result ≡ transactions (events_in self.now) (op_in self.now) }
+        ensures few { result ≤ 65536 }
     {
         self.transactions
     }

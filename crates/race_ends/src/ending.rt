@@ -1,6 +1,5 @@
 ghost use Rattle.std.specs.Prelude.{◌≡◌, IfOk, IfErr, map};
 ghost use Rattle.place_kit.specs.Started.{AreStarted};
-ghost use Rattle.place_locks.specs.Started.{IsLoss};
 ghost use Rattle.merge_runs.specs.Merged.{HaveDifferentActors, StandInOrder};
 ghost use Rattle.race_ends.specs.Faults.{IsRaceFault, IsLossOf, IsSplitOf};
 ghost use Rattle.race_ends.specs.HaveRun.{HaveRun};

@@ -17,9 +17,9 @@ use Rattle.world_runs.specs.Standing.{AtTurn}
 use Rattle.world_runs.specs.ClientLines.{DoesLines}
 use Rattle.world_runs.proofs.Actors.{same_number, other_number, flipped}
 use Rattle.clients.specs.Lives.{ClientLife, events_in, state_in}
-use Rattle.racers.specs.declared.racer.Racer.{Racer}
-use Rattle.racers.specs.Lives.{busy_in, grown, news_events}
-use Rattle.racers.specs.Lines.{Adds, Plays}
+use Rattle.players.specs.declared.racer.Racer.{Racer}
+use Rattle.players.specs.Lives.{busy_in, grown, news_events}
+use Rattle.players.specs.Lines.{Adds, Plays}
 use Rattle.tect_race.specs.Lines.{Ran, PlaysOrRests}
 use Rattle.tect_race.specs.Ready.{IsReady}
 use Rattle.tect_race.proofs.Events.{filter-append, does_lines-append, own_lines-append, both_news, none_before}

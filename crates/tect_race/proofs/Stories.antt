@@ -16,8 +16,8 @@ use Rattle.world_runs.specs.ClientLines.{DoesLines}
 use Rattle.clients.specs.Lives.{events_in}
 use Rattle.race_runs.specs.Stories.{Part, Story, Timely, Answers, all_moments, all_events, with_dumps, part_events}
 use Rattle.race_runs.proofs.Growing.{no_part, with_part}
-use Rattle.racers.specs.declared.racer.Racer.{Racer}
-use Rattle.racers.specs.Lives.{busy_in, news_events}
+use Rattle.players.specs.declared.racer.Racer.{Racer}
+use Rattle.players.specs.Lives.{busy_in, news_events}
 use Rattle.tect_race.specs.Lines.{Ran}
 use Rattle.tect_race.specs.Standing.{Stands, all_silent, last_clock}
 use Rattle.tect_race.proofs.Events.{filter-append, does_lines-append, own_lines-append, both_news, none_before}

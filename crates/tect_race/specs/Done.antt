@@ -6,7 +6,7 @@ use Rattle.tect_ids.specs.declared.script.Line.{Line}
 use Rattle.world_runs.specs.Turns.{InTurn}
 use Rattle.clients.specs.Lives.{idle_life}
 use Rattle.race_runs.specs.Gathered.{IsLineOf}
-use Rattle.racers.specs.declared.racer.Racer.{Racer}
+use Rattle.players.specs.declared.racer.Racer.{Racer}
 
 pub record AreNew (counts : Counts) (clients : ℕ) (rs : List Racer) : Type 0 where
   pub count : length rs ≡ clients

@@ -1,7 +1,7 @@
 -- What a client's fault is to its race.
 use Rattle.std.specs.Prelude.{Result, Ok, Err}
-use Rattle.racers.specs.declared.fault.RacerFault.{RacerFault}
-use Rattle.racers.specs.declared.fault.RacerFault.TheVariants as racer_faults
+use Rattle.players.specs.declared.fault.RacerFault.{RacerFault}
+use Rattle.players.specs.declared.fault.RacerFault.TheVariants as racer_faults
 use Rattle.race_ends.specs.declared.fault.RaceFault.{RaceFault}
 use Rattle.race_ends.specs.declared.fault.RaceFault.TheVariants.{NoMemory, Astray}
 

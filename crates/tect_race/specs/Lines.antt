@@ -6,9 +6,9 @@ use Rattle.entry_words.specs.declared.entry.Moment.{Moment}
 use Rattle.world_runs.specs.declared.event.Event.{Event}
 use Rattle.world_runs.specs.Races.{line_concerns}
 use Rattle.world_runs.specs.ClientLines.{DoesLines}
-use Rattle.racers.specs.declared.racer.Racer.{Racer}
-use Rattle.racers.specs.Lives.{busy_in, news_events}
-use Rattle.racers.specs.Lines.{Adds, Plays}
+use Rattle.players.specs.declared.racer.Racer.{Racer}
+use Rattle.players.specs.Lives.{busy_in, news_events}
+use Rattle.players.specs.Lines.{Adds, Plays}
 
 -- It did its lines among these.
 pub record Ran (names : List (List ℕ)) (ls : List Line) (old new : Racer) : Type 0 where

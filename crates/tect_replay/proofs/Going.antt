@@ -11,7 +11,7 @@ use Rattle.store_rules.specs.Store.{store_reply}
 use Rattle.program_rules.specs.declared.program.Program.{Program}
 use Rattle.world_runs.specs.declared.event.Event.TheVariants.{Acted}
 use Rattle.world_runs.specs.Moments.{Actor, WorldState, IsWorldRun, after, running, answered, program_of, program_answer, went_on}
-use Rattle.sound_runs.proofs.RunsKeep.{running_goes_on, running_is_last_begun}
+use Rattle.world_runs.proofs.Running.{running_goes_on, running_is_last_begun}
 use Rattle.tect_world.specs.Life.{Life, present, grown, last_op, actor_asks, acted_actor, transaction, ending, step_answer, step_events}
 use Rattle.tect_replay.proofs.Reports.{present-grown, acts_last}
 use Rattle.tect_replay.proofs.Results.{some_of}

@@ -21,8 +21,8 @@ use Rattle.world_runs.specs.Moments.{Actor, IsWorldRun, RunFrom, WorldState, ope
 use Rattle.world_runs.specs.Limits.{KeepsLimits}
 use Rattle.world_runs.specs.Follows.{Acts, IsBeginOf, IsEndOf, RunsToEnd}
 use Rattle.world_runs.specs.Report.{answer_line, report_after}
-use Rattle.sound_runs.proofs.RunsKeep.{running_is_last_begun}
-use Rattle.tree_runs.proofs.Histories.{run-rest}
+use Rattle.world_runs.proofs.Running.{running_is_last_begun}
+use Rattle.world_runs.proofs.Histories.{run-rest}
 use Rattle.world_runs.specs.Standing.{busy_at, op_of}
 use Rattle.world_runs.specs.Smooth.{EndIsNext, EndsAtOnce}
 use Rattle.script_runs.proofs.AtOnce.{not_both}

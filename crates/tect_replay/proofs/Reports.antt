@@ -12,7 +12,9 @@ use Rattle.world_runs.specs.declared.event.Event.TheVariants.{Began, Refused, Ac
 use Rattle.world_runs.specs.Moments.{Actor, WorldState, after, after_all, opening}
 use Rattle.world_runs.specs.Follows.{Acts}
 use Rattle.world_runs.specs.Report.{transactions, client_name, answer_line, report_after}
-use Rattle.tree_runs.proofs.Histories.{after_all-append, report-append, transactions-append}
+use Rattle.world_runs.proofs.Histories.{report-append}
+use Rattle.world_runs.proofs.Actors.{after_all-append}
+use Rattle.world_runs.proofs.OwnLines.{transactions-append}
 use Rattle.tect_world.specs.Life.{Life, present, grown, last_op}
 use Rattle.tect_world.specs.Steps.{EndsWith}
 

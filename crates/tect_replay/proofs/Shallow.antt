@@ -10,7 +10,7 @@ use Rattle.world_runs.specs.Moments.{IsWorldRun}
 use Rattle.world_runs.specs.Headline.{command_of, or_later}
 use Rattle.world_runs.specs.Report.{transactions}
 use Rattle.program_rules.specs.Programs.{first_path}
-use Rattle.run_bounds.proofs.RunsShort.{each_is_short, idle_has_none}
+use Rattle.run_claims.proofs.RunsShort.{each_is_short, idle_has_none}
 use Rattle.world_runs.specs.Playable.{IsShallow}
 use Rattle.tect_replay.specs.Plays.{AllShallow}
 

@@ -8,7 +8,6 @@ pub mod Notings
 pub mod Gathering
 pub mod Lives
 pub mod Openings
-pub mod Ranks
 pub mod Running
 pub mod Idle
 pub mod Marking

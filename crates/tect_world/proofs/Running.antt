@@ -1,5 +1,5 @@
 -- a command that runs goes on by transactions to its end
-use Rattle.std.proofs.Common.{◌≡◌, ℕ, ◌+◌, ◌<◌, Bool, true, ◌||◌, eqb, if◌then◌else◌, Option, Some, None, is_some, List, [], ◌∷◌, ◌++◌, refl, sym, ap, ◌∙◌, subst, append_assoc, inl, inr, arith}
+use Rattle.std.proofs.Common.{◌≡◌, ℕ, ◌+◌, ◌-◌, ◌<◌, Bool, true, ◌||◌, eqb, if◌then◌else◌, Option, Some, None, is_some, List, [], ◌∷◌, ◌++◌, refl, sym, ap, ◌∙◌, subst, append_assoc, inl, inr, arith}
 use Rattle.std.specs.Prelude.{IsSome, OnErr, Result, Ok, Err}
 use Rattle.std.proofs.lemmas.List.{append-nil}
 use Rattle.tect_ids.specs.declared.ids.Counts.{Counts}
@@ -8,22 +8,22 @@ use Rattle.tect_ids.specs.declared.answer.Answer.{Answer}
 use Rattle.tect_ids.proofs.KeyTests.{num_eq_cases, op_eq_cases}
 use Rattle.store_rules.specs.declared.any.AnyReq.{AnyReq}
 use Rattle.store_rules.specs.declared.any.AnyReply.{AnyReply}
-use Rattle.store_rules.specs.Places.{request_place}
 use Rattle.store_rules.specs.Store.{Store, store_reply}
 use Rattle.program_rules.specs.declared.program.Program.{Program}
-use Rattle.program_rules.specs.Programs.{object_number, phase_ask}
 use Rattle.world_runs.specs.declared.event.Event.{Event}
 use Rattle.world_runs.specs.declared.event.Event.TheVariants.{Began, Refused, Acted, Ended, Stopped, Failed, Dumped}
 use Rattle.world_runs.specs.Follows.{Acts}
-use Rattle.world_runs.specs.Moments.{Actor, WorldState, IsWorldRun, after_all, running, asked, answered, program_of, program_ask, program_answer}
-use Rattle.sound_runs.proofs.RunsKeep.{running_goes_on, running_is_last_begun}
+use Rattle.world_runs.specs.Moments.{Actor, WorldState, IsWorldRun, after_all, moment, running, asked, answered, program_of, program_answer}
+use Rattle.world_runs.proofs.Running.{running_goes_on, running_is_last_begun}
 use Rattle.tect_world.specs.Life.{Life, present, grown, last_op, actor_asks, acted_actor, ended_actor, stepped_actor, transaction, ending, step_answer, step_events}
 use Rattle.clients.specs.declared.turned.Turned.TheVariants.{Going, Done}
 use Rattle.clients.specs.Turns.{turned_by}
 use Rattle.tect_world.specs.Steps.{FailsWith, Stepped, RanToEnd, GoesOn}
 use Rattle.tect_world.proofs.Events.{step_actors, step_number}
 use Rattle.tect_world.proofs.Lives.{present-grown}
-use Rattle.tect_world.proofs.Ranks.{rank, rank_falls}
+use Rattle.world_runs.specs.Limits.{IsFull, KeepsLimits, KeepsLimitsAfter, KeepsRoom, actor_in, event_cost, used}
+use Rattle.world_runs.proofs.Limits.{used-append}
+use Rattle.std.proofs.lemmas.Bool.{cases_lt}
 
 -- ---- transactions one after another
 
@@ -161,31 +161,45 @@ own_after v u a grows =
     ap (λ (x : WorldState). x.actors a) (after_step v u a grows) ∙ step_actors (present v) (last_op (present v) a) a
     ∙ ap (λ (b : Bool). if b then stepped_actor (present v).counts (present v).store ((present v).actors a) (last_op (present v) a) else (present v).actors a) (same a)
 
--- how near the running command is to its end
-abbrev pub rank_of : Option Program → ℕ
-rank_of None = 0
-rank_of (Some p) = rank p.phase
+-- it still runs
+runs_by : (counts : Counts) (s : Store) (st : Actor) (p : Program) (o : Option AnyReq) → st.running ≡ Some p → IsSome (ended_actor (acted_actor counts s st o) None).running
+runs_by counts s st p None is = rw is refl
+runs_by counts s st p (Some q) is = rw is refl
 
--- it still runs, and is nearer to its end
-pub record Nearer (old new : Option Program) : Type 0 where
-  pub runs : IsSome new
-  pub less : rank_of new < rank_of old
-
-nearer_by : (counts : Counts) (s : Store) (st : Actor) (p : Program) (op : OpId) (o : Option AnyReq) → st.running ≡ Some p → program_of st.running op ≡ Some p → actor_asks st op ≡ o → is_some o ≡ true
-    → Nearer st.running (ended_actor (acted_actor counts s st o) None).running
-nearer_by counts s st p op None is own asks some = absurd (grind (arith, some))
-nearer_by counts s st p op (Some q) is own asks some =
-    let phase : phase_ask p.op (object_number p.op.actor st.serial) p.command p.phase ≡ Some q = ap (program_ask st.serial) (sym own) ∙ asks in
-    rw is (record { runs = refl; less = rank_falls (request_place counts q) p.op (object_number p.op.actor st.serial) p.command p.phase (store_reply s q) q phase })
-
-pub step_nearer : (v u : Life) (a : ℕ) (p : Program) → run_is v → ((present v).actors a).running ≡ Some p → u ≡ grown v (step_events (present v) (last_op (present v) a))
-    → step_answer (present v) (last_op (present v) a) ≡ None → Nearer ((present v).actors a).running ((present u).actors a).running
-step_nearer v u a p run is grows none =
+pub step_runs : (v u : Life) (a : ℕ) (p : Program) → ((present v).actors a).running ≡ Some p → u ≡ grown v (step_events (present v) (last_op (present v) a))
+    → step_answer (present v) (last_op (present v) a) ≡ None → IsSome ((present u).actors a).running
+step_runs v u a p is grows none =
     let st : Actor = (present v).actors a in
     let op : OpId = last_op (present v) a in
-    let near = nearer_by (present v).counts (present v).store st p op (actor_asks st op) is (own_program v a p run is) refl (step_asks v a p run is none) in
     let stays : stepped_actor (present v).counts (present v).store st op ≡ ended_actor (acted_actor (present v).counts (present v).store st (actor_asks st op)) None = ap (ended_actor (acted_actor (present v).counts (present v).store st (actor_asks st op))) none in
-    subst (λ (x : Actor). Nearer st.running x.running) (sym (own_after v u a grows ∙ stays)) near
+    subst (λ (x : Actor). IsSome x.running) (sym (own_after v u a grows ∙ stays)) (runs_by (present v).counts (present v).store st p (actor_asks st op) is)
+
+-- ---- the room that the actor's own history has
+
+-- for how many moments more it has room
+abbrev pub room_at : Life → ℕ → ℕ
+room_at w a = 65536 - used w.history a
+
+limits_last : (counts : Counts) (before es : List Event) (e : Event) → KeepsLimitsAfter counts before (es ++ e ∷ []) → KeepsRoom counts (before ++ es) ((moment counts (before ++ es)).actors (actor_in e)) e
+limits_last counts before [] e keeps = rw (append-nil before) keeps.0
+limits_last counts before (x ∷ es) e keeps = rw (← append_assoc before (x ∷ []) es) (limits_last counts (before ++ x ∷ []) es e keeps.1)
+
+-- a transaction takes one
+room_by : (v u : Life) (a : ℕ) (o : Option AnyReq) → u ≡ grown v (transaction (present v).store (last_op (present v) a) o ++ ending (last_op (present v) a) None) → is_some o ≡ true
+    → KeepsLimits u.counts u.history → room_at u a < room_at v a
+room_by v u a None grows some keeps = absurd (grind (arith, some))
+room_by v u a (Some q) grows some keeps =
+    let e : Event = Acted (last_op (present v) a) q (store_reply (present v).store q) in
+    let history : u.history ≡ v.history ++ e ∷ [] = ap (λ (w : Life). w.history) grows in
+    let limits : KeepsLimits v.counts (v.history ++ e ∷ []) = subst (λ (w : Life). KeepsLimits w.counts w.history) grows keeps in
+    let free : ¬ IsFull v.history a = limits_last v.counts [] v.history e limits in
+    let cost : event_cost a e ≡ 1 = ap (λ (b : Bool). if b then 1 else 0) (same a) in
+    let more : used (v.history ++ e ∷ []) a ≡ used v.history a + used (e ∷ []) a = used-append v.history (e ∷ []) a in
+    let used_now : used u.history a ≡ used (v.history ++ e ∷ []) a = ap (λ (es : List Event). used es a) history in
+    elim (cases_lt (used v.history a) 65536) [
+      | inl few ↦ omega (arith, few, cost, more, used_now)
+      | inr full ↦ absurd (free (inl full))
+    ]
 
 -- ---- the loop of a run
 
@@ -225,19 +239,19 @@ module _ (w v u : Life) (a : ℕ) (goes : Goes w v a) where
     none : step_answer (present v) (last_op (present v) a) ≡ None
     none = (going_step v u (last_op (present v) a) stepped).1
 
-    near : Nearer ((present v).actors a).running ((present u).actors a).running
-    near = step_nearer v u a own.0 goes.run own.1 grows none
-
     pub goes_on : run_is u → Goes w u a
     goes_on run = record {
       going = subst (GoesOn w u) goes.last (goes_more w v u a own.0 goes.run own.1 to_here grows none);
       last = last_kept v u a grows ∙ goes.last;
-      running = near.runs;
+      running = step_runs v u a own.0 own.1 grows none;
       run = run;
     }
 
-    pub goes_nearer : rank_of ((present u).actors a).running < rank_of ((present v).actors a).running
-    goes_nearer = near.less
+    pub goes_nearer : KeepsLimits u.counts u.history → room_at u a < room_at v a
+    goes_nearer keeps =
+        room_by v u a (actor_asks ((present v).actors a) (last_op (present v) a))
+        (grows ∙ ap (λ (o : Option Answer). grown v (transaction (present v).store (last_op (present v) a) (actor_asks ((present v).actors a) (last_op (present v) a)) ++ ending (last_op (present v) a) o)) none)
+        (step_asks v a own.0 goes.run own.1 none) keeps
 
   done_by : (x : Answer) → Stepped v u (last_op (present v) a) (Done x) → RanToEnd w u (last_op (present v) a) x
   done_by x (inl (grows, turned)) = ran_to_end w v u (last_op (present v) a) x to_here grows (is_done _ x (sym turned))

@@ -205,9 +205,10 @@ impl World {
         self.clients[actor as usize - 1].op()
     }
 
-    /// How many transactions the actor's last command took so far, also after its end.
+    /// How many transactions the actor's last command took so far, also after its end: never more than its pass has moments.
     pub fn transactions(&self, actor: u32) -> u64
         requires { (1 ≤ actor) × (actor ≤ 65) }
+        ensures few { result ≤ 65536 }
         ensures count { result ≡ transactions self.now.history (last_op (present self.now) actor) }
         ensures run { IsWorldRun self.now.counts self.now.history }
         ensures limits { KeepsLimits self.now.counts self.now.history }

@@ -19,7 +19,7 @@ returns-clause-step c =
     let actor = ap (λ (l : ClientLife). l.actor) o.life ∙ same_actor r o.stamp o.tried (op_in r) o.answer in
     let counts = ap (λ (l : ClientLife). l.counts) o.life ∙ same_counts r o.stamp o.tried (op_in r) o.answer in
     let acted = acted_is r c.step.new.self o.tried o.answer c.transactions-before.result c.transactions.result actor counts o.events
-    (subst (λ (l : ClientLife). c.transactions-before.result ≡ transactions (events_in l) (op_in l)) c.raise.ensures.raised c.transactions-before.ensures) c.transactions.ensures in
+    (subst (λ (l : ClientLife). c.transactions-before.result ≡ transactions (events_in l) (op_in l)) c.raise.ensures.raised c.transactions-before.ensures.count) c.transactions.ensures.count in
     record {
       step = o;
       clock = c.clock.ensures;

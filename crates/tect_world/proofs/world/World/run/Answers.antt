@@ -13,7 +13,7 @@ step-requires-clause-running c = c.steps.invariant.running
 pub steps-smaller : goal.steps-smaller
 steps-smaller c =
     goes_nearer c.args.self.now c.steps.self c.step.new.self c.args.actor c.steps.invariant
-    (subst (Stepped c.steps.self c.step.new.self (last_op (present c.steps.self) c.args.actor)) c.in-Going.is c.in_ok-step.ensures.ok)
+    (subst (Stepped c.steps.self c.step.new.self (last_op (present c.steps.self) c.args.actor)) c.in-Going.is c.in_ok-step.ensures.ok) c.in_ok-step.ensures.limits
 
 pub steps-preserved : goal.steps-preserved
 steps-preserved c =

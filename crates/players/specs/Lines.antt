@@ -1,0 +1,41 @@
+-- What a racer does in a line of the script.
+use Rattle.std.specs.Prelude.{◌≡◌, ℕ, ◌+◌, ◌≤◌, ◌⊎◌, true, List, [], ◌++◌, Result}
+use Rattle.tect_ids.specs.declared.ids.Counts.{Counts}
+use Rattle.tect_ids.specs.declared.script.Act.{Act}
+use Rattle.store_rules.specs.declared.any.AnyReq.{AnyReq}
+use Rattle.entry_words.specs.declared.entry.Entry.{Entry}
+use Rattle.entry_words.specs.declared.entry.Moment.{Moment}
+use Rattle.entry_words.specs.declared.entry.Refused.{Refused}
+use Rattle.entry_words.specs.Moments.{rises}
+use Rattle.world_runs.specs.declared.event.Event.{Event}
+use Rattle.world_runs.specs.Follows.{DoesLine}
+use Rattle.world_runs.specs.Races.{own_lines}
+use Rattle.world_runs.specs.Turns.{turn_after}
+use Rattle.world_runs.specs.Standing.{AtTurn}
+use Rattle.clients.specs.Lives.{events_in, state_in}
+use Rattle.players.specs.declared.fault.RacerFault.{RacerFault}
+use Rattle.players.specs.declared.racer.Racer.{Racer}
+use Rattle.players.specs.Lives.{busy_in, grown, news_events}
+use Rattle.players.specs.Players.{IsFault}
+use Rattle.players.specs.Steps.{FoundAstray}
+
+-- The racer's client noted these moments, each stamped above its clock, and had these events of refused ops; once an op of it
+-- is refused it notes nothing more. Its answers grew by the lines that the events show.
+pub record Adds (names : List (List ℕ)) (old new : Racer) (news : List Moment) (more : List Event) : Type 0 where
+  pub life : new.client ≡ grown old.client new.client.clock news more
+  pub late : (news ≡ []) ⊎ (old.client.silent ≡ [])
+  pub stamps : rises old.client.clock new.client.clock news ≡ true
+  pub answers : new.answers.items ≡ old.answers.items ++ own_lines old.client.counts names old.client.actor (events_in old.client) (news_events news more)
+
+-- It did what a line asks of it.
+pub record Plays (names : List (List ℕ)) (act : Act) (old new : Racer) : Type 0 where
+  pub news : List Moment
+  pub more : List Event
+  pub adds : Adds names old new news more
+  pub does : DoesLine old.client.actor (busy_in old.client) act (news_events news more) (busy_in new.client)
+  pub turn : AtTurn (turn_after act) (state_in new.client)
+  pub few : (state_in new.client).number ≤ (state_in old.client).number + 1
+
+-- why it did not, where each layer has that many shards: for want of memory, or since a commit found another machine
+abbrev pub IsFaultOf : {W : Type 0} (counts_of : W → Counts) (done : W → W → ℕ → AnyReq → Result Entry Refused → Type 0) → Counts → RacerFault → Type 0
+IsFaultOf counts_of done c fault = IsFault (FoundAstray counts_of done) c fault

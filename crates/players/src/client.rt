@@ -1,0 +1,63 @@
+ghost use Rattle.std.specs.Prelude.{◌≡◌};
+
+use crate::fault::RacerFault;
+use crate::player::Player;
+use clients::{Astray, Client, Commits, Turned};
+use tect_ids::{Command, NoMemory};
+
+impl<C: Commits> Player<C> for Client {
+    ghost use Rattle.clients.specs.Lives.{events_in, state_in, left_in, IsLife};
+    ghost use Rattle.players.specs.Growing.{GrewBy};
+    ghost use Rattle.players.specs.Steps.{FoundAstray};
+    ghost use Rattle.players.proofs.ClientLaws.{client_laws};
+
+    ghost counts = { C.counts };
+
+    ghost fits = { λ p w. IsLife p × (C.counts w ≡ p.counts) };
+
+    ghost actor = { λ p. p.actor };
+
+    ghost history = { λ p w. events_in p };
+
+    ghost state = { λ p w. state_in p };
+
+    ghost grows = { GrewBy C.counts };
+
+    ghost left = { λ p w. left_in p };
+
+    ghost astray = { FoundAstray C.counts C.done };
+
+    ghost laws = { client_laws C.counts };
+
+    fn actor(&self) -> u32 {
+        Client::actor(self)
+    }
+
+    fn is_running(&self, _at: &C) -> bool {
+        Client::is_running(self)
+    }
+
+    fn number(&self, _at: &C) -> u32 {
+        self.op().number
+    }
+
+    fn transactions(&self, _at: &C) -> u32 {
+        Client::transactions(self) as u32
+    }
+
+    fn begin(&mut self, _at: &mut C, command: Command) -> Result<(), NoMemory> {
+        Client::begin(self, command)
+    }
+
+    fn step(&mut self, at: &mut C) -> Result<Turned, RacerFault> {
+        match Client::step(self, at) {
+            Ok(turned) => Ok(turned),
+            Err(Astray { want, found }) => Err(RacerFault::Astray { want, found }),
+        }
+    }
+
+    fn stop(&mut self, _at: &mut C) -> Result<(), NoMemory> {
+        Client::stop(self);
+        Ok(())
+    }
+}

@@ -1,9 +1,0 @@
-pub mod Few
-pub mod Results
-pub mod Growths
-pub mod Transactions
-pub mod OneStep
-pub mod Going
-pub mod Running
-pub mod Begun
-pub mod Played
