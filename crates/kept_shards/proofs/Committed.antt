@@ -1,40 +1,6 @@
 -- a transaction at a kept machine is one of the whole store
-use Rattle.std.proofs.Common.{
-  ◌≡◌,
-  ℕ,
-  zero,
-  suc,
-  ◌+◌,
-  ◌-◌,
-  ◌<◌,
-  ◌≤◌,
-  ◌&&◌,
-  Bool,
-  true,
-  false,
-  Option,
-  Some,
-  None,
-  List,
-  [],
-  ◌∷◌,
-  ◌++◌,
-  map,
-  length,
-  get_or,
-  set,
-  refl,
-  sym,
-  ap,
-  ◌∙◌,
-  subst,
-  Result,
-  Ok,
-  Err,
-  IfOk,
-  OnOk,
-  arith,
-}
+use Rattle.std.proofs.Common.{◌≡◌, ℕ, zero, suc, ◌+◌, ◌-◌, ◌<◌, ◌≤◌, ◌&&◌, Bool, true, false, Option, Some, None, List, [], ◌∷◌, ◌++◌, map}
+use Rattle.std.proofs.Common.{length, get_or, set, refl, sym, ap, ◌∙◌, subst, Result, Ok, Err, IfOk, OnOk, arith}
 use Rattle.std.specs.Prelude.{OnErr, slice_get, nat_lt, option_map}
 use Rattle.std.proofs.lemmas.Bool.Decides.{nat_tests}
 use Rattle.std.proofs.lemmas.List.{set-get_or, map-set, map-append, set-append_left, set-append_right}
@@ -65,17 +31,8 @@ use Rattle.entry_words.specs.Labels.{label_at}
 use Rattle.place_kit.specs.Started.{AreStarted, has_names}
 use Rattle.all_shards.specs.Whole.{together, AreShards}
 use Rattle.all_shards.proofs.Lent.{read_map}
-use Rattle.all_shards.proofs.Stepped.{
-  in_names,
-  name_reply_is,
-  file_reply_is,
-  name_is_done,
-  name_done_stays,
-  file_is_done,
-  file_done_stays,
-  file_index,
-  file_own_place,
-}
+use Rattle.all_shards.proofs.Stepped.{in_names, name_reply_is, file_reply_is, name_is_done, name_done_stays, file_is_done, file_done_stays}
+use Rattle.all_shards.proofs.Stepped.{file_index, file_own_place}
 use Rattle.kept_shards.specs.KeptStore.{KeptStore, IsDone, entries_at, clock_after, clock_at, committed, entry_here}
 use Rattle.kept_shards.proofs.Started.{got_left, got_right, started_set}
 

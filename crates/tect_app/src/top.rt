@@ -1,18 +1,8 @@
 ghost use Rattle.std.specs.Prelude.{◌≡◌, ◌≢◌, ◌≤◌, ◌⊎◌, ℕ, map, string_bytes};
 ghost use Rattle.tect_edge.specs.Counts.{Rose};
 ghost use Rattle.tect_app.specs.Modes.{SpellsNone, SpellsRace};
-ghost use Rattle.tect_app.specs.Headline.{
-  InMode,
-  IsReadWithin,
-  IsReported,
-  IsUsage,
-  IsRefused,
-  IsReadFault,
-  IsCut,
-  IsCutOff,
-  IsStarved,
-  IsSplitEnd,
-};
+ghost use Rattle.tect_app.specs.Headline.{InMode, IsReadWithin, IsReported, IsUsage, IsRefused, IsReadFault, IsCut, IsCutOff, IsStarved};
+ghost use Rattle.tect_app.specs.Headline.{IsSplitEnd};
 ghost use Rattle.tect_app.specs.Statuses.{IsReportStatus};
 ghost use Rattle.world_runs.specs.Playable.{IsPlayable};
 ghost use Rattle.tect_app.specs.Replays.{IsReplayShown, IsReplayCut};

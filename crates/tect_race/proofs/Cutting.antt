@@ -1,32 +1,6 @@
 -- Workers that are cut into batches, one after another.
-use Rattle.std.proofs.Common.{
-  ◌≡◌,
-  ℕ,
-  ◌+◌,
-  ◌≤◌,
-  Bool,
-  true,
-  false,
-  cond,
-  ◌&&◌,
-  ◌||◌,
-  List,
-  Vec,
-  [],
-  ◌∷◌,
-  ◌++◌,
-  length,
-  filter,
-  length-append,
-  append_assoc,
-  refl,
-  sym,
-  ap,
-  ◌∙◌,
-  arith,
-  max,
-  lit≤,
-}
+use Rattle.std.proofs.Common.{◌≡◌, ℕ, ◌+◌, ◌≤◌, Bool, true, false, cond, ◌&&◌, ◌||◌, List, Vec, [], ◌∷◌, ◌++◌, length, filter}
+use Rattle.std.proofs.Common.{length-append, append_assoc, refl, sym, ap, ◌∙◌, arith, max, lit≤}
 use Rattle.std.specs.declared.alloc.Global.{Global}
 use Rattle.std.specs.List.{All, flat_map}
 use Rattle.std.proofs.lemmas.List.Elements.{All-push}

@@ -3,15 +3,9 @@ use Rattle.std.specs.declared.alloc.Global.{Global}
 use Rattle.tect_race.specs.declared.workers.Worker.{Worker}
 use Rattle.tect_race.proofs.Cutting.{IsCut, cut_in, cut_off}
 use Rattle.tect_race.proofs.threads.into_batches.Goals as goal
-use Rattle.tect_race.proofs.threads.into_batches.Goals.{
-  In_ok-push-2,
-  then-busy+then-has_busy+in_ok-push,
-  else-busy,
-  else-busy-via-then-busy+else-has_busy,
-  else-busy-via-else-busy,
-  then-has_busy-2,
-  else-has_busy-2,
-}
+use Rattle.tect_race.proofs.threads.into_batches.Goals.{In_ok-push-2, then-busy+then-has_busy+in_ok-push, else-busy}
+use Rattle.tect_race.proofs.threads.into_batches.Goals.{else-busy-via-then-busy+else-has_busy, else-busy-via-else-busy, then-has_busy-2}
+use Rattle.tect_race.proofs.threads.into_batches.Goals.{else-has_busy-2}
 
 has_one : (c : In_ok-push-2) → c.if-has_busy-2.has_busy ≡ (c.workers.has_busy || c.is_busy-busy.result)
 has_one c =
