@@ -3,17 +3,14 @@
 
 mod any;
 mod any_machine;
-mod copies;
 mod files;
 mod kept;
 mod log;
 mod machine;
-mod moment_copies;
 mod names;
 mod opening;
 mod pass;
 mod prepared;
-mod reply_bytes;
 
 pub use any::AnyKept;
 pub use any_machine::AnyMachine;

@@ -34,7 +34,7 @@ fn name_at(alloc: Global, clients: &Clients, at: usize) -> Result<Name, NoMemory
 {
     // There is a client at each index below their count.
     match clients.get_index(at) {
-        Some((name, _)) => name.copy(alloc),
+        Some((name, _)) => Ok(name.clone()?),
         None => Err(NoMemory),
     }
 }

@@ -59,7 +59,7 @@ fn client_line(
     }
     let mut words = words;
     let act = whole_act(alloc, counts, &mut words)?;
-    let client = name.copy(alloc)?;
+    let client = name.clone()?;
     let actor = note(clients, name, state_after(&act))?;
     Ok(Line::Client { client, actor, act })
 }

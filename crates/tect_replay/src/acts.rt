@@ -25,7 +25,7 @@ fn answer_line(
     let op = world.last_op(actor).number;
     let steps = world.transactions(actor) as u32;
     Ok(ReportLine::Client {
-        client: clients[actor as usize - 1].copy(alloc)?,
+        client: clients[actor as usize - 1].clone()?,
         op,
         steps,
         answer,
