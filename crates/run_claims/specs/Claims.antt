@@ -26,4 +26,5 @@ pub record IsHistory (counts : Counts) (history : List Event) : Type 0 where
   pub short : (op : OpId) (c : Command) → command_of history op ≡ Some c → IsShort history op c
 
 abbrev pub EveryRunIsClaimed : Type 0
-EveryRunIsClaimed = (counts : Counts) (history : List Event) → IsWorldRun counts history → KeepsLimits counts history → IsHistory counts history
+EveryRunIsClaimed =
+    (counts : Counts) (history : List Event) → IsWorldRun counts history → KeepsLimits counts history → IsHistory counts history

@@ -1,5 +1,6 @@
 -- A running command is the last that its actor began, and asks something or has its answer: so it is in every run, by its events alone.
-use Rattle.std.proofs.Common.{◌≡◌, ℕ, ◌⊎◌, inl, inr, Bool, true, false, ◌||◌, is_some, if◌then◌else◌, Option, Some, None, List, [], ◌∷◌, refl, sym, ◌∙◌, subst, ◌≤◌, arith}
+use Rattle.std.proofs.Common.{◌≡◌, ℕ, ◌⊎◌, inl, inr, Bool, true, false, ◌||◌, is_some, if◌then◌else◌, Option, Some, None, List, [], ◌∷◌}
+use Rattle.std.proofs.Common.{refl, sym, ◌∙◌, subst, ◌≤◌, arith}
 use Rattle.tect_ids.specs.declared.ids.Counts.{Counts}
 use Rattle.tect_ids.specs.declared.ids.OpId.{OpId}
 use Rattle.tect_ids.specs.declared.answer.Answer.{Answer}
@@ -18,7 +19,8 @@ use Rattle.program_rules.specs.Asking.{IsSmooth}
 use Rattle.program_rules.proofs.Phases.{smooth_begins, smooth_goes, smooth_hears}
 use Rattle.world_runs.specs.declared.event.Event.{Event}
 use Rattle.world_runs.specs.declared.event.Event.TheVariants.{Began, Refused, Acted, Ended, Stopped, Failed, Dumped}
-use Rattle.world_runs.specs.Moments.{Actor, WorldState, CanBegin, May, RunFrom, IsWorldRun, opening, after, after_all, moment, running, asked, answered, program_of, program_ask, heard, went_on}
+use Rattle.world_runs.specs.Moments.{Actor, WorldState, CanBegin, May, RunFrom, IsWorldRun, opening, after, after_all, moment, running}
+use Rattle.world_runs.specs.Moments.{asked, answered, program_of, program_ask, heard, went_on}
 use Rattle.world_runs.specs.Served.{IsServed}
 use Rattle.world_runs.specs.Standing.{IsLastBegun}
 use Rattle.world_runs.specs.Races.{is_own}
@@ -81,7 +83,8 @@ AllWell m = (a : ℕ) → IsWell a (m.actors a)
 
 -- a command that begins, or is refused
 started_well : (s : Actor) (a : ℕ) (op : OpId) (c : Command) (at : Phase) → op.actor ≡ a → CanBegin s op → IsServed c
-    → IsSmooth c at ⊎ (at ≡ End no_room) → IsWell a record s { number = op.number; running = Some record { op = op; command = c; phase = at } }
+    → IsSmooth c at ⊎ (at ≡ End no_room)
+    → IsWell a record s { number = op.number; running = Some record { op = op; command = c; phase = at } }
 started_well s a op c at own can served goes p is =
     let first : Program = record { op = op; command = c; phase = at } in
     let same : first ≡ p = cc in
@@ -92,7 +95,8 @@ started_well s a op c at own can served goes p is =
 
 -- a command that goes on at a reply
 module _ (counts : Counts) (a : ℕ) (s : Actor) (q : AnyReq) (x : AnyReply) where
-  refused_stays : (op : OpId) (number : ℕ) (c : Command) (at : Phase) → at ≡ End no_room → phase_hear (request_place counts q) op number c at x ≡ End no_room
+  refused_stays : (op : OpId) (number : ℕ) (c : Command) (at : Phase) → at ≡ End no_room
+      → phase_hear (request_place counts q) op number c at x ≡ End no_room
   refused_stays op number c at is = rw is refl
 
   goes_heard : (r : Program) (number : ℕ) → IsSmooth r.command r.phase ⊎ (r.phase ≡ End no_room)
@@ -160,17 +164,20 @@ phase_does op number c at (inl smooth) = one_of_both (phase_ask op number c at) 
 phase_does op number c at (inr is) = rw is refl
 
 -- a running command asks or has its answer
-pub running_does : (m : WorldState) → AllWell m → (op : OpId) (p : Program) → running m op ≡ Some p → (is_some (asked m op) || is_some (answered m op)) ≡ true
+pub running_does : (m : WorldState) → AllWell m → (op : OpId) (p : Program) → running m op ≡ Some p
+    → (is_some (asked m op) || is_some (answered m op)) ≡ true
 running_does m well op p e =
     let r : RunsAs (m.actors op.actor).running op p = running_is_of m op p e in
     rw e (phase_does p.op (object_number p.op.actor (m.actors op.actor).serial) p.command p.phase (well op.actor p r.is).goes)
 
 -- ---- the same of a run of the world
 
-pub running_goes_on : (counts : Counts) (events : List Event) → IsWorldRun counts events → (op : OpId) (p : Program) → running (moment counts events) op ≡ Some p
+pub running_goes_on : (counts : Counts) (events : List Event) → IsWorldRun counts events → (op : OpId) (p : Program)
+    → running (moment counts events) op ≡ Some p
     → (is_some (asked (moment counts events) op) || is_some (answered (moment counts events) op)) ≡ true
 running_goes_on counts events run op p e = running_does (moment counts events) (all_well counts events run) op p e
 
-pub running_is_last_begun : (counts : Counts) (events : List Event) → IsWorldRun counts events → (a : ℕ) (p : Program) → ((moment counts events).actors a).running ≡ Some p
+pub running_is_last_begun : (counts : Counts) (events : List Event) → IsWorldRun counts events → (a : ℕ) (p : Program)
+    → ((moment counts events).actors a).running ≡ Some p
     → IsLastBegun a ((moment counts events).actors a) p
 running_is_last_begun counts events run a p is = (all_well counts events run a p is).begun

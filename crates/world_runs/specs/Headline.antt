@@ -58,6 +58,7 @@ HadNoRoom history op a = (was_refused history op ≡ true) × (a ≡ no_room)
 -- where an op ended with an answer, the history before explains it, or the op was refused for want of room.
 pub record Headline (history : List Event) : Type 0 where
   pub tree : IsTreeRun opening_tree (tree_steps history)
-  pub begins : (place : ℕ) (op : OpId) (c : Command) → slice_get history place ≡ Some (Began op c) → of_op op (tree_steps (take place history)) ≡ []
+  pub begins : (place : ℕ) (op : OpId) (c : Command) → slice_get history place ≡ Some (Began op c)
+      → of_op op (tree_steps (take place history)) ≡ []
   pub answers : (place : ℕ) (op : OpId) (a : Answer) → slice_get history place ≡ Some (Ended op a)
       → Explains (take place history) op a ⊎ HadNoRoom (take place history) op a
