@@ -1,5 +1,5 @@
 -- What a commit and a note add, and when a pass has no room for them.
-use Rattle.std.specs.Prelude.{◌≡◌, ℕ, ◌+◌, ◌-◌, ◌≤◌, ◌^◌, ◌⊎◌, length, max, Bool, true, false, Option, Some, None}
+use Rattle.std.specs.Prelude.{◌≡◌, ℕ, ◌+◌, ◌-◌, ◌<◌, ◌≤◌, ◌^◌, ◌⊎◌, length, max, Bool, true, false, Option, Some, None}
 use Rattle.tect_ids.specs.declared.ids.OpId.{OpId}
 use Rattle.tect_ids.specs.declared.ids.Place.{Place}
 use Rattle.store_rules.specs.declared.any.AnyReq.{AnyReq}
@@ -11,7 +11,6 @@ use Rattle.entry_words.specs.declared.entry.Note.TheVariants.{Began, Ended, Stop
 use Rattle.entry_words.specs.declared.entry.Moment.{Moment}
 use Rattle.entry_words.specs.declared.entry.Moment.TheVariants.{Local}
 use Rattle.place_kit.specs.declared.pass.Pass.{Pass}
-use Rattle.place_kit.specs.declared.pass.TheConstants.{MOST_MOMENTS, MOST_BYTES}
 use Rattle.place_kit.specs.Passes.{aside}
 
 -- its moments, and the one that is put aside
@@ -22,13 +21,19 @@ used p = length p.moments.items + aside p.running
 abbrev pub spare_of : Pass → ℕ
 spare_of p = p.moments.spare - aside p.running
 
--- a commit would be refused as full
+-- a commit would be refused as full: a pass has at most 65,536 moments, and takes no entry with 32 MiB of replies kept
 abbrev pub IsFull : Pass → Type 0
-IsFull p = (MOST_MOMENTS ≤ used p) ⊎ ((MOST_BYTES ≤ p.bytes) ⊎ (2 ^ 63 ≤ p.clock))
+IsFull p = (65536 ≤ used p) ⊎ ((33554432 ≤ p.bytes) ⊎ (2 ^ 63 ≤ p.clock))
 
 -- the beginning of an op would be refused as full: it needs two moments
 abbrev pub IsFullForBegin : Pass → Type 0
-IsFullForBegin p = (MOST_MOMENTS ≤ used p + 1) ⊎ (2 ^ 63 ≤ p.clock)
+IsFullForBegin p = (65536 ≤ used p + 1) ⊎ (2 ^ 63 ≤ p.clock)
+
+-- a commit would not be refused as full
+pub record HasRoom (p : Pass) : Type 0 where
+  pub few : used p < 65536
+  pub light : p.bytes < 33554432
+  pub early : p.clock < 2 ^ 63
 
 -- where a pass itself is full
 abbrev pub pass_place : Place

@@ -4,5 +4,6 @@ pub mod Replay
 pub mod Commits
 pub mod Machines
 pub mod Kept
+pub mod Committed
 pub mod Started
 pub mod AnyMachines

@@ -1,13 +1,12 @@
-ghost use Rattle.std.specs.Prelude.{◌≡◌, ◌+◌, ◌-◌, ◌<◌, ◌≤◌, ◌^◌, [], ◌∷◌, ◌++◌, true, false, length, IfOk, OnOk, OnErr, IsOk, ◌↔◌};
+ghost use Rattle.std.specs.Prelude.{◌≡◌, ◌<◌, ◌≤◌, ◌^◌, [], true, false, length, IfOk, OnOk, OnErr, IsOk, ◌↔◌};
 ghost use Rattle.place_kit.specs.Replay.{IsKept, IsKept-prop};
-ghost use Rattle.place_kit.specs.Commits.{IsFull, entry_of, next_stamp, spare_of, used};
-ghost use Rattle.store_rules.specs.ReplyBytes.{reply_bytes};
+ghost use Rattle.place_kit.specs.Commits.{HasRoom, IsFull, spare_of};
 
 use crate::log::Log;
 use crate::machine::Machine;
-use crate::pass::{MOST_BYTES, MOST_MOMENTS, Pass};
+use crate::pass::Pass;
 use crate::prepared::Prepared;
-use entry_words::{Entry, Label, Moment, Refused};
+use entry_words::{Entry, Label, Refused};
 use std::alloc::Global;
 use std::snapshot::Snapshot;
 use tect_ids::{NoMemory, Place};
@@ -25,6 +24,8 @@ pub struct Kept<M: Machine> {
 }
 
 impl<M: Machine> Kept<M> {
+    ghost use Rattle.place_kit.specs.Committed.{Committed, Served};
+
     /// An opening machine at its place, with nothing done. It takes no memory.
     pub fn start(alloc: Global, place: Place, machine: M) -> Kept<M>
         requires { machine ≡ M.opening (M.rooted machine) }
@@ -100,15 +101,7 @@ impl<M: Machine> Kept<M> {
     /// It is refused as full exactly where the pass is. For want of memory it is refused too, but not where both have sure
     /// room, and the request takes none and holds no name. A refusal changes neither.
     pub fn commit(&mut self, pass: &mut Pass, req: M::Req) -> Result<M::Reply, Refused>
-        ensures label { (self.new.label ≡ self.old.label) × (self.new.base.value ≡ self.old.base.value) }
-        ensures pass { (pass.new.actor ≡ pass.old.actor) × (pass.new.running ≡ pass.old.running) }
-        ensures reply { IfOk result (λ r. M.wide_reply r ≡ M.answer self.old.machine (M.wide req)) }
-        ensures state { OnOk result (self.new.machine ≡ M.after self.old.machine (M.wide req)) }
-        ensures history { IfOk result (λ r. self.new.history.items ≡ self.old.history.items ++ entry_of self.old.label self.old.clock pass.old (M.wide req) (M.wide_reply r) ∷ []) }
-        ensures trail { IfOk result (λ r. pass.new.moments.items ≡ pass.old.moments.items ++ Moment.Act (entry_of self.old.label self.old.clock pass.old (M.wide req) (M.wide_reply r)) ∷ []) }
-        ensures clocks { OnOk result ((self.new.clock ≡ next_stamp self.old.clock pass.old) × (pass.new.clock ≡ next_stamp self.old.clock pass.old) × (pass.new.steps ≡ pass.old.steps + 1)) }
-        ensures bytes { IfOk result (λ r. pass.new.bytes ≡ pass.old.bytes + reply_bytes (M.wide_reply r)) }
-        ensures spares { OnOk result (0 < self.old.history.spare → 0 < spare_of pass.old → (self.new.history.spare + 1 ≡ self.old.history.spare) × (spare_of pass.new + 1 ≡ spare_of pass.old)) }
+        ensures done { IfOk result (λ r. Committed self.old self.new pass.old pass.new (M.wide req) (M.wide_reply r)) }
         ensures full { (result ≡ Err (Refused.HistoryFull self.old.label.place)) ↔ IsFull pass.old }
         ensures memory { OnErr result (¬ IsFull pass.old → result ≡ Err Refused.NoMemory) }
         ensures free { M.is_free self.old.machine (M.wide req) ≡ true → 0 < self.old.history.spare → 0 < spare_of pass.old → ¬ (result ≡ Err Refused.NoMemory) }
@@ -127,18 +120,8 @@ impl<M: Machine> Kept<M> {
 
     // The transaction of a pass that is not full.
     fn do_step(&mut self, pass: &mut Pass, req: M::Req) -> Result<M::Reply, NoMemory>
-        requires few { used pass.old < MOST_MOMENTS }
-        requires light { pass.old.bytes < MOST_BYTES }
-        requires early { pass.old.clock < 2 ^ 63 }
-        ensures label { (self.new.label ≡ self.old.label) × (self.new.base.value ≡ self.old.base.value) }
-        ensures pass { (pass.new.actor ≡ pass.old.actor) × (pass.new.running ≡ pass.old.running) }
-        ensures reply { IfOk result (λ r. M.wide_reply r ≡ M.answer self.old.machine (M.wide req)) }
-        ensures state { OnOk result (self.new.machine ≡ M.after self.old.machine (M.wide req)) }
-        ensures history { IfOk result (λ r. self.new.history.items ≡ self.old.history.items ++ entry_of self.old.label self.old.clock pass.old (M.wide req) (M.wide_reply r) ∷ []) }
-        ensures trail { IfOk result (λ r. pass.new.moments.items ≡ pass.old.moments.items ++ Moment.Act (entry_of self.old.label self.old.clock pass.old (M.wide req) (M.wide_reply r)) ∷ []) }
-        ensures clocks { OnOk result ((self.new.clock ≡ next_stamp self.old.clock pass.old) × (pass.new.clock ≡ next_stamp self.old.clock pass.old) × (pass.new.steps ≡ pass.old.steps + 1)) }
-        ensures bytes { IfOk result (λ r. pass.new.bytes ≡ pass.old.bytes + reply_bytes (M.wide_reply r)) }
-        ensures spares { OnOk result (0 < self.old.history.spare → 0 < spare_of pass.old → (self.new.history.spare + 1 ≡ self.old.history.spare) × (spare_of pass.new + 1 ≡ spare_of pass.old)) }
+        requires { HasRoom pass.old }
+        ensures done { IfOk result (λ r. Committed self.old self.new pass.old pass.new (M.wide req) (M.wide_reply r)) }
         ensures free { M.is_free self.old.machine (M.wide req) ≡ true → 0 < self.old.history.spare → 0 < spare_of pass.old → IsOk result }
         ensures err { OnErr result ((self.new ≡ self.old) × (pass.new ≡ pass.old)) }
     {
@@ -169,13 +152,7 @@ impl<M: Machine> Kept<M> {
     ) -> Result<(M::Reply, Entry), NoMemory>
         requires ready { prepared.copy ≡ M.wide prepared.req }
         requires early { pass.now.clock < 2 ^ 63 }
-        ensures label { (self.new.label ≡ self.old.label) × (self.new.base.value ≡ self.old.base.value) }
-        ensures reply { IfOk result (λ r. M.wide_reply r.0 ≡ M.answer self.old.machine (M.wide prepared.req)) }
-        ensures state { OnOk result (self.new.machine ≡ M.after self.old.machine (M.wide prepared.req)) }
-        ensures entry { IfOk result (λ r. r.1 ≡ entry_of self.old.label self.old.clock pass.now (M.wide prepared.req) (M.wide_reply r.0)) }
-        ensures history { IfOk result (λ r. self.new.history.items ≡ self.old.history.items ++ r.1 ∷ []) }
-        ensures clock { OnOk result ((self.new.clock ≡ next_stamp self.old.clock pass.now) × (self.new.clock + 1 < 2 ^ 64)) }
-        ensures spare { OnOk result (0 < self.old.history.spare → self.new.history.spare + 1 ≡ self.old.history.spare) }
+        ensures done { IfOk result (λ r. Served self.old self.new pass.now (M.wide prepared.req) (M.wide_reply r.0) r.1) }
         ensures free { M.is_free self.old.machine (M.wide prepared.req) ≡ true → 0 < self.old.history.spare → IsOk result }
         ensures err { OnErr result (self.new ≡ self.old) }
     {
@@ -191,7 +168,7 @@ impl<M: Machine> Kept<M> {
         let Ok(()) = self.history.reserve(1) else {
             return Err(NoMemory);
         };
-        is_short(self.history.as_slice());
+        note_that_it_is_short(self.history.as_slice());
         let stamp = self.clock.max(pass.clock) + 1;
         let Ok(()) = change(&mut self.machine, &req) else {
             self.history.lower(room);
@@ -221,8 +198,8 @@ fn change<M: Machine>(machine: &mut M, req: &M::Req) -> Result<(), NoMemory>
     Ok(())
 }
 
-// A history is short, since its entries take room.
-fn is_short(history: &[Entry])
+/// Stands for its contract alone: a history is short, since its entries take room.
+fn note_that_it_is_short(history: &[Entry])
     ensures { length history.now < 2 ^ 59 }
 {
     let _len = history.len();

@@ -102,8 +102,8 @@ impl Pass {
         }
     }
 
-    // What every pass tells of its numbers.
-    fn is_small(&self)
+    /// Stands for its contract alone: what every pass tells of its numbers.
+    fn note_that_it_is_small(&self)
         ensures few { used self.now ≤ MOST_MOMENTS }
         ensures room { aside self.now.running ≤ self.now.moments.spare }
         ensures one { aside self.now.running ≤ 1 }
@@ -117,7 +117,7 @@ impl Pass {
     pub fn used(&self) -> usize
         ensures { result ≡ used self.now }
     {
-        self.is_small();
+        self.note_that_it_is_small();
         self.moments.len() + self.aside()
     }
 
@@ -125,7 +125,7 @@ impl Pass {
     pub fn spare(&self) -> usize
         ensures { result ≡ spare_of self.now }
     {
-        self.is_small();
+        self.note_that_it_is_small();
         self.moments.spare() - self.aside()
     }
 
@@ -144,7 +144,7 @@ impl Pass {
     pub fn is_full_for_begin(&self) -> bool
         ensures { IsTrue result ↔ IsFullForBegin self.now }
     {
-        self.is_small();
+        self.note_that_it_is_small();
         self.used() + 1 >= MOST_MOMENTS as usize || self.clock >= CLOCK_LIMIT
     }
 
@@ -161,7 +161,7 @@ impl Pass {
         if n <= self.spare() {
             return Ok(());
         }
-        self.is_small();
+        self.note_that_it_is_small();
         let aside = self.aside();
         let Some(room) = n.checked_add(aside) else {
             return Err(NoMemory);
@@ -193,7 +193,7 @@ impl Pass {
         ensures same { (self.new.actor ≡ self.old.actor) × (self.new.clock ≡ self.old.clock) × (self.new.steps ≡ self.old.steps)
             × (self.new.bytes ≡ self.old.bytes) × (self.new.running ≡ self.old.running) }
     {
-        self.is_small();
+        self.note_that_it_is_small();
         let _all = self.moments.spare();
         let aside = self.aside();
         self.moments.lower(spare + aside);
@@ -272,7 +272,7 @@ impl Pass {
         ensures same { (self.new.actor ≡ self.old.actor) × (self.new.steps ≡ self.old.steps) × (self.new.bytes ≡ self.old.bytes) }
         ensures spare { spare_of self.new ≡ spare_of self.old }
     {
-        self.is_small();
+        self.note_that_it_is_small();
         self.add_note(note, None);
     }
 
@@ -324,7 +324,7 @@ impl Pass {
         ensures numbers { (self.new.clock ≡ entry.stamp) × (self.new.steps ≡ self.old.steps + 1) × (self.new.bytes ≡ self.old.bytes + reply_bytes entry.reply) }
         ensures same { (self.new.actor ≡ self.old.actor) × (self.new.running ≡ self.old.running) }
     {
-        self.is_small();
+        self.note_that_it_is_small();
         let bytes = reply_bytes(&entry.reply);
         self.clock = entry.stamp;
         self.steps += 1;

@@ -33,3 +33,9 @@ abbrev pub IsRefusalFor : Label → Refused → Type 0
 IsRefusalFor wanted NoMemory = Unit {0}
 IsRefusalFor wanted (HistoryFull place) = place ≡ wanted.place
 IsRefusalFor wanted (Astray want found) = (want ≡ wanted) × (found ≢ want)
+
+-- the same of a pass that is not full
+abbrev pub IsMissOf : Label → Refused → Type 0
+IsMissOf wanted NoMemory = Unit {0}
+IsMissOf wanted (HistoryFull place) = ⊥
+IsMissOf wanted (Astray want found) = (want ≡ wanted) × (found ≢ want)

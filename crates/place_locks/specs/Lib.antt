@@ -1,3 +1,3 @@
 pub mod Commits
 pub mod Serving
-pub mod Started
+pub mod Losses

@@ -1,10 +1,11 @@
 ghost use Rattle.std.specs.Prelude.{◌≡◌, ◌↔◌, ◌<◌, ◌^◌, IfOk, IfErr, OnErr};
-ghost use Rattle.place_kit.specs.Commits.{IsFull, used};
-ghost use Rattle.place_locks.specs.Commits.{HasCommitted, IsRefusalFor};
+ghost use Rattle.place_kit.specs.Commits.{HasRoom, IsFull};
+ghost use Rattle.place_kit.specs.Committed.{Served};
+ghost use Rattle.place_locks.specs.Commits.{HasCommitted, IsMissOf, IsRefusalFor};
 ghost use Rattle.place_locks.specs.Serving.{IsNext};
 
 use entry_words::{Entry, Label, Refused};
-use place_kit::{Kept, MOST_BYTES, MOST_MOMENTS, Machine, Pass, Prepared};
+use place_kit::{Kept, Machine, Pass, Prepared};
 use std::alloc::Global;
 use std::hint::spin_loop;
 use std::sync::{Mutex, MutexGuard, Wait};
@@ -50,12 +51,9 @@ fn commit_with_room<M: Machine, R: Wait, G: Gate>(
     pass: &mut Pass,
     req: M::Req,
 ) -> Result<M::Reply, Refused>
-    requires few { used pass.old < MOST_MOMENTS }
-    requires light { pass.old.bytes < MOST_BYTES }
-    requires early { pass.old.clock < 2 ^ 63 }
+    requires { HasRoom pass.old }
     ensures done { IfOk result (λ reply. HasCommitted pass.old pass.new want.place (M.wide req) (M.wide_reply reply)) }
-    ensures room { ¬ (result ≡ Err (Refused.HistoryFull want.place)) }
-    ensures refused { IfErr result (IsRefusalFor want) }
+    ensures missed { IfErr result (IsMissOf want) }
     ensures err { OnErr result (pass.new ≡ pass.old) }
 {
     let Ok(prepared) = Prepared::new(caller.alloc, pass, req) else {
@@ -85,8 +83,7 @@ fn serve_at<M: Machine, R: Wait, G: Gate>(
     requires ready { prepared.copy ≡ M.wide prepared.req }
     requires early { pass.now.clock < 2 ^ 63 }
     ensures next { IfOk result (λ r. IsNext pass.now want.place (M.wide prepared.req) (M.wide_reply r.0) r.1) }
-    ensures room { ¬ (result ≡ Err (Refused.HistoryFull want.place)) }
-    ensures refused { IfErr result (IsRefusalFor want) }
+    ensures missed { IfErr result (IsMissOf want) }
 {
     let Caller {
         alloc: _,
@@ -115,7 +112,7 @@ fn take_lock<'a, T, R: Wait>(rt: &R, at: &'a Mutex<T>) -> MutexGuard<'a, T> {
     at.lock(rt)
 }
 
-// What needs the machine, which is to have that label.
+// What needs the machine, which is to have that label. Its history has the entry that is given back, stamped above both clocks.
 fn serve_as<M: Machine>(
     kept: &mut Kept<M>,
     want: Label,
@@ -125,9 +122,9 @@ fn serve_as<M: Machine>(
     requires ready { prepared.copy ≡ M.wide prepared.req }
     requires early { pass.now.clock < 2 ^ 63 }
     ensures next { IfOk result (λ r. IsNext pass.now want.place (M.wide prepared.req) (M.wide_reply r.0) r.1) }
+    ensures served { IfOk result (λ r. Served kept.old kept.new pass.now (M.wide prepared.req) (M.wide_reply r.0) r.1) }
     ensures astray { ¬ (kept.old.label ≡ want) → result ≡ Err (Refused.Astray want kept.old.label) }
-    ensures room { ¬ (result ≡ Err (Refused.HistoryFull want.place)) }
-    ensures refused { IfErr result (IsRefusalFor want) }
+    ensures missed { IfErr result (IsMissOf want) }
     ensures err { OnErr result (kept.new ≡ kept.old) }
 {
     let found = kept.label();

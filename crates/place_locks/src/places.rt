@@ -4,7 +4,8 @@ ghost use Rattle.tect_ids.specs.Places.{HasPlaces};
 ghost use Rattle.place_kit.specs.Commits.{IsFull};
 ghost use Rattle.place_locks.specs.Commits.{HasCommitted, IsRefusalFor};
 ghost use Rattle.entry_words.specs.Labels.{label_at};
-ghost use Rattle.place_locks.specs.Started.{AreStarted, IsLoss};
+ghost use Rattle.place_kit.specs.Started.{AreStarted};
+ghost use Rattle.place_locks.specs.Losses.{IsLoss};
 
 use crate::commits::{Caller, commit_at};
 use entry_words::label_at;

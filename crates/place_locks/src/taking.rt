@@ -1,7 +1,8 @@
 ghost use Rattle.std.specs.Prelude.{◌≡◌, ◌+◌, ◌<◌, ◌++◌, ◌∷◌, [], IfOk, IfErr, OnOk, vec_len};
 ghost use Rattle.tect_ids.specs.Places.{HasPlaces};
 ghost use Rattle.entry_words.specs.Labels.{label_at};
-ghost use Rattle.place_locks.specs.Started.{AreStarted, IsLoss, StandFirst};
+ghost use Rattle.place_kit.specs.Started.{AreStarted, StandFirst};
+ghost use Rattle.place_locks.specs.Losses.{IsLoss};
 
 use entry_words::label_at;
 use crossbeam_utils::CachePadded;

@@ -3,7 +3,7 @@ use Rattle.std.proofs.Common.{◌≡◌, ℕ, ◌+◌, ◌-◌, ◌≤◌, Some,
 use Rattle.std.proofs.lemmas.List.{length-map}
 use Rattle.std.proofs.lemmas.List.Sorted.{All-permutation}
 use Rattle.std.proofs.lemmas.Option.{slice_get_within}
-use Rattle.std.specs.List.{All, AllZip, Contains, filter, flat_map, slice_get}
+use Rattle.std.specs.List.{All, Contains, filter, flat_map, slice_get}
 use Rattle.tect_ids.specs.declared.ids.Counts.{Counts}
 use Rattle.tect_ids.specs.declared.script.Line.{Line}
 use Rattle.tect_ids.specs.declared.script.ReportLine.{ReportLine}
@@ -21,15 +21,13 @@ use Rattle.race_runs.specs.Gathered.{AreGathered}
 use Rattle.race_runs.specs.Stories.{Story, IsStory, Timely, all_moments}
 use Rattle.race_runs.proofs.Lists.{has_place}
 use Rattle.race_runs.proofs.Stores.{ClocksRise, no_clocks_fall, timely_clocks_rise}
-use Rattle.players.specs.declared.racer.Racer.{Racer}
 use Rattle.race_ends.specs.declared.ended.EndedPart.{EndedPart}
 use Rattle.race_ends.specs.HaveRun.{HaveRun, HasStory, clocks_of}
-use Rattle.race_ends.specs.Passes.{IsPassOf}
 use Rattle.race_ends.specs.Raced.{IsGathered}
 use Rattle.race_ends.specs.Told.{DumpsRise}
-use Rattle.race_ends.proofs.Members.{all_from_places, fellow_of_first, fellow_of_second, in_from_place, place_from_in, zip_length, zip_numbered}
+use Rattle.race_ends.proofs.Members.{all_from_places, fellow_of_second, in_from_place, place_from_in, zip_length, zip_numbered}
 use Rattle.race_ends.proofs.Order.{order_rises}
-use Rattle.race_ends.proofs.Taken.{actors_differ}
+use Rattle.race_ends.proofs.Numbered.{actors_differ}
 use Rattle.race_ends.proofs.Told.{dumps_rise}
 
 -- the clocks rise if a client tells of them; if there is no client, there is no moment
@@ -43,68 +41,52 @@ clocks_rise clocks (s ∷ ss) ms known timely = timely_clocks_rise ms 0 clocks s
 pub gathered_behind : (js ks : List AnyKept) (qs ps : List Pass) (ms : List Moment) → js ≡ ks → qs ≡ ps → IsGathered js qs ms → IsGathered ks ps ms
 gathered_behind js ks qs ps ms places passes g = subst (λ (xs : List AnyKept). IsGathered xs ps ms) places (subst (λ (ys : List Pass). IsGathered js ys ms) passes g)
 
-module _ (counts : Counts) (names : List (List ℕ)) (lines : List Line) (racers : List Racer) (ended : List EndedPart) (last : List ReportLine)
-    (run : HaveRun counts names lines racers ended last) (ps : List Pass) (taken : AllZip IsPassOf racers ps) where
-  abbrev Has : Racer → Story → Type 0
+module _ (counts : Counts) (names : List (List ℕ)) (lines : List Line) (ps : List Pass) (ended : List EndedPart) (last : List ReportLine)
+    (run : HaveRun counts names lines ps ended last) where
+  abbrev Has : Pass → Story → Type 0
   Has = HasStory counts names lines (clocks_of ended)
 
   count : length run.stories ≡ length names
-  count = sym (zip_length Has racers run.stories run.each) ∙ run.number
+  count = sym (zip_length Has ps run.stories run.each) ∙ run.number
 
   pub differ : HaveDifferentActors ps
-  differ = actors_differ racers ps (λ i r e. omega (arith, run.numbered i r e)) taken
+  differ = actors_differ ps (λ i p e. omega (arith, run.numbered i p e))
 
-  -- the client of a story, and its pass
-  record Kept (s : Story) : Type 0 where
-    racer : Racer
-    has : Has racer s
-    pass : Pass
-    there : In pass ps
-    of : IsPassOf racer pass
-
-  pass_at : (i : ℕ) (r : Racer) → slice_get racers i ≡ Some r → (p : Pass) × In p ps × IsPassOf r p
-  pass_at i r e = fellow_of_first IsPassOf racers ps r taken (in_from_place racers i r e)
-
-  kept : (i : ℕ) (s : Story) → slice_get run.stories i ≡ Some s → Kept s
-  kept i s e =
-      let racer = fellow_of_second Has racers run.stories s run.each (in_from_place run.stories i s e) in
-      let pass = fellow_of_first IsPassOf racers ps racer.0 taken racer.1 in
-      record { racer = racer.0; has = racer.2; pass = pass.0; there = pass.1; of = pass.2 }
+  -- the pass of a story
+  kept : (i : ℕ) (s : Story) → slice_get run.stories i ≡ Some s → (p : Pass) × In p ps × Has p s
+  kept i s e = fellow_of_second Has ps run.stories s run.each (in_from_place run.stories i s e)
 
   numbered : (i : ℕ) (s : Story) → slice_get run.stories i ≡ Some s → s.actor ≡ i + 1
-  numbered i s e = zip_numbered Has (λ r t h. h.actor) racers run.stories 0 run.each (λ j r g. omega (arith, run.numbered j r g)) i s e ∙ (omega arith)
+  numbered i s e = zip_numbered Has (λ p t h. h.actor) ps run.stories 0 run.each (λ j p g. omega (arith, run.numbered j p g)) i s e ∙ (omega arith)
 
   pub each_has_pass : (actor : ℕ) → 1 ≤ actor → actor ≤ length names → (p : Pass) × Contains ps p × (p.actor ≡ actor)
   each_has_pass actor low high =
-      let there = has_place racers (actor - 1) (omega (arith, run.number)) in
-      let pass = pass_at (actor - 1) there.0 there.1 in
-      let number : there.0.client.actor ≡ actor - 1 + 1 = run.numbered (actor - 1) there.0 there.1 in
-      (pass.0, contains_from_in ps pass.0 pass.1, pass.2.actor ∙ number ∙ (omega arith))
+      let there = has_place ps (actor - 1) (omega (arith, run.number)) in
+      let number : there.0.actor ≡ actor - 1 + 1 = run.numbered (actor - 1) there.0 there.1 in
+      (there.0, contains_from_in ps there.0 (in_from_place ps (actor - 1) there.0 there.1), number ∙ (omega arith))
 
   story : (i : ℕ) (s : Story) → slice_get run.stories i ≡ Some s → IsStory counts names lines (clocks_of ended) s
-  story i s e = let k = kept i s e in k.has.story k.of.early
+  story i s e = let k = kept i s e in k.2.story
 
-  is_client : (r : Racer) → In r racers → (1 ≤ r.client.actor) × (r.client.actor ≤ length names)
-  is_client r h =
-      let at = place_from_in racers r h in
-      let number = run.numbered at.0 r at.1 in
-      let within = slice_get_within racers at.0 r at.1 in
+  of_some_client : (p : Pass) → In p ps → (1 ≤ p.actor) × (p.actor ≤ length names)
+  of_some_client p h =
+      let at = place_from_in ps p h in
+      let number = run.numbered at.0 p at.1 in
+      let within = slice_get_within ps at.0 p at.1 in
       (omega (arith, number), omega (arith, number, within, run.number))
 
   module _ (ks : List AnyKept) (entries : List Moment) (g : IsGathered ks ps entries) where
     trail : (i : ℕ) (s : Story) → slice_get run.stories i ≡ Some s → filter (is_of s.actor) entries ≡ all_moments s.ended s.last
     trail i s e =
         let k = kept i s e in
-        let here : filter (is_of k.pass.actor) entries ≡ k.pass.moments.items = all_in (λ p. filter (is_of p.actor) entries ≡ moments_of p) ps g.trails k.pass k.there in
-        let same : s.actor ≡ k.pass.actor = k.has.actor ∙ sym k.of.actor in
-        ap (λ (a : ℕ). filter (is_of a) entries) same ∙ here ∙ k.of.moments ∙ k.has.moments
+        let here : filter (is_of k.0.actor) entries ≡ k.0.moments.items = all_in (λ p. filter (is_of p.actor) entries ≡ moments_of p) ps g.trails k.0 k.1 in
+        ap (λ (a : ℕ). filter (is_of a) entries) k.2.actor ∙ here ∙ k.2.moments
 
     of_client : (m : Moment) → In m (flat_map moments_of ps) → (1 ≤ actor_of m) × (actor_of m ≤ length run.stories)
     of_client m h =
         let owner = in_flat moments_of ps m h in
-        let racer = fellow_of_second IsPassOf racers ps owner.0 taken owner.1 in
-        let known = is_client racer.0 racer.1 in
-        let same : actor_of m ≡ racer.0.client.actor = actor_in owner.0.actor (moments_of owner.0) m owner.0.known.own owner.2 ∙ racer.2.actor in
+        let known = of_some_client owner.0 owner.1 in
+        let same : actor_of m ≡ owner.0.actor = actor_in owner.0.actor (moments_of owner.0) m owner.0.known.own owner.2 in
         (omega (arith, same, known.0), omega (arith, same, known.1, count))
 
     known : All (λ m. (1 ≤ actor_of m) × (actor_of m ≤ length run.stories)) entries

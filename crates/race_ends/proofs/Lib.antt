@@ -1,5 +1,5 @@
 pub mod Members
-pub mod Taken
+pub mod Numbered
 pub mod Order
 pub mod Replays
 pub mod Borrowed
@@ -8,4 +8,3 @@ pub mod Told
 pub mod Gathered
 pub mod Ends
 pub mod Losses
-pub mod Lives

@@ -4,7 +4,7 @@ use Rattle.std.specs.List.{All, AllZip, slice_get}
 use Rattle.merge_runs.proofs.Order.{In}
 use Rattle.merge_runs.proofs.Trails.{in_all}
 use Rattle.race_runs.specs.Stories.{Story}
-use Rattle.players.specs.declared.racer.Racer.{Racer}
+use Rattle.place_kit.specs.declared.pass.Pass.{Pass}
 
 pub in_from_place : {X : Type 0} (xs : List X) (i : ℕ) (x : X) → slice_get xs i ≡ Some x → In x xs
 in_from_place [] i x e = absurd cc
@@ -19,13 +19,7 @@ place_from_in (y ∷ ys) x (inr h) = let at = place_from_in ys x h in (suc at.0,
 pub all_from_places : {X : Type 0} (P : X → Type 0) (xs : List X) → ((i : ℕ) (x : X) → slice_get xs i ≡ Some x → P x) → All P xs
 all_from_places P xs f = in_all P xs (λ x h. let at = place_from_in xs x h in f at.0 x at.1)
 
--- each element of two lists, side by side, has its fellow
-pub fellow_of_first : {X Y : Type 0} (R : X → Y → Type 0) (xs : List X) (ys : List Y) (x : X) → AllZip R xs ys → In x xs → (y : Y) × In y ys × R x y
-fellow_of_first R [] ys x z h = absurd h
-fellow_of_first R (a ∷ xs) [] x z h = absurd z
-fellow_of_first {X} {Y} R (a ∷ xs) (b ∷ ys) x z (inl e) = (b, inl refl, subst (λ (w : X). R w b) e z.0)
-fellow_of_first R (a ∷ xs) (b ∷ ys) x z (inr h) = let f = fellow_of_first R xs ys x z.1 h in (f.0, inr f.1, f.2)
-
+-- each element of the second of two lists has its fellow beside it
 pub fellow_of_second : {X Y : Type 0} (R : X → Y → Type 0) (xs : List X) (ys : List Y) (y : Y) → AllZip R xs ys → In y ys → (x : X) × In x xs × R x y
 fellow_of_second R xs [] y z h = absurd h
 fellow_of_second R [] (b ∷ ys) y z h = absurd z
@@ -38,11 +32,11 @@ zip_length R [] (y ∷ ys) z = absurd z
 zip_length R (x ∷ xs) [] z = absurd z
 zip_length R (x ∷ xs) (y ∷ ys) z = ap (λ n. suc n) (zip_length R xs ys z.1)
 
--- the fellows of elements that count up count up too
-pub zip_numbered : (R : Racer → Story → Type 0) → ((r : Racer) (s : Story) → R r s → s.actor ≡ r.client.actor) → (rs : List Racer) (ss : List Story) (low : ℕ) → AllZip R rs ss
-    → ((i : ℕ) (r : Racer) → slice_get rs i ≡ Some r → r.client.actor ≡ low + i + 1) → (i : ℕ) (s : Story) → slice_get ss i ≡ Some s → s.actor ≡ low + i + 1
-zip_numbered R same rs [] low z own i s e = absurd cc
+-- the stories of passes that are numbered are numbered too
+pub zip_numbered : (R : Pass → Story → Type 0) → ((p : Pass) (s : Story) → R p s → s.actor ≡ p.actor) → (ps : List Pass) (ss : List Story) (low : ℕ) → AllZip R ps ss
+    → ((i : ℕ) (p : Pass) → slice_get ps i ≡ Some p → p.actor ≡ low + i + 1) → (i : ℕ) (s : Story) → slice_get ss i ≡ Some s → s.actor ≡ low + i + 1
+zip_numbered R same ps [] low z own i s e = absurd cc
 zip_numbered R same [] (t ∷ ss) low z own i s e = absurd z
-zip_numbered R same (r ∷ rs) (t ∷ ss) low z own zero s e = let here : t ≡ s = cc in ap (λ (u : Story). u.actor) (sym here) ∙ same r t z.0 ∙ own 0 r refl
-zip_numbered R same (r ∷ rs) (t ∷ ss) low z own (suc i) s e =
-    let rest = zip_numbered R same rs ss (low + 1) z.1 (λ j q g. omega (arith, own (suc j) q g)) i s e in omega (arith, rest)
+zip_numbered R same (p ∷ ps) (t ∷ ss) low z own zero s e = let here : t ≡ s = cc in ap (λ (u : Story). u.actor) (sym here) ∙ same p t z.0 ∙ own 0 p refl
+zip_numbered R same (p ∷ ps) (t ∷ ss) low z own (suc i) s e =
+    let rest = zip_numbered R same ps ss (low + 1) z.1 (λ j q g. omega (arith, own (suc j) q g)) i s e in omega (arith, rest)

@@ -1,10 +1,11 @@
 -- Why a race comes to no end.
-use Rattle.std.specs.Prelude.{◌≡◌, ◌≢◌, ◌+◌, ◌<◌, List}
+use Rattle.std.specs.Prelude.{List}
 use Rattle.tect_ids.specs.declared.ids.Counts.{Counts}
 use Rattle.place_kit.specs.declared.any.AnyKept.{AnyKept}
 use Rattle.place_kit.specs.declared.pass.Pass.{Pass}
-use Rattle.entry_words.specs.Labels.{label_at}
+use Rattle.entry_words.specs.declared.entry.Refused.TheVariants as refused
 use Rattle.place_kit.specs.Started.{AreStarted}
+use Rattle.place_locks.specs.Losses.{IsLoss}
 use Rattle.merge_runs.specs.Merged.{HaveDifferentActors}
 use Rattle.merge_runs.specs.Splits.{IsSplit}
 use Rattle.race_ends.specs.declared.fault.RaceFault.{RaceFault}
@@ -12,9 +13,9 @@ use Rattle.race_ends.specs.declared.fault.RaceFault.TheVariants.{NoMemory, Split
 
 -- for want of memory, or since at one of the places another machine was found
 abbrev pub IsLossOf : Counts → RaceFault → Type 0
-IsLossOf c NoMemory = Unit {0}
+IsLossOf c NoMemory = IsLoss c refused.NoMemory
 IsLossOf c (Split actor step in_pass in_place) = ⊥
-IsLossOf c (Astray want found) = (want.place.0 < c.names + c.files) × (want ≡ label_at c want.place.0) × (found ≢ want)
+IsLossOf c (Astray want found) = IsLoss c (refused.Astray want found)
 
 -- for want of memory, or since passes and places have not the same transactions
 abbrev pub IsSplitOf : List AnyKept → List Pass → RaceFault → Type 0

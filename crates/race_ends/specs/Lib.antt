@@ -1,4 +1,3 @@
-pub mod Passes
 pub mod HaveRun
 pub mod Told
 pub mod Faults

@@ -8,10 +8,10 @@ use Rattle.entry_words.specs.declared.entry.Moment.{Moment}
 use Rattle.place_kit.specs.declared.pass.Pass.{Pass}
 use Rattle.place_kit.specs.Started.{AreStarted}
 use Rattle.world_runs.specs.declared.event.Event.{Event}
+use Rattle.world_runs.specs.Limits.{KeepsLimits}
+use Rattle.world_runs.specs.Moments.{IsWorldRun}
 use Rattle.world_runs.specs.Races.{FollowsByClient, race_report}
-use Rattle.world_runs.specs.Woven.{AreSilent}
-use Rattle.world_runs.specs.Woven.{Cut, woven}
-use Rattle.run_claims.specs.Claims.{IsHistory}
+use Rattle.world_runs.specs.Woven.{AreSilent, Cut, woven}
 use Rattle.merge_runs.specs.Merged.{HaveDifferentActors, IsInOrder, RestrictsToTrails, RestrictsToHistories, moments_of}
 
 -- it is the one list of all moments of these passes, in order, and has the history of each of these places
@@ -21,9 +21,10 @@ pub record IsGathered (ks : List AnyKept) (ps : List Pass) (entries : List Momen
   pub trails : RestrictsToTrails ps entries
   pub histories : RestrictsToHistories ks entries
 
--- it is all that is claimed of a history, and follows the script by client
+-- it is a run of the world within the limits of its actors' histories, and follows the script by client
 pub record IsRaceHistory (plan : Plan) (history : List Event) : Type 0 where
-  pub claim : IsHistory plan.counts history
+  pub run : IsWorldRun plan.counts history
+  pub limits : KeepsLimits plan.counts history
   pub follows : FollowsByClient plan.lines history
 
 -- there is one pass for each client of the plan

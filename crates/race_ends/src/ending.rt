@@ -1,6 +1,5 @@
 ghost use Rattle.std.specs.Prelude.{◌≡◌, IfOk, IfErr, map};
 ghost use Rattle.place_kit.specs.Started.{AreStarted};
-ghost use Rattle.place_locks.specs.Started.{IsLoss};
 ghost use Rattle.merge_runs.specs.Merged.{HaveDifferentActors, StandInOrder};
 ghost use Rattle.race_ends.specs.Faults.{IsRaceFault, IsLossOf, IsSplitOf};
 ghost use Rattle.race_ends.specs.HaveRun.{HaveRun};
@@ -8,13 +7,11 @@ ghost use Rattle.race_ends.specs.Raced.{IsGathered, IsRaced};
 
 use crate::ended::EndedPart;
 use crate::fault::RaceFault;
-use crate::passes::take_passes;
 use crate::report::tell;
 use entry_words::{Moment, Refused};
 use merge_runs::{GatherFault, gather};
 use place_kit::{AnyKept, Pass};
 use place_locks::Places;
-use players::Racer;
 use std::alloc::Global;
 use tect_ids::{Plan, ReportLine};
 
@@ -31,22 +28,20 @@ pub struct Raced {
 /// the part: those of the store after the entries of the history that are stamped up to the dump's clock.
 ///
 /// A race is split where what its clients kept and what its places kept are not the same transactions, and astray where at a place
-/// another machine was found than the one that it was started with. There is no memory where a client's clock has come to its
-/// limit, 2^63, and where memory is wanting.
+/// another machine was found than the one that it was started with. There may be no memory.
 pub fn finish(
     alloc: Global,
     plan: &Plan,
     places: Places,
-    racers: Vec<Racer>,
+    passes: Vec<Pass>,
     ended: Vec<EndedPart>,
     last: Vec<ReportLine>,
 ) -> Result<Raced, RaceFault>
     requires places { places ≡ plan.now.counts }
-    requires run { HaveRun plan.now.counts plan.now.clients plan.now.lines racers.items ended.items last.items }
+    requires run { HaveRun plan.now.counts plan.now.clients plan.now.lines passes.items ended.items last.items }
     ensures raced { IfOk result (λ raced. IsRaced plan.now raced.places.items raced.passes.items raced.report.items) }
     ensures fault { IfErr result (IsRaceFault plan.now.counts) }
 {
-    let passes = take_passes(alloc, racers)?;
     let kepts = take_kepts(places)?;
     let report = {
         let entries = gather_all(alloc, kepts.as_slice(), passes.as_slice())?;

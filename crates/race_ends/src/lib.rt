@@ -4,7 +4,6 @@
 mod ended;
 mod ending;
 mod fault;
-mod passes;
 mod replay;
 mod report;
 

@@ -1,5 +1,6 @@
 pub mod Words
 pub mod Plans
 pub mod Inputs
+pub mod Replays
 pub mod Races
 pub mod Cuts

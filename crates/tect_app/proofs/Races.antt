@@ -7,6 +7,7 @@ use Rattle.tect_edge.specs.Prefixes.{AppendsProperPrefix}
 use Rattle.place_kit.specs.declared.any.AnyKept.{AnyKept}
 use Rattle.place_kit.specs.declared.pass.Pass.{Pass}
 use Rattle.race_ends.specs.Raced.{IsRaced}
+use Rattle.run_claims.proofs.Claims.{every_run_is_claimed}
 use Rattle.tect_app.specs.RaceEnds.{race_text, IsRaceShown, IsRaceCut}
 
 pub race_shown : (plan : Plan) (places : List AnyKept) (passes : List Pass) (report lines : List ReportLine) (old new : Option (List ℕ)) → IsRaced plan places passes report → lines ≡ report
@@ -16,6 +17,7 @@ race_shown plan places passes report lines old new raced same written = record {
   passes = passes;
   report = report;
   raced = raced;
+  claim = every_run_is_claimed plan.counts raced.history raced.of_plan.run raced.of_plan.limits;
   written = subst (λ (ls : List ReportLine). Appends old new (race_text ls)) same written;
 }
 
@@ -26,5 +28,6 @@ race_cut plan places passes report lines old new raced same written = record {
   passes = passes;
   report = report;
   raced = raced;
+  claim = every_run_is_claimed plan.counts raced.history raced.of_plan.run raced.of_plan.limits;
   written = subst (λ (ls : List ReportLine). AppendsProperPrefix old new (race_text ls)) same written;
 }

@@ -6,13 +6,13 @@ use Rattle.tect_ids.specs.declared.script.Plan.{Plan}
 use Rattle.script_forms.specs.declared.faults.ScriptFault.{ScriptFault}
 use Rattle.script_forms.specs.Spelling.{Spells}
 use Rattle.tect_edge.specs.Prefixes.{AppendsProperPrefix}
-use Rattle.tect_replay.specs.Replays.{IsReplayed, IsCutReplay}
 use Rattle.tect_app.specs.declared.mode.Mode.{Mode}
 use Rattle.tect_app.specs.declared.mode.Mode.TheVariants as modes
 use Rattle.tect_app.specs.declared.status.Status.{Status}
 use Rattle.tect_app.specs.Modes.{SpellsMode, SpellsNone}
 use Rattle.tect_app.specs.RaceEnds.{IsRaceShown, IsRaceCut, IsSplitLine}
 use Rattle.tect_app.specs.Refusals.{fault_text, fault_status, IsNoScript}
+use Rattle.tect_app.specs.Replays.{IsReplayShown, IsReplayCut}
 
 abbrev pub usage_text : List ℕ
 usage_text = codes "usage: tect replay, race, make or judge\n"
@@ -24,12 +24,12 @@ read_fault_text = codes "read fault\n"
 
 -- the plan was played, and the whole output of its history was written
 abbrev pub IsShown : Mode → Plan → Option (List ℕ) → Option (List ℕ) → Type 0
-IsShown modes.Replay plan old new = IsReplayed plan old new
+IsShown modes.Replay plan old new = IsReplayShown plan old new
 IsShown (modes.Race workers) plan old new = IsRaceShown plan old new
 
 -- a front of the output of a history of the plan was written, and not all
 abbrev pub IsCutShort : Mode → Plan → Option (List ℕ) → Option (List ℕ) → Type 0
-IsCutShort modes.Replay plan old new = IsCutReplay plan old new
+IsCutShort modes.Replay plan old new = IsReplayCut plan old new
 IsCutShort (modes.Race workers) plan old new = IsRaceCut plan old new
 
 -- ---- what each status says

@@ -14,18 +14,20 @@ use Rattle.race_ends.specs.declared.fault.RaceFault.{RaceFault}
 use Rattle.race_ends.specs.declared.fault.RaceFault.TheVariants as faults
 use Rattle.race_ends.specs.Faults.{IsRaceFault}
 use Rattle.race_ends.specs.Raced.{IsRaced}
+use Rattle.run_claims.specs.Claims.{IsHistory}
 
 -- the lines of a report, and the end
 abbrev pub race_text : List ReportLine → List ℕ
 race_text report = lines_text report ++ end_text
 
--- The race came to one history of the plan, which is what its clients and its places kept; and the whole report of this history was
--- written.
+-- The race came to one history of the plan, which is what its clients and its places kept, and all is so of it that is claimed of a
+-- history; and the whole report of this history was written.
 pub record IsRaceShown (plan : Plan) (old new : Option (List ℕ)) : Type 0 where
   pub places : List AnyKept
   pub passes : List Pass
   pub report : List ReportLine
   pub raced : IsRaced plan places passes report
+  pub claim : IsHistory plan.counts raced.history
   pub written : Appends old new (race_text report)
 
 -- a front of the report of such a history was written, and not all
@@ -34,6 +36,7 @@ pub record IsRaceCut (plan : Plan) (old new : Option (List ℕ)) : Type 0 where
   pub passes : List Pass
   pub report : List ReportLine
   pub raced : IsRaced plan places passes report
+  pub claim : IsHistory plan.counts raced.history
   pub written : AppendsProperPrefix old new (race_text report)
 
 abbrev pub split_text : ℕ → ℕ → List ℕ

@@ -4,7 +4,7 @@ ghost use Rattle.tect_app.specs.Modes.{SpellsNone, SpellsRace};
 ghost use Rattle.tect_app.specs.Headline.{InMode, IsReadWithin, IsReported, IsUsage, IsRefused, IsReadFault, IsCut, IsCutOff, IsStarved, IsSplitEnd};
 ghost use Rattle.tect_app.specs.Statuses.{IsReportStatus};
 ghost use Rattle.world_runs.specs.Playable.{IsPlayable};
-ghost use Rattle.tect_replay.specs.Replays.{IsReplayed, IsCutReplay};
+ghost use Rattle.tect_app.specs.Replays.{IsReplayShown, IsReplayCut};
 
 use crate::input::{InputFault, read_plan};
 use crate::mode::{Mode, read_mode};
@@ -22,8 +22,8 @@ use tect_replay::{ReplayFault, replay};
 fn play<K: Sink>(alloc: Global, plan: &Plan, sink: &mut K) -> Status
     requires { IsPlayable plan.now }
     ensures only { IsReportStatus result }
-    ensures whole { result ≡ Status.Ok → IsReplayed plan.now (K.written sink.old) (K.written sink.new) }
-    ensures cut { result ≢ Status.Ok → IsCutReplay plan.now (K.written sink.old) (K.written sink.new) }
+    ensures whole { result ≡ Status.Ok → IsReplayShown plan.now (K.written sink.old) (K.written sink.new) }
+    ensures cut { result ≢ Status.Ok → IsReplayCut plan.now (K.written sink.old) (K.written sink.new) }
     ensures kept { result ≢ Status.WriteFault → K.faults sink.new ≡ K.faults sink.old }
     ensures failed { result ≡ Status.WriteFault → Rose (K.faults sink.old) (K.faults sink.new) }
 {

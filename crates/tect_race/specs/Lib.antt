@@ -6,3 +6,4 @@ pub mod Standing
 pub mod Done
 pub mod Progress
 pub mod Batches
+pub mod Passes

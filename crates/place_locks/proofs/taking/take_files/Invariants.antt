@@ -1,5 +1,5 @@
 use Rattle.std.proofs.Common.{◌≡◌, ◌+◌, ◌≤◌, length}
-use Rattle.place_locks.specs.Started.{StandFirst}
+use Rattle.place_kit.specs.Started.{StandFirst}
 use Rattle.place_locks.proofs.taking.take_files.Given as goal
 
 abbrev pub invariant-loop-at : goal.invariant-loop-at

@@ -22,15 +22,15 @@ pub gather_all-requires-clause-actors : goal.gather_all-requires-clause-actors
 gather_all-requires-clause-actors c =
     let plan = c.args.plan.now in
     subst (λ (ps : List Pass). HaveDifferentActors ps) (sym c.as_slice-2.ensures.value)
-    (differ plan.counts plan.clients plan.lines c.args.racers.items c.args.ended.items c.args.last.items c.requires.run c.in_ok-passes.passes.items c.in_ok-passes.ensures)
+    (differ plan.counts plan.clients plan.lines c.args.passes.items c.args.ended.items c.args.last.items c.requires.run)
 
 pub returns-in_err-entries-clause-fault : goal.returns-in_err-entries-clause-fault
 returns-in_err-entries-clause-fault c =
     let plan = c.args.plan.now in
     let kepts = c.in_ok-kepts.kepts.items in
-    let passes = c.in_ok-passes.passes.items in
+    let passes = c.args.passes.items in
     let started = subst (λ (counts : Counts). AreStarted counts kepts) c.requires.places c.in_ok-kepts.ensures.all in
-    let actors = differ plan.counts plan.clients plan.lines c.args.racers.items c.args.ended.items c.args.last.items c.requires.run passes c.in_ok-passes.ensures in
+    let actors = differ plan.counts plan.clients plan.lines passes c.args.ended.items c.args.last.items c.requires.run in
     let split = subst (λ (ks : List AnyKept). IsSplitOf ks passes c.in_err-entries.field-0.0) c.as_slice.ensures.value
     (subst (λ (ps : List Pass). IsSplitOf c.as_slice.result.now ps c.in_err-entries.field-0.0) c.as_slice-2.ensures.value c.in_err-entries.ensures.split) in
     let p = err_from_is_err_and c.from_residual-in_err-entries.result c.from_residual-in_err-entries.ensures.1 in
@@ -46,21 +46,21 @@ pub tell-requires-clause-dumps : goal.tell-requires-clause-dumps
 tell-requires-clause-dumps c =
     let plan = c.args.plan.now in
     let kepts = c.in_ok-kepts.kepts.items in
-    let passes = c.in_ok-passes.passes.items in
+    let passes = c.args.passes.items in
     let entries : List Moment = map (λ m. m.now) c.in_ok-entries.entries.items in
     let gathered = gathered_behind c.as_slice.result.now kepts c.as_slice-2.result.now passes entries c.as_slice.ensures.value c.as_slice-2.ensures.value c.in_ok-entries.ensures.gathered in
     rw c.as_slice-3.ensures.value
-    (dumps plan.counts plan.clients plan.lines c.args.racers.items c.args.ended.items c.args.last.items c.requires.run passes c.in_ok-passes.ensures kepts entries gathered)
+    (dumps plan.counts plan.clients plan.lines passes c.args.ended.items c.args.last.items c.requires.run kepts entries gathered)
 
 pub returns-clause-raced : goal.returns-clause-raced
 returns-clause-raced c =
     let plan = c.args.plan.now in
     let kepts = c.in_ok-kepts.kepts.items in
-    let passes = c.in_ok-passes.passes.items in
+    let passes = c.args.passes.items in
     let entries : List Moment = map (λ m. m.now) c.in_ok-entries.entries.items in
     let started = subst (λ (counts : Counts). AreStarted counts kepts) c.requires.places c.in_ok-kepts.ensures.all in
     let gathered = gathered_behind c.as_slice.result.now kepts c.as_slice-2.result.now passes entries c.as_slice.ensures.value c.as_slice-2.ensures.value c.in_ok-entries.ensures.gathered in
     let ended = c.args.ended.items in
     let last = c.args.last.items in
-    raced plan c.args.racers.items ended last c.requires.run passes c.in_ok-passes.ensures kepts started entries gathered c.in_ok-report.report.items
+    raced plan passes ended last c.requires.run kepts started entries gathered c.in_ok-report.report.items
     (c.in_ok-report.ensures ∙ ap (λ ms. told_by ended last (map (λ m. m.now) ms)) c.as_slice-3.ensures.value)

@@ -1,5 +1,5 @@
-use Rattle.race_ends.proofs.Taken.{one_more}
-use Rattle.race_ends.proofs.passes.take_passes.Goals as goal
+use Rattle.tect_race.proofs.Taken.{one_more}
+use Rattle.tect_race.proofs.passes.take_passes.Goals as goal
 
 pub loop-racer-preserved : goal.loop-racer-preserved
 loop-racer-preserved c =

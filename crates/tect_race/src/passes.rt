@@ -1,6 +1,6 @@
 ghost use Rattle.std.specs.Prelude.{IfOk};
 ghost use Rattle.std.specs.List.{AllZip};
-ghost use Rattle.race_ends.specs.Passes.{IsPassOf};
+ghost use Rattle.tect_race.specs.Passes.{IsPassOf};
 
 use entry_words::CLOCK_LIMIT;
 use place_kit::Pass;

@@ -1,5 +1,5 @@
 use Rattle.place_kit.proofs.Keeping.{aside-le, few_steps}
-use Rattle.place_kit.proofs.pass.Pass.is_small.Goals as goal
+use Rattle.place_kit.proofs.pass.Pass.note_that_it_is_small.Goals as goal
 
 pub returns : goal.returns
 returns c =
