@@ -8,7 +8,6 @@ mod files;
 mod kept;
 mod log;
 mod machine;
-mod moment_copies;
 mod names;
 mod opening;
 mod pass;
