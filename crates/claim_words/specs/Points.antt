@@ -23,7 +23,7 @@ use Rattle.tree_model.specs.declared.step.TreeReply.TheVariants.{Ok, Refused}
 use Rattle.tree_model.specs.Tree.{tree_reply, opening_tree}
 use Rattle.program_rules.specs.Paths.{last_name}
 use Rattle.program_rules.specs.Programs.{root, way}
-use Rattle.world_runs.specs.TreeSteps.{Told, tree_after}
+use Rattle.claim_words.specs.TreeSteps.{Told, tree_after}
 
 -- the steps of one op
 abbrev pub of_op : OpId → List Told → List Told

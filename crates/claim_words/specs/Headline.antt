@@ -9,8 +9,8 @@ use Rattle.tree_model.specs.Tree.{opening_tree}
 use Rattle.world_runs.specs.declared.event.Event.{Event}
 use Rattle.world_runs.specs.declared.event.Event.TheVariants.{Began, Refused, Acted, Ended, Stopped, Failed, Dumped}
 use Rattle.program_rules.specs.Lacks.{no_room}
-use Rattle.world_runs.specs.TreeSteps.{tree_steps, IsTreeRun}
-use Rattle.world_runs.specs.Points.{of_op, Point, LacksName}
+use Rattle.claim_words.specs.TreeSteps.{tree_steps, IsTreeRun}
+use Rattle.claim_words.specs.Points.{of_op, Point, LacksName}
 
 abbrev pub begun_by : Event → OpId → Option Command
 begun_by (Began other c) op = if op_eq other op then Some c else None
