@@ -11,7 +11,7 @@ use Rattle.program_rules.specs.Programs.{started, first_phase}
 use Rattle.world_runs.specs.declared.event.Event.{Event}
 use Rattle.world_runs.specs.declared.event.Event.TheVariants.{Began, Refused, Acted, Ended, Stopped, Failed, Dumped}
 use Rattle.world_runs.specs.Moments.{WorldState, RunFrom, IsWorldRun, opening, after}
-use Rattle.world_runs.specs.Headline.{or_later, command_of}
+use Rattle.claim_words.specs.Headline.{or_later, command_of}
 use Rattle.world_runs.specs.Report.{is_act_of, transactions}
 use Rattle.run_claims.specs.Bounds.{is_look, is_look_of, is_other_of, looks_of, others_of, most_looks, IsShort}
 use Rattle.run_claims.proofs.PhasesLeft.{looks_left, others_left, one_if, Leaves, first_leaves}

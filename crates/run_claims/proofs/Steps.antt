@@ -18,10 +18,10 @@ use Rattle.world_runs.specs.declared.event.Event.TheVariants.{Began, Refused, Ac
 use Rattle.program_rules.specs.Lacks.{no_room}
 use Rattle.world_runs.specs.Moments.{WorldState, Actor, May, after, program_of, running, program_ask, program_answer, begun, refused}
 use Rattle.world_runs.specs.Moments.{went_on, heard}
-use Rattle.world_runs.specs.Headline.{begun_by}
+use Rattle.claim_words.specs.Headline.{begun_by}
 use Rattle.world_runs.proofs.Actors.{changed}
-use Rattle.world_runs.proofs.Running.{RunsAs, runs_as}
-use Rattle.world_runs.proofs.Histories.{numbers_grow}
+use Rattle.script_runs.proofs.Running.{RunsAs, runs_as}
+use Rattle.script_runs.proofs.Histories.{numbers_grow}
 use Rattle.run_claims.specs.Bounds.{is_look_of, is_other_of}
 use Rattle.run_claims.proofs.PhasesLeft.{looks_left, others_left, one_if, looks_asked, others_asked, Falls, phase_falls}
 

@@ -13,10 +13,10 @@ use Rattle.world_runs.specs.declared.event.Event.TheVariants.{Began, Refused, Ac
 use Rattle.world_runs.specs.Moments.{WorldState, opening, after, after_all, RunFrom}
 use Rattle.world_runs.specs.Follows.{Acts, IsEndOf, EndsAfter, IsBeginOf, DoesLine, Busy, with_busy, FollowsFrom}
 use Rattle.world_runs.specs.Turns.{Turns, all_idle, with_turn, turn_after, InTurnFrom}
-use Rattle.world_runs.proofs.Histories.{run-front, run-rest, run-append}
+use Rattle.script_runs.proofs.Histories.{run-front, run-rest, run-append}
 use Rattle.world_runs.specs.Standing.{busy_at}
 use Rattle.world_runs.specs.Smooth.{EndsAtOnce}
-use Rattle.world_runs.proofs.Running.{AllWell, opening_well, run_well, event_well}
+use Rattle.script_runs.proofs.Running.{AllWell, opening_well, run_well, event_well}
 use Rattle.script_runs.specs.RunningOut.{RefusesAsFull}
 use Rattle.script_runs.specs.Laws.{EachCutLineCanBeRunOut}
 use Rattle.script_runs.proofs.Moves.{Keeps, acts_move, begin_moves}

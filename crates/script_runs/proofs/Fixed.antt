@@ -10,9 +10,9 @@ use Rattle.world_runs.specs.declared.event.Event.{Event}
 use Rattle.world_runs.specs.declared.event.Event.TheVariants.{Began, Dumped}
 use Rattle.world_runs.specs.Moments.{WorldState, May, opening, after, after_all, RunFrom, answered}
 use Rattle.world_runs.specs.Follows.{Acts, EndsAfter, IsBeginOf, BeginsAndEnds, DoesLine, NoneFails}
-use Rattle.world_runs.proofs.Histories.{run-front, run-rest, none_fails-front, none_fails-rest, begin_is}
+use Rattle.script_runs.proofs.Histories.{run-front, run-rest, none_fails-front, none_fails-rest, begin_is}
 use Rattle.world_runs.specs.Standing.{busy_at}
-use Rattle.world_runs.proofs.Running.{opening_well}
+use Rattle.script_runs.proofs.Running.{opening_well}
 use Rattle.script_runs.specs.Laws.{ScriptFixesRun, ScriptWithoutStepsFixesRun}
 use Rattle.script_runs.proofs.SameEnds.{ends_answer, answers_same, acts_same, acts_not_ends}
 use Rattle.script_runs.proofs.Settles.{IsSettled, Settles, follows_settled, settled_without_steps}

@@ -10,10 +10,10 @@ use Rattle.world_runs.specs.declared.event.Event.TheVariants.{Dumped}
 use Rattle.world_runs.specs.Moments.{WorldState, opening, after_all, RunFrom, moment}
 use Rattle.world_runs.specs.Follows.{DoesLine, Busy, with_busy, FollowsFrom}
 use Rattle.world_runs.specs.Turns.{Turns, all_idle, with_turn, turn_after, turns_after, TakesAct, InTurnFrom}
-use Rattle.world_runs.proofs.Histories.{run-front, run-rest}
+use Rattle.script_runs.proofs.Histories.{run-front, run-rest}
 use Rattle.world_runs.proofs.Actors.{after_all-append}
 use Rattle.world_runs.specs.Standing.{busy_at}
-use Rattle.world_runs.proofs.Running.{AllWell, opening_well, run_well}
+use Rattle.script_runs.proofs.Running.{AllWell, opening_well, run_well}
 use Rattle.script_runs.specs.Laws.{RunFollowsOn, Stands, StandsByTurn}
 use Rattle.world_runs.proofs.Actors.{changed}
 use Rattle.script_runs.proofs.Lines.{IsDone, line_does, busy_after, turn_stands}

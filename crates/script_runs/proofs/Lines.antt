@@ -14,7 +14,7 @@ use Rattle.world_runs.specs.Follows.{Acts, EndsAfter, IsBeginOf, BeginsAndEnds, 
 use Rattle.world_runs.specs.Turns.{ClientTurn, TakesAct, turn_after}
 use Rattle.world_runs.specs.Turns as turns
 use Rattle.world_runs.specs.Standing.{op_of, busy_at, AtTurn}
-use Rattle.world_runs.proofs.Running.{AllWell}
+use Rattle.script_runs.proofs.Running.{AllWell}
 use Rattle.world_runs.proofs.Actors.{changed}
 use Rattle.script_runs.proofs.Moves.{Moves, Keeps, none_moves, moves_on, acts_move, ends_move, begin_moves, stopped_moves}
 

@@ -22,10 +22,10 @@ use Rattle.world_runs.specs.Moments.{program_of, begun, refused}
 use Rattle.world_runs.specs.Follows.{IsEndOf, IsBeginOf, DoesLine, Busy, FollowsFrom}
 use Rattle.world_runs.specs.Turns.{ClientTurn, Turns, all_idle, with_turn, turn_after, turns_after, TakesAct, InTurnFrom}
 use Rattle.world_runs.specs.Turns as turns
-use Rattle.world_runs.proofs.Histories.{run-append}
+use Rattle.script_runs.proofs.Histories.{run-append}
 use Rattle.world_runs.specs.Standing.{op_of, busy_at, AtTurn}
 use Rattle.world_runs.specs.Smooth.{EndsAtOnce}
-use Rattle.world_runs.proofs.Running.{AllWell, opening_well, run_well, all_well}
+use Rattle.script_runs.proofs.Running.{AllWell, opening_well, run_well, all_well}
 use Rattle.script_runs.specs.RunningOut.{RefusesAsFull}
 use Rattle.script_runs.specs.Laws.{EachScriptCanBeRunOut}
 use Rattle.world_runs.proofs.Actors.{changed_there}

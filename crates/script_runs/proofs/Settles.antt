@@ -13,11 +13,11 @@ use Rattle.world_runs.specs.declared.event.Event.{Event}
 use Rattle.world_runs.specs.declared.event.Event.TheVariants.{Began, Refused, Acted, Ended, Stopped, Failed, Dumped}
 use Rattle.world_runs.specs.Moments.{WorldState, after, after_all, RunFrom, answered}
 use Rattle.world_runs.specs.Follows.{Acts, IsEndOf, IsBeginOf, EndsAfter, DoesLine, Busy, with_busy, FollowsFrom}
-use Rattle.world_runs.proofs.Histories.{run-front, run-rest}
+use Rattle.script_runs.proofs.Histories.{run-front, run-rest}
 use Rattle.world_runs.proofs.Actors.{after_all-append}
 use Rattle.world_runs.specs.Standing.{busy_at}
 use Rattle.world_runs.specs.Smooth.{EndIsNext, EndsAtOnce, StepsOn, AllStepOn, IsNoStep, NoneSteps}
-use Rattle.world_runs.proofs.Running.{AllWell, run_well}
+use Rattle.script_runs.proofs.Running.{AllWell, run_well}
 use Rattle.world_runs.proofs.Actors.{changed}
 use Rattle.script_runs.proofs.Moves.{Keeps, end_moves}
 use Rattle.script_runs.proofs.Lines.{busy_is, IsDone, keeps_done, line_does, busy_after}

@@ -11,8 +11,8 @@ use Rattle.world_runs.specs.declared.event.Event.TheVariants.{Began, Refused, Ac
 use Rattle.world_runs.specs.Moments.{WorldState, RunFrom, after, running, asked, answered}
 use Rattle.world_runs.specs.Follows.{Acts, EndsAfter, NoneFails}
 use Rattle.world_runs.specs.Report.{is_act_of}
-use Rattle.world_runs.proofs.Running.{AllWell, RunsAs, event_well, running_does, running_is_of}
-use Rattle.world_runs.proofs.Histories.{acts_none_fail, none_fails-append}
+use Rattle.script_runs.proofs.Running.{AllWell, RunsAs, event_well, running_does, running_is_of}
+use Rattle.script_runs.proofs.Histories.{acts_none_fail, none_fails-append}
 use Rattle.run_claims.specs.Bounds.{is_look_of, is_other_of}
 use Rattle.run_claims.proofs.PhasesLeft.{looks_left, others_left, one_if}
 use Rattle.run_claims.proofs.Steps.{Runs, GoesOn, own_acts, same_op}

@@ -44,8 +44,8 @@ use Rattle.program_rules.specs.Programs.{bound_heard, looked, refusal}
 use Rattle.world_runs.specs.declared.event.Event.{Event}
 use Rattle.world_runs.specs.declared.event.Event.TheVariants.{Began, Refused as declined, Acted, Ended, Stopped, Failed, Dumped}
 use Rattle.world_runs.specs.Moments.{WorldState, May, after, after_all, RunFrom, running, asked, answered, next_serial}
-use Rattle.world_runs.specs.TreeSteps.{told_of, told_as, tree_steps, tree_step, says, tree_after, IsTreeRun}
-use Rattle.world_runs.specs.Points.{refused_answer, done_answer}
+use Rattle.claim_words.specs.TreeSteps.{told_of, told_as, tree_steps, tree_step, says, tree_after, IsTreeRun}
+use Rattle.claim_words.specs.Points.{refused_answer, done_answer}
 use Rattle.world_runs.specs.Follows.{Acts}
 use Rattle.tree_runs.specs.View.{AllMade, shown_entry}
 use Rattle.session_runs.specs.Session.{Played, stepped, found_answer, releases}

@@ -8,12 +8,12 @@ use Rattle.tree_model.specs.Tree.{Tree}
 use Rattle.world_runs.specs.declared.event.Event.{Event}
 use Rattle.world_runs.specs.declared.event.Event.TheVariants.{Began, Refused, Acted, Ended, Stopped, Failed, Dumped}
 use Rattle.world_runs.specs.Moments.{WorldState, May, after, after_all, RunFrom}
-use Rattle.world_runs.specs.TreeSteps.{told_of, tree_after}
+use Rattle.claim_words.specs.TreeSteps.{told_of, tree_after}
 use Rattle.world_runs.specs.Report.{is_act_of, transactions}
 use Rattle.tree_runs.proofs.Tracks.{Tracks}
 use Rattle.tree_runs.proofs.Runs.{event_tracked}
 use Rattle.tree_runs.proofs.Histories.{acts_last}
-use Rattle.world_runs.proofs.Histories.{numbers_grow}
+use Rattle.script_runs.proofs.Histories.{numbers_grow}
 use Rattle.world_runs.proofs.OwnLines.{transactions-append}
 
 -- an op of a number that its actor did not come to has no transaction

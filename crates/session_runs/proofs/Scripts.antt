@@ -17,7 +17,7 @@ use Rattle.program_rules.specs.Programs.{root, object_number, first_phase}
 use Rattle.world_runs.specs.declared.event.Event.{Event}
 use Rattle.world_runs.specs.declared.event.Event.TheVariants.{Began, Refused, Acted, Ended, Stopped, Failed, Dumped}
 use Rattle.world_runs.specs.Moments.{WorldState, opening, CanBegin, after, after_all, RunFrom, IsWorldRun}
-use Rattle.world_runs.specs.TreeSteps.{tree_steps, tree_after}
+use Rattle.claim_words.specs.TreeSteps.{tree_steps, tree_after}
 use Rattle.world_runs.specs.Report.{transactions, report, report_after, answer_line, client_name}
 use Rattle.world_runs.specs.Follows.{Acts, IsEndOf, EndsAfter, BeginsAndEnds, DoesLine, Busy, none_busy, with_busy, FollowsFrom, Follows}
 use Rattle.world_runs.specs.Follows.{NoneFails}
@@ -27,7 +27,7 @@ use Rattle.tree_runs.proofs.Tracks.{Tracks, opening_tracks}
 use Rattle.tree_runs.proofs.Runs.{event_tracked, run_tracked}
 use Rattle.tree_runs.proofs.Histories.{tree_steps-append}
 use Rattle.session_runs.proofs.Quiet.{Quiet, quiet_run}
-use Rattle.world_runs.proofs.Histories.{run-front, run-rest, report-append, none_fails-front, none_fails-rest, begin_is}
+use Rattle.script_runs.proofs.Histories.{run-front, run-rest, report-append, none_fails-front, none_fails-rest, begin_is}
 use Rattle.world_runs.proofs.Actors.{after_all-append, changed}
 use Rattle.world_runs.proofs.OwnLines.{transactions-append}
 use Rattle.session_runs.proofs.Comes.{StandsAt, Comes, Goes, look_goes, create_goes}

@@ -25,7 +25,7 @@ use Rattle.store_world.specs.Requests.{Needs, Kept, touched_by}
 use Rattle.store_world.proofs.Frames.{weaken}
 use Rattle.store_world.proofs.Rows.{row_kept, opening_sound}
 use Rattle.world_runs.proofs.Actors.{changed, other_number}
-use Rattle.world_runs.proofs.Running.{Asks, asks_by}
+use Rattle.script_runs.proofs.Running.{Asks, asks_by}
 use Rattle.sound_runs.specs.Pasts.{ghost_after, world_of}
 use Rattle.sound_runs.specs.Known.{PhaseKnows, Knows, RunningKnows, IsFresh, ActorSound, AllSound}
 use Rattle.sound_runs.proofs.PhasesAsk.{IsFree, phase_needs, phase_own, phase_later, MakesNoLater}

@@ -13,7 +13,7 @@ use Rattle.program_rules.specs.Programs.{object_number, phase_answer}
 use Rattle.world_runs.specs.declared.event.Event.{Event}
 use Rattle.world_runs.specs.Moments.{WorldState, Actor, RunFrom, IsWorldRun, moment, after, after_all, opening, running, asked}
 use Rattle.world_runs.specs.Moments.{program_answer}
-use Rattle.world_runs.specs.Sound.{IsSound, IsSoundStore}
+use Rattle.claim_words.specs.Sound.{IsSound, IsSoundStore}
 use Rattle.store_world.specs.Worlds.{World, Ghost, opening_ghost}
 use Rattle.store_world.specs.Sound.{Sound}
 use Rattle.store_world.specs.Later.{Within, by_actor}
@@ -21,8 +21,8 @@ use Rattle.store_world.specs.Requests.{Needs, touched_by}
 use Rattle.sound_runs.specs.Pasts.{ghost_after, ghosts_after, ghosts, world_of, world}
 use Rattle.sound_runs.specs.Known.{PhaseKnows, Knows, AllSound, is_odd}
 use Rattle.sound_runs.specs.Laws.{EveryMomentIsSound, NoRunAnswersOdd, HasSmallNumbers, NumbersStaySmall}
-use Rattle.world_runs.proofs.Histories.{front_runs}
-use Rattle.world_runs.proofs.Running.{RunsAs, Asks, asks_by, running_is_of}
+use Rattle.script_runs.proofs.Histories.{front_runs}
+use Rattle.script_runs.proofs.Running.{RunsAs, Asks, asks_by, running_is_of}
 use Rattle.sound_runs.proofs.MomentsKeep.{event_sound, opening_all_sound, asks_what_it_needs, touches_its_own}
 
 -- a sound world's store is sound

@@ -7,7 +7,7 @@ use Rattle.tect_ids.specs.declared.answer.Answer.TheVariants as answers
 use Rattle.program_rules.specs.declared.program.Program.{Program}
 use Rattle.world_runs.specs.declared.event.Event.{Event}
 use Rattle.world_runs.specs.Moments.{Actor, IsWorldRun, moment, AtEachMoment, running, asked, answered}
-use Rattle.world_runs.specs.Sound.{IsSound}
+use Rattle.claim_words.specs.Sound.{IsSound}
 use Rattle.world_runs.specs.Standing.{IsLastBegun}
 
 -- at every moment of every run the store is sound

@@ -26,9 +26,9 @@ use Rattle.world_runs.specs.declared.event.Event.TheVariants.{Began, Refused, Ac
 use Rattle.program_rules.specs.Lacks.{no_room}
 use Rattle.world_runs.specs.Moments.{Actor, WorldState, opening, May, CanBegin, after, after_all, RunFrom, IsWorldRun, asked}
 use Rattle.world_runs.specs.Moments.{program_answer, program_of, heard, with_actor}
-use Rattle.world_runs.specs.TreeSteps.{Told, told_of, tree_steps, tree_step, says, tree_after, IsTreeRun}
-use Rattle.world_runs.specs.Points.{of_op, Walked, LacksName}
-use Rattle.world_runs.specs.Headline.{begun_by, or_later, command_of, refuses, was_refused, Explains, HadNoRoom, Headline}
+use Rattle.claim_words.specs.TreeSteps.{Told, told_of, tree_steps, tree_step, says, tree_after, IsTreeRun}
+use Rattle.claim_words.specs.Points.{of_op, Walked, LacksName}
+use Rattle.claim_words.specs.Headline.{begun_by, or_later, command_of, refuses, was_refused, Explains, HadNoRoom, Headline}
 use Rattle.world_runs.proofs.Actors.{changed}
 use Rattle.tree_runs.specs.View.{view, AllMade, MakesNew}
 use Rattle.tree_runs.proofs.Tracks.{Tracks, Knows, opening_tracks}

@@ -30,8 +30,8 @@ use Rattle.program_rules.specs.declared.program.Phase.TheVariants.{Walk, Bind, G
 use Rattle.program_rules.specs.Paths.{last_name}
 use Rattle.program_rules.specs.Programs.{root, way, new_path, at_last, own_hold, first_ask, look_ask, grant_ask, release_ask, phase_ask}
 use Rattle.program_rules.specs.Programs.{phase_hear, looked, checked, entries_heard, unbound_heard}
-use Rattle.world_runs.specs.TreeSteps.{Told, told_as, tree_step, says, tree_after, IsTreeRun}
-use Rattle.world_runs.specs.Points.{of_op, Walked, Point}
+use Rattle.claim_words.specs.TreeSteps.{Told, told_as, tree_step, says, tree_after, IsTreeRun}
+use Rattle.claim_words.specs.Points.{of_op, Walked, Point}
 use Rattle.tree_runs.specs.View.{Made, AllMade, MakesNew}
 use Rattle.tree_runs.proofs.Phases.{make_dir_made, make_file_made}
 use Rattle.tree_runs.proofs.Replies.{RefusesSo, RefusesDir, look_some, look_none, check_some, check_none, list_some, list_none, bind_some}

@@ -24,8 +24,8 @@ use Rattle.tree_model.specs.declared.step.TreeReply.{TreeReply}
 use Rattle.tree_model.specs.declared.step.TreeReply.TheVariants.{Ok, Refused}
 use Rattle.tree_model.specs.Tree.{is_ok}
 use Rattle.program_rules.specs.Programs.{refusal, dir_refusal, grant_ask}
-use Rattle.world_runs.specs.TreeSteps.{says}
-use Rattle.world_runs.specs.Points.{refused_answer, Lists}
+use Rattle.claim_words.specs.TreeSteps.{says}
+use Rattle.claim_words.specs.Points.{refused_answer, Lists}
 
 -- the word of a refusal
 abbrev pub why_of : TreeReply → Refusal

@@ -29,7 +29,7 @@ use Rattle.tree_model.specs.declared.step.TreeStep.{TreeStep}
 use Rattle.tree_model.specs.declared.step.TreeStep.TheVariants as step
 use Rattle.tree_model.specs.declared.step.TreeReply.{TreeReply}
 use Rattle.tree_model.specs.Tree.{Tree, tree_change, tree_reply, is_ok, as_listed}
-use Rattle.world_runs.specs.TreeSteps.{tree_step, says}
+use Rattle.claim_words.specs.TreeSteps.{tree_step, says}
 use Rattle.tree_runs.specs.MapValues.{map_values, seen_by}
 use Rattle.tree_runs.specs.View.{Made, view, Shows, AllMade, MakesNew, StepShows, shown_dir, shown_file, shown_entry}
 use Rattle.tree_runs.proofs.ValuesSeen.{entries-map_values, get-map_values, dir_put, file_put, key_put, dir_alike, file_alike, within_seen}

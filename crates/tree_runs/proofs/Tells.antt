@@ -31,9 +31,9 @@ use Rattle.program_rules.specs.declared.program.Phase.{Phase}
 use Rattle.program_rules.specs.declared.program.Phase.TheVariants.{Walk, Bind, Grant, Swap, Release, End}
 use Rattle.program_rules.specs.Paths.{last_name}
 use Rattle.program_rules.specs.Programs.{root, way, last, refusal, walked, source_heard, then_release, bound_heard, swapped_heard}
-use Rattle.world_runs.specs.TreeSteps.{Told, told_as, says, tree_after, where_refused, IsTreeRun}
-use Rattle.world_runs.specs.Points.{of_op, Walked, Seen, refused_answer, done_answer, StopsWalk, Finds, Lists, FindsSource, IsRefusal}
-use Rattle.world_runs.specs.Points.{Decides, Point, LacksName}
+use Rattle.claim_words.specs.TreeSteps.{Told, told_as, says, tree_after, where_refused, IsTreeRun}
+use Rattle.claim_words.specs.Points.{of_op, Walked, Seen, refused_answer, done_answer, StopsWalk, Finds, Lists, FindsSource, IsRefusal}
+use Rattle.claim_words.specs.Points.{Decides, Point, LacksName}
 use Rattle.tree_runs.proofs.Replies.{why_of, RefusesSo}
 use Rattle.tree_runs.proofs.Walks.{of_op-append, point_stays, here, over_still, seen_still, seen_now, walks_on}
 

@@ -16,8 +16,8 @@ use Rattle.tree_model.specs.declared.step.TreeReply.{TreeReply}
 use Rattle.tree_model.specs.declared.step.TreeReply.TheVariants.{Ok}
 use Rattle.tree_model.specs.Tree.{tree_reply, opening_tree}
 use Rattle.program_rules.specs.Programs.{root, way}
-use Rattle.world_runs.specs.TreeSteps.{Told, told_as, tree_after}
-use Rattle.world_runs.specs.Points.{of_op, Walked, Seen, DecidesAt, Point}
+use Rattle.claim_words.specs.TreeSteps.{Told, told_as, tree_after}
+use Rattle.claim_words.specs.Points.{of_op, Walked, Seen, DecidesAt, Point}
 
 -- the walk goes on to the directory that was found
 pub walked_on : (d : DirId) (names : List (List ℕ)) (own : List Told) (e : DirId) (n : List ℕ) (rest : List (List ℕ)) (s : Told)
