@@ -15,8 +15,8 @@ use Rattle.entry_words.specs.contracts.entry.Entry as entry
 use Rattle.entry_words.specs.declared.entry.Moment.TheVariants.{Act}
 use Rattle.entry_words.specs.declared.entry.Refused.{Refused}
 use Rattle.entry_words.specs.declared.entry.Refused.TheVariants.{NoMemory, HistoryFull, Astray}
-use Rattle.place_kit.specs.declared.pass.Pass.{Pass}
-use Rattle.place_kit.specs.Commits.{entry_of}
+use Rattle.passes.specs.declared.pass.Pass.{Pass}
+use Rattle.passes.specs.Commits.{entry_of}
 use Rattle.entry_words.specs.Labels.{label_at}
 use Rattle.all_shards.specs.Whole.{counts_code}
 
@@ -28,7 +28,8 @@ pub record KeptStore : Type 0 where
 
 abbrev pub kept_code : Coded KeptStore
 kept_code =
-    code_by (Counts × (Names × (Files × List (List Entry)))) (coded× counts_code (coded× names_code (coded× files_code (coded_list (coded_list entry.the_row.coded)))))
+    code_by (Counts × (Names × (Files × List (List Entry))))
+    (coded× counts_code (coded× names_code (coded× files_code (coded_list (coded_list entry.the_row.coded)))))
     (λ w. (w.counts, (w.store.names, (w.store.files, w.entries))))
     (λ p. record { counts = p.0; store = record { names = p.1.0; files = p.1.1.0 }; entries = p.1.1.1 }) (λ _. refl)
 

@@ -3,7 +3,7 @@ ghost use Rattle.tect_ids.specs.Places.{HasPlaces};
 ghost use Rattle.store_rules.specs.Dumps.{store_dump};
 ghost use Rattle.store_rules.specs.Places.{request_place};
 ghost use Rattle.store_rules.specs.Store.{opening_store};
-ghost use Rattle.place_kit.specs.Commits.{IsFull};
+ghost use Rattle.passes.specs.Commits.{IsFull};
 ghost use Rattle.place_kit.specs.Kept.{history_of};
 ghost use Rattle.place_kit.specs.Started.{AreStarted};
 ghost use Rattle.kept_shards.specs.KeptStore.{KeptStore, IsDone};
@@ -11,10 +11,11 @@ ghost use Rattle.kept_shards.specs.KeptStore.{KeptStore, IsDone};
 use crate::lending::machines;
 use crate::opening::{file_shards, name_shards};
 use all_shards::LentShards;
+use entry_words::Refused;
 use file_shard::FileShard;
 use name_shard::NameShard;
-use entry_words::Refused;
-use place_kit::{AnyKept, Kept, Pass};
+use passes::Pass;
+use place_kit::{AnyKept, Kept};
 use std::alloc::Global;
 use std::marker::Model;
 use store_rules::{FileReply, FileReq, NameReply, NameReq};
@@ -49,7 +50,8 @@ impl KeptShards {
     /// The shards before anything was done: the root alone, in the shard of its place.
     pub fn start(alloc: Global, counts: Counts) -> Result<KeptShards, NoMemory>
         requires { HasPlaces counts }
-        ensures { IfOk result (λ shards. shards ≡ record { counts = counts; store = opening_store; entries = replicate (counts.names + counts.files) [] }) }
+        ensures { IfOk result
+            (λ shards. shards ≡ record { counts = counts; store = opening_store; entries = replicate (counts.names + counts.files) [] }) }
     {
         let names = name_shards(alloc, &counts)?;
         let files = file_shards(alloc, &counts)?;

@@ -4,7 +4,7 @@ use Rattle.tect_ids.specs.declared.script.Plan.{Plan}
 use Rattle.tect_ids.specs.declared.script.ReportLine.{ReportLine}
 use Rattle.place_kit.specs.declared.any.AnyKept.{AnyKept}
 use Rattle.entry_words.specs.declared.entry.Moment.{Moment}
-use Rattle.place_kit.specs.declared.pass.Pass.{Pass}
+use Rattle.passes.specs.declared.pass.Pass.{Pass}
 use Rattle.place_kit.specs.Started.{AreStarted}
 use Rattle.world_runs.specs.declared.event.Event.{Event}
 use Rattle.race_runs.specs.Gathered.{AreGathered, IsRaceRun, cuts_of, history_of_race, silent_last, told}
@@ -16,7 +16,8 @@ use Rattle.race_ends.specs.Told.{told_by}
 use Rattle.race_ends.proofs.Gathered.{differ, each_has_pass, gathered}
 use Rattle.race_ends.proofs.Told.{told_is}
 
-module _ (plan : Plan) (ps : List Pass) (ended : List EndedPart) (last : List ReportLine) (run : HaveRun plan.counts plan.clients plan.lines ps ended last)
+module _ (plan : Plan) (ps : List Pass) (ended : List EndedPart) (last : List ReportLine)
+    (run : HaveRun plan.counts plan.clients plan.lines ps ended last)
     (ks : List AnyKept) (started : AreStarted plan.counts ks) (entries : List Moment) (g : IsGathered ks ps entries)
     (report : List ReportLine) (tells : report ≡ told_by ended last entries) where
   stories : AreGathered plan.counts plan.clients plan.lines (clocks_of ended) run.stories ks entries

@@ -7,7 +7,7 @@ use Rattle.tect_ids.specs.declared.script.ReportLine.{ReportLine}
 use Rattle.tect_ids.specs.Places.{HasPlaces}
 use Rattle.race_runs.specs.Stories.{Story, IsStory, all_moments}
 use Rattle.race_runs.specs.Gathered.{IsLineOf, is_dump, answers_now, answers_last, rest_of}
-use Rattle.place_kit.specs.declared.pass.Pass.{Pass}
+use Rattle.passes.specs.declared.pass.Pass.{Pass}
 use Rattle.race_ends.specs.declared.ended.EndedPart.{EndedPart}
 
 -- the story is of what the client noted, and a story of these lines
@@ -26,7 +26,8 @@ HaveAnswers (p ∷ ps) last ss = (p.answers.items ≡ answers_now ss) × HaveAns
 
 -- All clients did these lines, and these are their passes, in first-seen order. Dumps ended the first parts; the answers of the last
 -- part are the further lines.
-pub record HaveRun (counts : Counts) (names : List (List ℕ)) (lines : List Line) (passes : List Pass) (ended : List EndedPart) (last : List ReportLine) : Type 0 where
+pub record HaveRun (counts : Counts) (names : List (List ℕ)) (lines : List Line) (passes : List Pass) (ended : List EndedPart)
+    (last : List ReportLine) : Type 0 where
   pub places : HasPlaces counts
   pub asked : All (IsLineOf (length names)) lines
   pub dumps : count_by is_dump lines ≡ length ended
