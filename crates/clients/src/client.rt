@@ -12,11 +12,10 @@ ghost use Rattle.clients.specs.Lives.{events_in, state_in, op_in, RefusesNext, i
 ghost use Rattle.clients.specs.Steps.{OwnStep, WentAstray};
 
 use crate::actor::Actor;
-use crate::commits::{Astray, Commits};
 use crate::steps::take_step;
 use crate::turned::Turned;
 use entry_words::Note;
-use place_kit::Pass;
+use passes::{Astray, Commits, Pass};
 use std::alloc::Global;
 use std::marker::Model;
 use tect_calls::Asked;

@@ -19,7 +19,7 @@ use Rattle.clients.specs.Lives.{ClientLife, events_in, state_in, op_in, IsLife}
 use Rattle.players.specs.Lives.{busy_in}
 
 -- each event of these is the actor's own
-abbrev AllOwn : ℕ → List Event → Type 0
+abbrev pub AllOwn : ℕ → List Event → Type 0
 AllOwn a [] = Unit {0}
 AllOwn a (e ∷ es) = (is_own a e ≡ true) × AllOwn a es
 
@@ -33,7 +33,7 @@ kept_all : (p : Event → Bool) (e : Event) (es : List Event) (b : Bool) → p e
 kept_all p e es true is all = (is, cc)
 kept_all p e es false is all = absurd (omega (arith, filter_short p es, ap length all))
 
-all_own : (a : ℕ) (es : List Event) → own a es ≡ es → AllOwn a es
+pub all_own : (a : ℕ) (es : List Event) → own a es ≡ es → AllOwn a es
 all_own a [] is = tt
 all_own a (e ∷ es) is = (let k = kept_all (is_own a) e es (is_own a e) refl is in (k.0, all_own a es k.1))
 

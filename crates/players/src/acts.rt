@@ -72,11 +72,7 @@ fn do_command<P: Player<At>, At>(
     Ok(answer_line(player, at, alloc, names, answer)?)
 }
 
-fn begin<P: Player<At>, At>(
-    player: &mut P,
-    at: &mut At,
-    command: &Command,
-) -> Result<(), NoMemory>
+fn begin<P: Player<At>, At>(player: &mut P, at: &mut At, command: &Command) -> Result<(), NoMemory>
     requires fits { P.fits player.old at.old }
     requires idle { IsNone (P.state player.old at.old).running }
     requires goes_on { (P.state player.old at.old).stopped ≡ false }

@@ -1,9 +1,7 @@
 pub mod Results
-pub mod Reports
-pub mod Shallow
-pub mod Played
-pub mod Going
-pub mod Stepping
+pub mod SeatLaws
+pub mod Steps
+pub mod Showing
 pub mod Texts
 pub mod Pieces
 pub mod ReportTexts

@@ -3,22 +3,19 @@ use Rattle.std.proofs.Common.{◌≡◌, Bool, true, false, ℕ, zero, suc, ◌+
 use Rattle.std.specs.List.{AllByRecursion}
 use Rattle.std.proofs.lemmas.List.{take_all, take_more, take-append-drop, append-nil}
 use Rattle.tect_ids.specs.declared.ids.Counts.{Counts}
-use Rattle.tect_ids.specs.declared.command.Command.{Command}
 use Rattle.tect_ids.specs.declared.script.Act.{Act}
-use Rattle.tect_ids.specs.declared.script.Act.TheVariants as acts
 use Rattle.tect_ids.specs.declared.script.Line.{Line}
 use Rattle.tect_ids.specs.declared.script.Line.TheVariants as lines
 use Rattle.tect_ids.specs.declared.script.Plan.{Plan}
 use Rattle.tect_ids.specs.declared.script.ReportLine.{ReportLine}
 use Rattle.world_runs.specs.declared.event.Event.{Event}
 use Rattle.world_runs.specs.declared.event.Event.TheVariants.{Began, Refused, Acted, Ended, Stopped, Failed, Dumped}
-use Rattle.world_runs.specs.Served.{IsServed}
 use Rattle.world_runs.specs.Moments.{opening, moment, IsWorldRun}
 use Rattle.world_runs.specs.Follows.{Follows, FollowsFrom}
-use Rattle.world_runs.specs.Turns.{Turns, ClientTurn, Idle, Busy as IsBusy, Gone, TakesAct, turn_after, with_turn, all_idle, turns_after, InTurn, InTurnFrom}
+use Rattle.world_runs.specs.Turns.{Turns, TakesAct, turn_after, with_turn, all_idle, turns_after, InTurn, InTurnFrom}
 use Rattle.world_runs.specs.Report.{report_after}
-use Rattle.world_runs.proofs.Histories.{report-append}
-use Rattle.world_runs.specs.Standing.{busy_at, AtTurn}
+use Rattle.script_runs.proofs.Histories.{report-append}
+use Rattle.world_runs.specs.Standing.{busy_at}
 use Rattle.world_runs.specs.Smooth.{EndsAtOnce}
 use Rattle.script_runs.proofs.AtOnce.{at_once-append}
 use Rattle.script_runs.proofs.FollowOn.{run_follows_on, stands_by_turn}
@@ -31,8 +28,7 @@ use Rattle.tect_world.specs.Life.{Life, present}
 use Rattle.tect_replay.specs.Output.{lines_text, end_text, plan_report, AppendsPrefix}
 use Rattle.world_runs.specs.Playable.{IsWithin, IsPlayable}
 use Rattle.tect_replay.specs.Replays.{IsRunOf, IsCutReplay}
-use Rattle.tect_replay.specs.Plays.{AllShallow, CanStart, CanDo, CanPlay, PlaysLine}
-use Rattle.tect_replay.proofs.Shallow.{shallow-append}
+use Rattle.tect_replay.specs.Plays.{CanDo, CanPlay, PlaysLine}
 use Rattle.tect_replay.proofs.Texts.{prefix_longer, prefix_less, lines-append}
 
 -- ---- turns
@@ -53,29 +49,18 @@ turn_front turns (lines.Store counts ∷ ls) back is = absurd is
 turn_front turns (lines.Sweep ∷ ls) back is = absurd is
 turn_front turns (lines.Lose disk ∷ ls) back is = absurd is
 
-takes_do : (turn : ClientTurn) (c : Command) → TakesAct turn (acts.Do c) → (turn ≡ Idle) × IsServed c
-takes_do Idle c takes = (refl, takes)
-takes_do IsBusy c takes = absurd takes
-takes_do Gone c takes = absurd takes
-
-takes_begin : (turn : ClientTurn) (c : Command) → TakesAct turn (acts.Begin c) → (turn ≡ Idle) × IsServed c
-takes_begin Idle c takes = (refl, takes)
-takes_begin IsBusy c takes = absurd takes
-takes_begin Gone c takes = absurd takes
-
 -- ---- the lines that were played
 
--- the history is a run that follows these lines, each of whose commands is shallow
+-- the history is a run that follows these lines
 pub record HasPlayed (plan : Plan) (front : List Line) (world : Life) : Type 0 where
   pub counts : world.counts ≡ plan.counts
   pub run : IsWorldRun plan.counts world.history
   pub limits : KeepsLimits plan.counts world.history
   pub follows : Follows front world.history
   pub at_once : EndsAtOnce (opening plan.counts) world.history
-  pub shallow : AllShallow world.history
 
 pub played_none : (plan : Plan) (world : Life) → world ≡ record { counts = plan.counts; history = [] } → HasPlayed plan [] world
-played_none plan world is = subst (λ (w : Life). HasPlayed plan [] w) (sym is) (record { counts = refl; run = tt; limits = tt; follows = refl; at_once = tt; shallow = tt })
+played_none plan world is = subst (λ (w : Life). HasPlayed plan [] w) (sym is) (record { counts = refl; run = tt; limits = tt; follows = refl; at_once = tt })
 
 all_at : {X : Type 0} (P : X → Type 0) (xs : List X) (i : ℕ) (x : X) → i < length xs → AllByRecursion P xs → P (get_or xs i x)
 all_at P [] i x lt all = absurd (omega (arith, lt))
@@ -97,25 +82,13 @@ module _ (plan : Plan) (i : ℕ) (world : Life) (line : Line) (is : IsPlayable p
   within : IsWithin (length plan.clients) line
   within = subst (IsWithin (length plan.clients)) (sym at) (all_at (IsWithin (length plan.clients)) plan.lines i line lt is.within)
 
-  can_start : (actor : ℕ) → turns_after all_idle (take i plan.lines) actor ≡ Idle → CanStart ((moment plan.counts world.history).actors actor)
-  can_start actor idle =
+  can_do : (actor : ℕ) (act : Act) → TakesAct (turns_after all_idle (take i plan.lines) actor) act → CanDo ((present world).actors actor) act
+  can_do actor act takes =
       let s = stands_by_turn plan.counts (take i plan.lines) world.history (turn_front all_idle (take i plan.lines) (line ∷ drop (i + 1) plan.lines) in_turn) r.run r.follows actor in
-      let stands : AtTurn Idle ((moment plan.counts world.history).actors actor) = subst (λ (t : ClientTurn). AtTurn t ((moment plan.counts world.history).actors actor)) idle s.stands in
-      record { idle = stands.0; goes_on = stands.1; few = omega (arith, s.began, is.few, lt, length-take i plan.lines) }
-
-  can_do : (actor : ℕ) (act : Act) → TakesAct (turns_after all_idle (take i plan.lines) actor) act → IsWithin (length plan.clients) (lines.Client [] actor act) → CanDo ((present world).actors actor) act
-  can_do actor (acts.Do c) takes w =
-      let t = takes_do _ c takes in
-      rw r.counts (t.1, w.1, can_start actor t.0)
-  can_do actor (acts.Begin c) takes w =
-      let t = takes_begin _ c takes in
-      rw r.counts (t.1, w.1, can_start actor t.0)
-  can_do actor (acts.Step n) takes w = tt
-  can_do actor acts.Run takes w = tt
-  can_do actor acts.Stop takes w = tt
+      rw r.counts (record { few = omega (arith, s.began, is.few, lt, length-take i plan.lines); turn = turns_after all_idle (take i plan.lines) actor; stands = s.stands; takes = takes })
 
   can_play_by : (l : Line) → InTurnFrom (turns_after all_idle (take i plan.lines)) (l ∷ drop (i + 1) plan.lines) → IsWithin (length plan.clients) l → CanPlay (length plan.clients) world l
-  can_play_by (lines.Client client actor act) t w = (t.0, t.1, w.0, can_do actor act t.2 w)
+  can_play_by (lines.Client client actor act) t w = (t.0, t.1, w.0, can_do actor act t.2)
   can_play_by lines.Dump t w = tt
   can_play_by (lines.Store counts) t w = absurd t
   can_play_by lines.Sweep t w = absurd t
@@ -148,7 +121,6 @@ module _ (plan : Plan) (i : ℕ) (world : Life) (line : Line) (is : IsPlayable p
       limits = subst (λ (k : Counts). KeepsLimits k new.history) new_counts plays.run.limits;
       follows = rw (more, new_history) follows_now;
       at_once = rw new_history (at_once-append (opening plan.counts) world.history plays.part r.at_once (subst (λ (k : Counts). EndsAtOnce (moment k world.history) plays.part) r.counts plays.at_once));
-      shallow = rw new_history (shallow-append world.history plays.part r.shallow plays.shallow);
     }
 
     pub text_next : lines_text (plan_report plan new.history) ≡ lines_text (plan_report plan world.history) ++ lines_text ls

@@ -4,11 +4,11 @@
 //! [`write_report`] writes the lines of a report that is there already.
 #![tactic(auto)]
 
-mod acts;
 mod fault;
 mod lines;
 mod report;
 mod script;
+mod seat;
 mod writing;
 
 pub use fault::ReplayFault;

@@ -1,9 +1,11 @@
-ghost use Rattle.std.specs.Prelude.{◌≡◌, length, IfOk};
-ghost use Rattle.tect_replay.specs.Plays.{AllShallow, CanPlay, PlaysLine, shown_lines};
+ghost use Rattle.std.specs.Prelude.{ℕ, ◌≤◌, List, length, IfOk};
+ghost use Rattle.tect_world.specs.Life.{present};
+ghost use Rattle.tect_replay.specs.Plays.{CanDo, CanPlay, PlaysLine, shown_lines};
 
-use crate::acts::play_act;
+use crate::seat::Seat;
+use players::{RacerFault, play};
 use std::alloc::Global;
-use tect_ids::{DumpLine, Line, Name, NoMemory, ReportLine};
+use tect_ids::{Act, DumpLine, Line, Name, NoMemory, ReportLine};
 use tect_world::World;
 
 /// What a line of a script has to show.
@@ -14,6 +16,30 @@ pub enum Shown {
     Dump(Vec<DumpLine>),
 }
 
+/// Plays a client's line.
+fn play_act(
+    alloc: Global,
+    clients: &[Name],
+    world: &mut World,
+    actor: u32,
+    act: &Act,
+) -> Result<Shown, NoMemory>
+    requires actor { (1 ≤ actor) × (actor ≤ 64) × (actor ≤ length clients.now) }
+    requires can { CanDo ((present world.old).actors actor) act.now }
+    ensures { (name : List ℕ) → IfOk result (λ shown. PlaysLine clients.now (Line.Client name actor act.now) world.old world.new (shown_lines shown)) }
+{
+    // What is so of each world.
+    let _running = world.is_running(actor);
+    let mut seat = Seat { actor };
+    match play(&mut seat, world, alloc, clients, act) {
+        Ok(None) => Ok(Shown::Nothing),
+        Ok(Some(line)) => Ok(Shown::Answer(line)),
+        Err(RacerFault::NoMemory) => Err(NoMemory),
+        // No request goes astray here.
+        Err(RacerFault::Astray { .. }) => unreachable!(),
+    }
+}
+
 /// Plays a line of a script.
 pub fn play_line(
     alloc: Global,
@@ -21,8 +47,7 @@ pub fn play_line(
     world: &mut World,
     line: &Line,
 ) -> Result<Shown, NoMemory>
-    requires shallow { AllShallow world.old.history }
-    requires can { CanPlay (length clients.now) world.old line.now }
+    requires { CanPlay (length clients.now) world.old line.now }
     ensures { IfOk result (λ shown. PlaysLine clients.now line.now world.old world.new (shown_lines shown)) }
 {
     match line {

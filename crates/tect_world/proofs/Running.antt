@@ -14,7 +14,7 @@ use Rattle.world_runs.specs.declared.event.Event.{Event}
 use Rattle.world_runs.specs.declared.event.Event.TheVariants.{Began, Refused, Acted, Ended, Stopped, Failed, Dumped}
 use Rattle.world_runs.specs.Follows.{Acts}
 use Rattle.world_runs.specs.Moments.{Actor, WorldState, IsWorldRun, after_all, moment, running, asked, answered, program_of, program_answer}
-use Rattle.world_runs.proofs.Running.{running_goes_on, running_is_last_begun}
+use Rattle.script_runs.proofs.Running.{running_goes_on, running_is_last_begun}
 use Rattle.tect_world.specs.Life.{Life, present, grown, last_op, actor_asks, acted_actor, ended_actor, stepped_actor, transaction, ending, step_answer, step_events}
 use Rattle.clients.specs.declared.turned.Turned.TheVariants.{Going, Done}
 use Rattle.clients.specs.Turns.{turned_by}
@@ -37,7 +37,7 @@ acts_push op q x n (Stopped other ∷ es) acts = absurd acts
 acts_push op q x n (Failed other a ∷ es) acts = absurd acts
 acts_push op q x n (Dumped ∷ es) acts = absurd acts
 
-grown-grown : (w : Life) (es fs : List Event) → grown (grown w es) fs ≡ grown w (es ++ fs)
+pub grown-grown : (w : Life) (es fs : List Event) → grown (grown w es) fs ≡ grown w (es ++ fs)
 grown-grown w es fs i = record { counts = w.counts; history = append_assoc w.history es fs i }
 
 pub goes_none : (w : Life) (op : OpId) → GoesOn w w op
@@ -156,7 +156,7 @@ after_step v u a grows = ap present grows ∙ present-grown v (step_events (pres
 pub last_kept : (v u : Life) (a : ℕ) → u ≡ grown v (step_events (present v) (last_op (present v) a)) → last_op (present u) a ≡ last_op (present v) a
 last_kept v u a grows i = record { actor = a; number = (ap (λ (x : WorldState). (x.actors a).number) (after_step v u a grows) ∙ step_number (present v) (last_op (present v) a) a) i }
 
-own_after : (v u : Life) (a : ℕ) → u ≡ grown v (step_events (present v) (last_op (present v) a)) → (present u).actors a ≡ stepped_actor (present v).counts (present v).store ((present v).actors a) (last_op (present v) a)
+pub own_after : (v u : Life) (a : ℕ) → u ≡ grown v (step_events (present v) (last_op (present v) a)) → (present u).actors a ≡ stepped_actor (present v).counts (present v).store ((present v).actors a) (last_op (present v) a)
 own_after v u a grows =
     ap (λ (x : WorldState). x.actors a) (after_step v u a grows) ∙ step_actors (present v) (last_op (present v) a) a
     ∙ ap (λ (b : Bool). if b then stepped_actor (present v).counts (present v).store ((present v).actors a) (last_op (present v) a) else (present v).actors a) (same a)

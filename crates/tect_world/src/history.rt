@@ -5,9 +5,10 @@ ghost use Rattle.merge_runs.specs.Merged.{Agree, HaveDifferentActors, IsInOrder,
 ghost use Rattle.tect_world.specs.Told.{IsPassOf, IsOneList};
 
 use clients::Client;
-use merge_runs::{GatherFault, gather};
 use entry_words::Moment;
-use place_kit::{AnyKept, Pass};
+use merge_runs::{GatherFault, gather};
+use passes::Pass;
+use place_kit::AnyKept;
 use std::alloc::Global;
 use tect_ids::NoMemory;
 

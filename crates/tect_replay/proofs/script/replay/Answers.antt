@@ -13,8 +13,8 @@ returns-in_err-world-clause-cut g c =
 pub lines-init : goal.lines-init
 lines-init g c = record { played = played_none c.args.plan.now c.in_ok-world.world c.in_ok-world.ensures; written = rw (c.in_ok-world.ensures) (Appends-nil _); kept = refl }
 
-pub play_line-requires-clause-can : goal.play_line-requires-clause-can
-play_line-requires-clause-can g c =
+pub play_line-requires : goal.play_line-requires
+play_line-requires g c =
     let plan = c.args.plan.now in
     let i = c.lines.line-index in
     let line = c.line-item.result in

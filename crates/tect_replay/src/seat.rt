@@ -1,0 +1,68 @@
+ghost use Rattle.std.specs.Prelude.{◌≤◌};
+
+use players::{Player, RacerFault};
+use tect_ids::{Command, NoMemory};
+use tect_world::{Turned, World};
+
+/// One actor of the world, which plays a client's lines there.
+#[derive(Drop)]
+pub struct Seat {
+    pub actor: u32,
+}
+
+impl Player<World> for Seat {
+    ghost use Rattle.tect_world.specs.Life.{present};
+    ghost use Rattle.tect_world.proofs.Running.{room_at};
+    ghost use Rattle.tect_replay.specs.Plays.{IsKeptRun};
+    ghost use Rattle.tect_replay.specs.Seats.{SeatGrew};
+    ghost use Rattle.tect_replay.proofs.SeatLaws.{seat_laws};
+
+    ghost counts = { λ w. w.counts };
+
+    ghost fits = { λ s w. (1 ≤ s.actor) × (s.actor ≤ 64) × IsKeptRun w };
+
+    ghost actor = { λ s. s.actor };
+
+    ghost history = { λ s w. w.history };
+
+    ghost state = { λ s w. (present w).actors s.actor };
+
+    ghost grows = { SeatGrew };
+
+    ghost left = { λ s w. room_at w s.actor };
+
+    ghost astray = { λ counts want found. ⊥ };
+
+    ghost laws = { seat_laws };
+
+    fn actor(&self) -> u32 {
+        self.actor
+    }
+
+    fn is_running(&self, at: &World) -> bool {
+        at.is_running(self.actor)
+    }
+
+    fn number(&self, at: &World) -> u32 {
+        at.last_op(self.actor).number
+    }
+
+    fn transactions(&self, at: &World) -> u32 {
+        at.transactions(self.actor) as u32
+    }
+
+    fn begin(&mut self, at: &mut World, command: Command) -> Result<(), NoMemory> {
+        at.begin(self.actor, command)
+    }
+
+    fn step(&mut self, at: &mut World) -> Result<Turned, RacerFault> {
+        match at.step(self.actor) {
+            Ok(turned) => Ok(turned),
+            Err(NoMemory) => Err(RacerFault::NoMemory),
+        }
+    }
+
+    fn stop(&mut self, at: &mut World) -> Result<(), NoMemory> {
+        at.stop(self.actor)
+    }
+}
