@@ -1,11 +1,11 @@
-ghost use Rattle.std.specs.Prelude.{◌≡◌};
+ghost use Rattle.std.specs.Prelude.{◌≡◌, ◌↔◌, IsTrue};
 
 use store_rules::{AnyReply, AnyReq};
 use tect_ids::{Answer, Command, OpId, Place};
 
 /// One transaction that was done, as its place and its actor keep it: when, where, by whom, the number of the actor's op
 /// that did it (0 where none was running), its number among the actor's transactions, and what was asked and replied.
-#[derive(Debug, Drop)]
+#[derive(Clone, Debug, PartialEq, Eq, Drop)]
 pub struct Entry {
     pub stamp: u64,
     pub place: Place,
@@ -14,6 +14,16 @@ pub struct Entry {
     pub step: u32,
     pub req: AnyReq,
     pub reply: AnyReply,
+}
+
+impl Entry {
+    /// Whether it is that very entry. It takes no memory.
+    #[tactic(auto, using(crate::proofs::Equals::entry_decides))]
+    pub fn is_same(&self, other: &Entry) -> bool
+        ensures { IsTrue result ↔ (self.now ≡ other.now) }
+    {
+        self == other
+    }
 }
 
 /// No stamp is given from this clock on: a pass or a shard whose clock has come to it takes nothing more.
@@ -36,7 +46,7 @@ pub enum Note {
 }
 
 /// What one actor did: a transaction, or a note.
-#[derive(Drop)]
+#[derive(Clone, Drop)]
 pub enum Moment {
     Act(Entry),
     Local { stamp: u64, actor: u32, note: Note },

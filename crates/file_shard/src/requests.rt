@@ -8,10 +8,10 @@ ghost use Rattle.file_shard.specs.Outcomes.{outcome_of};
 
 use crate::outcome::Outcome;
 use crate::shard::FileShard;
-use key_maps::FileMap;
+use key_maps::{FileMap, HoldList};
 use std::alloc::Global;
 use store_rules::{File, FileReply};
-use tect_ids::{FileId, Hold, HoldList, Key, NoMemory, Token, Upper};
+use tect_ids::{FileId, Hold, Key, NoMemory, Token, Upper};
 
 impl FileShard {
     pub(crate) fn make_file_outcome(&self, file: FileId) -> Outcome
@@ -38,7 +38,7 @@ impl FileShard {
             Outcome::Leaves(reply) => Ok(reply),
             Outcome::Changes(reply) => {
                 let mut holds = HoldList::new(self.alloc);
-                holds.grant(hold, Upper::Entry(key.copy(self.alloc)?))?;
+                holds.grant(hold, Upper::Entry(key.clone()?))?;
                 match self.files.put(file, File { token, holds }) {
                     Ok(_) => Ok(reply),
                     Err(_) => Err(NoMemory),
@@ -69,7 +69,7 @@ impl FileShard {
         match self.grant_outcome(file) {
             Outcome::Leaves(reply) => Ok(reply),
             Outcome::Changes(reply) => {
-                let key = Upper::Entry(key.copy(self.alloc)?);
+                let key = Upper::Entry(key.clone()?);
                 grant_hold(&mut self.files, file, hold, key)?;
                 Ok(reply)
             }

@@ -66,7 +66,8 @@ agreement ks ps s d here there =
     (λ e i.
     let w = in_flat entries_of ps e i in
     let a = all_in (λ p. All (IsStoredMoment ks) (moments_of p)) ps there w.0 w.1 in
-    in_from_contains (histories ks) e (histories_from_stored ks e (all_in (IsStoredMoment ks) (moments_of w.0) a (Act e) (act_in (moments_of w.0) e w.2))))
+    in_from_contains (histories ks) e (histories_from_stored ks e (all_in (IsStoredMoment ks) (moments_of w.0) a (Act e)
+    (act_in (moments_of w.0) e w.2))))
     (λ e i.
     let w = in_flat history_of ks e i in
     let a = all_in (λ k. All (Contains (trails ps)) (history_of k)) ks here w.0 w.1 in
@@ -75,9 +76,11 @@ agreement ks ps s d here there =
 -- where an entry is not in both they do not agree
 pub apart_disagrees : (ks : List AnyKept) (ps : List Pass) (e : Entry) → IsApart ks ps e → Agree ks ps → ⊥
 apart_disagrees ks ps e (inl w) a = w.1 (Contains-permutation (trails ps) (histories ks) e a w.0)
-apart_disagrees ks ps e (inr w) a = w.1 (Contains-permutation (histories ks) (trails ps) e (IsPermutation-sym (trails ps) (histories ks) a) w.0)
+apart_disagrees ks ps e (inr w) a =
+    w.1 (Contains-permutation (histories ks) (trails ps) e (IsPermutation-sym (trails ps) (histories ks) a) w.0)
 
-pub stored_trails : (ks : List AnyKept) (ps : List Pass) → All (λ p. All (IsStoredMoment ks) (moments_of p)) ps → All (IsStored ks) (trails ps)
+pub stored_trails : (ks : List AnyKept) (ps : List Pass) → All (λ p. All (IsStoredMoment ks) (moments_of p)) ps
+    → All (IsStored ks) (trails ps)
 stored_trails ks ps there =
     in_all (IsStored ks) (trails ps)
     (λ e i.

@@ -2,7 +2,8 @@
 use Rattle.std.proofs.Common.{◌≡◌, ℕ, ◌≤◌, ◌⊎◌, inl, inr, List, [], ◌∷◌, ◌++◌, refl, sym, ◌∙◌, ap, subst, arith, cond, eqb}
 use Rattle.std.specs.List.{flat_map}
 use Rattle.std.specs.List.Sorted.{IsPermutation}
-use Rattle.std.proofs.lemmas.List.Sorted.{IsPermutation-refl, IsPermutation-cons, IsPermutation-sym, IsPermutation-trans, IsPermutation-middle}
+use Rattle.std.proofs.lemmas.List.Sorted.{IsPermutation-refl, IsPermutation-cons, IsPermutation-sym}
+use Rattle.std.proofs.lemmas.List.Sorted.{IsPermutation-trans, IsPermutation-middle}
 use Rattle.std.proofs.lemmas.List.Sums.{sum_by-cons}
 use Rattle.merge_runs.proofs.Order.{In}
 use Rattle.merge_runs.proofs.Members.{in_append, in_append_right, in_flat, count_of, two_in}
@@ -33,10 +34,13 @@ module _ {X : Type 0} where
   without_middle : (us vs : List X) (x : X) → Distinct (us ++ x ∷ vs) → Distinct (us ++ vs) × (In x (us ++ vs) → ⊥)
   without_middle [] vs x d = (d.1, d.0)
   without_middle (u ∷ us) vs x d =
-      let r = without_middle us vs x d.1 in
-      ((λ i. d.0 (into_middle us vs x u i), r.0), λ i. elim i [ inl e ↦ d.0 (subst (λ w. In w (us ++ x ∷ vs)) (sym e) (at_middle us vs x)) | inr j ↦ r.1 j ])
+      let r = without_middle us vs x d.1 in (
+        (λ i. d.0 (into_middle us vs x u i), r.0),
+        λ i. elim i [ inl e ↦ d.0 (subst (λ w. In w (us ++ x ∷ vs)) (sym e) (at_middle us vs x)) | inr j ↦ r.1 j ],
+      )
 
-  pub same_members : (xs ys : List X) → Distinct xs → Distinct ys → ((z : X) → In z xs → In z ys) → ((z : X) → In z ys → In z xs) → IsPermutation xs ys
+  pub same_members : (xs ys : List X) → Distinct xs → Distinct ys → ((z : X) → In z xs → In z ys)
+      → ((z : X) → In z ys → In z xs) → IsPermutation xs ys
   same_members [] [] d e f g = IsPermutation-refl []
   same_members [] (y ∷ ys) d e f g = absurd (g y (inl refl))
   same_members (x ∷ xs) ys d e f g =
@@ -45,9 +49,11 @@ module _ {X : Type 0} where
       let vs : List X = s.1 in
       let m = without_middle us vs x (subst (λ zs. Distinct zs) s.2 e) in
       let there : (z : X) → In z xs → In z (us ++ vs) = λ z i.
-      elim (out_of_middle us vs x z (subst (λ zs. In z zs) s.2 (f z (inr i)))) [ inl q ↦ absurd (d.0 (subst (λ w. In w xs) (sym q) i)) | inr j ↦ j ] in
+      elim (out_of_middle us vs x z (subst (λ zs. In z zs) s.2 (f z (inr i))))
+      [ inl q ↦ absurd (d.0 (subst (λ w. In w xs) (sym q) i)) | inr j ↦ j ] in
       let back : (z : X) → In z (us ++ vs) → In z xs = λ z i.
-      elim (g z (subst (λ zs. In z zs) (sym s.2) (into_middle us vs x z i))) [ inl q ↦ absurd (m.1 (subst (λ w. In w (us ++ vs)) (sym q) i)) | inr j ↦ j ] in
+      elim (g z (subst (λ zs. In z zs) (sym s.2) (into_middle us vs x z i)))
+      [ inl q ↦ absurd (m.1 (subst (λ w. In w (us ++ vs)) (sym q) i)) | inr j ↦ j ] in
       let p : IsPermutation xs (us ++ vs) = same_members xs (us ++ vs) d.1 m.0 there back in
       let t : IsPermutation (x ∷ xs) (us ++ x ∷ vs) =
       IsPermutation-trans (x ∷ xs) (x ∷ (us ++ vs)) (us ++ x ∷ vs) (IsPermutation-cons x xs (us ++ vs) p)
@@ -60,7 +66,8 @@ module _ {X : Type 0} where
       (λ i. elim (in_append xs ys x i) [ inl a ↦ d.0 a | inr b ↦ f x (inl refl) b ], distinct_append xs ys d.1 e (λ z i j. f z (inr i) j))
 
 -- lists of owners with different numbers, each of elements with their owner's number
-module _ {P X : Type 0} (f : P → List X) (key : P → ℕ) (tag : X → ℕ) (owned : (p : P) (z : X) → In z (f p) → tag z ≡ key p) (each : (p : P) → Distinct (f p)) where
+module _ {P X : Type 0} (f : P → List X) (key : P → ℕ) (tag : X → ℕ) (owned : (p : P) (z : X) → In z (f p)
+    → tag z ≡ key p) (each : (p : P) → Distinct (f p)) where
   pub distinct_flat : (ps : List P) → ((n : ℕ) → count_of key n ps ≤ 1) → Distinct (flat_map f ps)
   distinct_flat [] c = tt
   distinct_flat (p ∷ ps) c =

@@ -10,7 +10,8 @@ use Rattle.entry_words.specs.declared.entry.Moment.TheVariants.{Act}
 use Rattle.place_kit.specs.declared.pass.Pass.{Pass}
 use Rattle.place_kit.specs.Kept.{history_of, place_of}
 use Rattle.entry_words.specs.Moments.{is_at, is_of}
-use Rattle.merge_runs.specs.Merged.{IsInOrder, moments_of, trails, IsStored, HaveDifferentActors, StandInOrder, RestrictsToTrails, RestrictsToHistories}
+use Rattle.merge_runs.specs.Merged.{IsInOrder, moments_of, trails, IsStored, HaveDifferentActors, StandInOrder}
+use Rattle.merge_runs.specs.Merged.{RestrictsToTrails, RestrictsToHistories}
 use Rattle.merge_runs.specs.Splits.{IsStoredMoment}
 use Rattle.merge_runs.proofs.Order.{In}
 use Rattle.merge_runs.proofs.Members.{in_permutation, in_flat, flat_in, in_from_contains}
@@ -31,10 +32,13 @@ module _ (ks : List AnyKept) (ps : List Pass) (ms : List Moment) (stands : Stand
 
   knows_all : KnowsAll ks ms
   knows_all = record {
-    here = λ k i e j. known_in e (all_in (Contains (trails ps)) (history_of k) (all_in (λ k. All (Contains (trails ps)) (history_of k)) ks here k i) e j);
+    here = λ k i e j. known_in e (all_in (Contains (trails ps)) (history_of k)
+        (all_in (λ k. All (Contains (trails ps)) (history_of k)) ks here k i) e j);
     there = λ e i.
-        let w = in_flat moments_of ps (Act e) (in_permutation ms (flat_map moments_of ps) (IsPermutation-sym (flat_map moments_of ps) ms perm) (Act e) i) in
-        stored_in e (all_in (IsStoredMoment ks) (moments_of w.0) (all_in (λ p. All (IsStoredMoment ks) (moments_of p)) ps there w.0 w.1) (Act e) w.2);
+        let w = in_flat moments_of ps (Act e) (in_permutation ms (flat_map moments_of ps)
+        (IsPermutation-sym (flat_map moments_of ps) ms perm) (Act e) i) in
+        stored_in e (all_in (IsStoredMoment ks) (moments_of w.0) (all_in (λ p. All (IsStoredMoment ks) (moments_of p))
+        ps there w.0 w.1) (Act e) w.2);
   }
 
   pub restricts_to_histories : RestrictsToHistories ks ms

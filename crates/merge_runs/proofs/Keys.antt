@@ -23,10 +23,12 @@ module _ {K X : Type 0} (f : K → X) (lt : X → X → Bool) where
       let t : lt (f (get_or (x ∷ xs) (k + 1) x)) (f (get_or (x ∷ xs) k x)) ≡ false = s k x a next in
       ap (λ w. lt w (get_or (map f (x ∷ xs)) k d)) q ∙ ap (λ w. lt (f (get_or (x ∷ xs) (k + 1) x)) w) p ∙ t
 
-pub all_sorted : (ps : List Pass) (before after : List Keyed) → map moment_in before ≡ flat_map moments_of ps → IsPermutation before after → IsPermutation (flat_map moments_of ps) (map moment_in after)
+pub all_sorted : (ps : List Pass) (before after : List Keyed) → map moment_in before ≡ flat_map moments_of ps
+    → IsPermutation before after → IsPermutation (flat_map moments_of ps) (map moment_in after)
 all_sorted ps before after e p = subst (λ xs. IsPermutation xs (map moment_in after)) e (IsPermutation-map moment_in before after p)
 
-pub order_keyed : (ps : List Pass) (before after : List Keyed) → HaveDifferentActors ps → map moment_in before ≡ flat_map moments_of ps → IsPermutation before after
+pub order_keyed : (ps : List Pass) (before after : List Keyed) → HaveDifferentActors ps → map moment_in before
+    ≡ flat_map moments_of ps → IsPermutation before after
     → IsSortedBy (λ x y. is_lt (moment_cmp (moment_in x) (moment_in y))) after → IsInOrder (map moment_in after)
 order_keyed ps before after d e p s =
     order_sorted ps (map moment_in after) d (all_sorted ps before after e p) (sorted_map moment_in (λ x y. is_lt (moment_cmp x y)) after s)

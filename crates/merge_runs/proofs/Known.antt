@@ -1,5 +1,6 @@
 -- Where an entry has to stand: in the pass of its actor, and in the history of its place.
-use Rattle.std.proofs.Common.{◌≡◌, ◌≢◌, ℕ, ◌<◌, ◌≤◌, Bool, false, List, refl, sym, ◌∙◌, subst, length, get_or, ltb, nat_lt, IsTrue, ◌↔◌, arith, inl, inr}
+use Rattle.std.proofs.Common.{◌≡◌, ◌≢◌, ℕ, ◌<◌, ◌≤◌, Bool, false, List, refl, sym, ◌∙◌, subst, length, get_or, ltb}
+use Rattle.std.proofs.Common.{nat_lt, IsTrue, ◌↔◌, arith, inl, inr}
 use Rattle.std.specs.List.{All, Contains}
 use Rattle.std.proofs.lemmas.List.Elements.{Contains-get_or}
 use Rattle.place_kit.specs.declared.any.AnyKept.{AnyKept}
@@ -22,7 +23,8 @@ pub one_pass : (ps : List Pass) (p q : Pass) → HaveDifferentActors ps → In p
 one_pass ps p q d i j h = one_only actor_of_pass q.actor ps p q (d q.actor) i j h refl
 
 -- the pass of the entry's actor has it
-pub known_by : (ps : List Pass) (e : Entry) (p : Pass) (b : Bool) → HaveDifferentActors ps → Contains ps p → p.actor ≡ e.actor → (IsTrue b ↔ Contains (moments_of p) (Act e)) → IsTrue b ↔ Contains (trails ps) e
+pub known_by : (ps : List Pass) (e : Entry) (p : Pass) (b : Bool) → HaveDifferentActors ps → Contains ps p
+    → p.actor ≡ e.actor → (IsTrue b ↔ Contains (moments_of p) (Act e)) → IsTrue b ↔ Contains (trails ps) e
 known_by ps e p b d c a f =
     let here : In p ps = in_from_contains ps p c in (
       λ t. trails_in ps p e here (entry_in (moments_of p) e (in_from_contains (moments_of p) (Act e) (f.0 t))),
@@ -42,7 +44,8 @@ known_nowhere ps e a = (
 )
 
 -- the place of the entry's number has it
-pub stored_by : (ks : List AnyKept) (e : Entry) (k : AnyKept) (b : Bool) → StandInOrder 0 ks → e.place.0 < length ks → k ≡ get_or ks e.place.0 k → (IsTrue b ↔ Contains (history_of k) e) → IsTrue b ↔ IsStored ks e
+pub stored_by : (ks : List AnyKept) (e : Entry) (k : AnyKept) (b : Bool) → StandInOrder 0 ks → e.place.0 < length ks
+    → k ≡ get_or ks e.place.0 k → (IsTrue b ↔ Contains (history_of k) e) → IsTrue b ↔ IsStored ks e
 stored_by ks e k b s l h f = (
   λ t. stored_at ks e k s l h (f.0 t),
   λ w.
@@ -52,21 +55,24 @@ stored_by ks e k b s l h f = (
 )
 
 -- there is no place of that number
-pub stored_nowhere : (ks : List AnyKept) (e : Entry) → StandInOrder 0 ks → length ks ≤ e.place.0 → IsTrue (nat_lt e.place.0 (length ks)) ↔ IsStored ks e
+pub stored_nowhere : (ks : List AnyKept) (e : Entry) → StandInOrder 0 ks → length ks ≤ e.place.0
+    → IsTrue (nat_lt e.place.0 (length ks)) ↔ IsStored ks e
 stored_nowhere ks e s l =
     let f : ltb e.place.0 (length ks) ≡ false = not_less e.place.0 (length ks) l in
     let g : IsTrue false ↔ IsStored ks e = (λ t. absurd (not_true t), λ w. absurd (let q = (place_stored ks e s w).0 in omega arith)) in
     subst (λ b. IsTrue b ↔ IsStored ks e) (sym f) g
 
 -- an entry of a history that no trail has
-pub apart_unknown : (ks : List AnyKept) (ps : List Pass) (i : ℕ) (k : AnyKept) (es : List Entry) (e : Entry) → i < length ks → k ≡ get_or ks i k → es ≡ history_of k → Contains es e × (¬ Contains (trails ps) e) → IsApart ks ps e
+pub apart_unknown : (ks : List AnyKept) (ps : List Pass) (i : ℕ) (k : AnyKept) (es : List Entry) (e : Entry)
+    → i < length ks → k ≡ get_or ks i k → es ≡ history_of k → Contains es e × (¬ Contains (trails ps) e) → IsApart ks ps e
 apart_unknown ks ps i k es e l h q c =
     let at : Contains ks k = subst (λ x. Contains ks x) (sym h) (Contains-get_or ks i k l) in
     let has : In e (history_of k) = in_from_contains (history_of k) e (subst (λ xs. Contains xs e) q c.0) in
     inr (contains_from_in (histories ks) e (flat_in history_of ks k e (in_from_contains ks k at) has), c.1)
 
 -- an entry of a trail that the history of its place lacks
-pub apart_missing : (ks : List AnyKept) (ps : List Pass) (i : ℕ) (p : Pass) (ms : List Moment) (e : Entry) → i < length ps → p ≡ get_or ps i p → ms ≡ moments_of p → Contains ms (Act e) × (¬ IsStored ks e) → IsApart ks ps e
+pub apart_missing : (ks : List AnyKept) (ps : List Pass) (i : ℕ) (p : Pass) (ms : List Moment) (e : Entry) → i < length ps
+    → p ≡ get_or ps i p → ms ≡ moments_of p → Contains ms (Act e) × (¬ IsStored ks e) → IsApart ks ps e
 apart_missing ks ps i p ms e l h q c =
     let at : Contains ps p = subst (λ x. Contains ps x) (sym h) (Contains-get_or ps i p l) in
     let has : In (Act e) (moments_of p) = in_from_contains (moments_of p) (Act e) (subst (λ xs. Contains xs (Act e)) q c.0) in

@@ -1,5 +1,6 @@
 -- What follows from one gathered history, for the crates above; and how passes are seen to be of different actors.
-use Rattle.std.proofs.Common.{◌≡◌, ◌≢◌, ℕ, ◌≤◌, Bool, true, false, cond, ◌⊎◌, inl, inr, List, [], ◌∷◌, refl, sym, ◌∙◌, arith, map, eqb, length}
+use Rattle.std.proofs.Common.{◌≡◌, ◌≢◌, ℕ, ◌≤◌, Bool, true, false, cond, ◌⊎◌, inl, inr, List, [], ◌∷◌, refl, sym, ◌∙◌}
+use Rattle.std.proofs.Common.{arith, map, eqb, length}
 use Rattle.std.specs.List.{flat_map, filter, All}
 use Rattle.std.specs.List.Sorted.{IsPermutation}
 use Rattle.std.proofs.lemmas.List.Elements.{All-head, All-tail}
@@ -13,7 +14,8 @@ use Rattle.entry_words.specs.declared.entry.Moment.TheVariants.{Act, Local}
 use Rattle.place_kit.specs.declared.pass.Pass.{Pass}
 use Rattle.place_kit.specs.Kept.{history_of, place_of}
 use Rattle.entry_words.specs.Moments.{actor_of, is_at, is_of}
-use Rattle.merge_runs.specs.Merged.{HaveDifferentActors, StandInOrder, moments_of, trails, IsStored, RestrictsToTrails, RestrictsToHistories}
+use Rattle.merge_runs.specs.Merged.{HaveDifferentActors, StandInOrder, moments_of, trails, IsStored, RestrictsToTrails}
+use Rattle.merge_runs.specs.Merged.{RestrictsToHistories}
 use Rattle.merge_runs.proofs.Order.{In}
 use Rattle.merge_runs.proofs.Members.{in_permutation, in_filter, in_flat, flat_in, in_from_contains, count_of}
 use Rattle.merge_runs.proofs.Restricts.{actor_in}
@@ -26,17 +28,20 @@ empty_from_none [] f = refl
 empty_from_none (x ∷ xs) f = absurd (f x (inl refl))
 
 -- the moments of an actor are those of its pass
-pub of_pass : (ps : List Pass) (ms : List Moment) → RestrictsToTrails ps ms → (p : Pass) → In p ps → filter (is_of p.actor) ms ≡ moments_of p
+pub of_pass : (ps : List Pass) (ms : List Moment) → RestrictsToTrails ps ms → (p : Pass) → In p ps
+    → filter (is_of p.actor) ms ≡ moments_of p
 of_pass ps ms r p i = all_in (λ p. filter (is_of p.actor) ms ≡ moments_of p) ps r p i
 
 -- the transactions at a place are its history
-pub at_place : (ks : List AnyKept) (ms : List Moment) → RestrictsToHistories ks ms → (k : AnyKept) → In k ks → filter (is_at (place_of k)) ms ≡ map Act (history_of k)
+pub at_place : (ks : List AnyKept) (ms : List Moment) → RestrictsToHistories ks ms → (k : AnyKept) → In k ks
+    → filter (is_at (place_of k)) ms ≡ map Act (history_of k)
 at_place ks ms r k i = all_in (λ k. filter (is_at (place_of k)) ms ≡ map Act (history_of k)) ks r k i
 
 module _ (ps : List Pass) (ms : List Moment) (whole : IsPermutation (flat_map moments_of ps) ms) where
   -- each moment is of a pass, and of each pass each moment is there
   pub from_pass : (m : Moment) → In m ms → (p : Pass) × In p ps × In m (moments_of p)
-  from_pass m i = in_flat moments_of ps m (in_permutation ms (flat_map moments_of ps) (IsPermutation-sym (flat_map moments_of ps) ms whole) m i)
+  from_pass m i =
+      in_flat moments_of ps m (in_permutation ms (flat_map moments_of ps) (IsPermutation-sym (flat_map moments_of ps) ms whole) m i)
 
   pub into_merged : (p : Pass) (m : Moment) → In p ps → In m (moments_of p) → In m ms
   into_merged p m i j = in_permutation (flat_map moments_of ps) ms whole m (flat_in moments_of ps p m i j)
@@ -55,7 +60,8 @@ module _ (ps : List Pass) (ms : List Moment) (whole : IsPermutation (flat_map mo
     pub is_stored : (e : Entry) → In (Act e) ms → IsStored ks e
     is_stored e i =
         let w = from_pass (Act e) i in
-        all_in (IsStored ks) (trails ps) stored e (in_from_contains (trails ps) e (trails_in ps w.0 e w.1 (entry_in (moments_of w.0) e w.2)))
+        all_in (IsStored ks) (trails ps) stored e
+        (in_from_contains (trails ps) e (trails_in ps w.0 e w.1 (entry_in (moments_of w.0) e w.2)))
 
     not_at : (n : ℕ) → StandInOrder 0 ks → length ks ≤ n → (m : Moment) → In m ms → is_at n m ≡ true → ⊥
     not_at n s l (Act e) i h =
@@ -92,6 +98,7 @@ different_more p ps n d a =
     let c = sum_by-cons (one_of a) p ps in
     let i : count_of actor_of_pass a ps ≤ 1 = d a in
     elim (of_or_not a p (eqb p.actor a) refl) [
-      | inl h ↦ (let z : count_of actor_of_pass a ps ≡ 0 = none_of a ps (let same = h.0 in λ k q l e. n k q l (e ∙ sym same)) in let one = h.1 in omega arith)
+      | inl h ↦ (let z : count_of actor_of_pass a ps ≡ 0 =
+          none_of a ps (let same = h.0 in λ k q l e. n k q l (e ∙ sym same)) in let one = h.1 in omega arith)
       | inr z ↦ omega arith
     ]

@@ -1,5 +1,6 @@
 -- Two lists in order that have the same moments are equal.
-use Rattle.std.proofs.Common.{◌≡◌, ℕ, ◌<◌, ◌≤◌, Bool, true, false, ◌&&◌, ◌⊎◌, inl, inr, List, [], ◌∷◌, refl, sym, ◌∙◌, ap, subst, arith, ltb, map}
+use Rattle.std.proofs.Common.{◌≡◌, ℕ, ◌<◌, ◌≤◌, Bool, true, false, ◌&&◌, ◌⊎◌, inl, inr, List, [], ◌∷◌, refl, sym, ◌∙◌}
+use Rattle.std.proofs.Common.{ap, subst, arith, ltb, map}
 use Rattle.std.specs.Ordering.{ordering_reverse}
 use Rattle.std.specs.declared.cmp.Ordering.TheVariants.{Less, Greater}
 use Rattle.std.specs.Cmp.{IsTotalOrder}
@@ -45,13 +46,15 @@ tails x y xs ys z a h i (inl e) =
     absurd (one_way x x v v)
 tails x y xs ys z a h i (inr j) = j
 
-pub same_order : (xs ys : List Moment) → IsInOrder xs → IsInOrder ys → ((z : Moment) → In z xs → In z ys) → ((z : Moment) → In z ys → In z xs) → xs ≡ ys
+pub same_order : (xs ys : List Moment) → IsInOrder xs → IsInOrder ys → ((z : Moment) → In z xs → In z ys)
+    → ((z : Moment) → In z ys → In z xs) → xs ≡ ys
 same_order [] [] a b f g = refl
 same_order [] (y ∷ ys) a b f g = absurd (g y (inl refl))
 same_order (x ∷ xs) [] a b f g = absurd (f x (inl refl))
 same_order (x ∷ xs) (y ∷ ys) a b f g =
     let h : x ≡ y = heads x y xs ys a.0 b.0 (f x (inl refl)) (g y (inl refl)) in
-    let t : xs ≡ ys = same_order xs ys a.1 b.1 (λ z i. tails x y xs ys z a.0 h i (f z (inr i))) (λ z i. tails y x ys xs z b.0 (sym h) i (g z (inr i))) in
+    let t : xs ≡ ys = same_order xs ys a.1 b.1 (λ z i. tails x y xs ys z a.0 h i (f z (inr i)))
+    (λ z i. tails y x ys xs z b.0 (sym h) i (g z (inr i))) in
     cc
 
 pub stamp_before : (x y : Moment) → stamp_of x < stamp_of y → Before x y
@@ -70,7 +73,8 @@ order_rises low high (m ∷ ms) r =
     let s = both (ltb low (stamp_of m)) (rises (stamp_of m) high ms) r in
     (rises_before m (stamp_of m) high ms s.1 (omega arith), order_rises (stamp_of m) high ms s.1)
 
-history_before : (x : Moment) (low high : ℕ) (es : List Entry) → stamps_rise low high es ≡ true → stamp_of x ≤ low → BeforeAll x (map Act es)
+history_before : (x : Moment) (low high : ℕ) (es : List Entry) → stamps_rise low high es ≡ true → stamp_of x ≤ low
+    → BeforeAll x (map Act es)
 history_before x low high [] r h = tt
 history_before x low high (e ∷ es) r h =
     let s = both (ltb low e.stamp) (stamps_rise e.stamp high es) r in

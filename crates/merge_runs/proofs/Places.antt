@@ -1,5 +1,6 @@
 -- Places that are numbered in order: each number is one of them.
-use Rattle.std.proofs.Common.{◌≡◌, ℕ, zero, suc, ◌+◌, ◌<◌, ◌≤◌, Bool, true, false, cond, ◌⊎◌, inl, inr, List, [], ◌∷◌, refl, sym, ap, subst, arith, eqb, length, get_or}
+use Rattle.std.proofs.Common.{◌≡◌, ℕ, zero, suc, ◌+◌, ◌<◌, ◌≤◌, Bool, true, false, cond, ◌⊎◌, inl, inr, List, [], ◌∷◌}
+use Rattle.std.proofs.Common.{refl, sym, ap, subst, arith, eqb, length, get_or}
 use Rattle.std.specs.List.{Contains}
 use Rattle.std.proofs.lemmas.List.Sums.{sum_by-cons}
 use Rattle.std.proofs.lemmas.List.Elements.{Contains-get_or}
@@ -41,14 +42,16 @@ stands_at n (k ∷ ks) s zero d l = let a = s.0 in omega arith
 stands_at n (k ∷ ks) s (suc i) d l = let r = stands_at (n + 1) ks s.1 i d (omega arith) in omega arith
 
 -- the place at the entry's number has the entry
-pub stored_at : (ks : List AnyKept) (e : Entry) (k : AnyKept) → StandInOrder 0 ks → e.place.0 < length ks → k ≡ get_or ks e.place.0 k → Contains (history_of k) e → IsStored ks e
+pub stored_at : (ks : List AnyKept) (e : Entry) (k : AnyKept) → StandInOrder 0 ks → e.place.0 < length ks
+    → k ≡ get_or ks e.place.0 k → Contains (history_of k) e → IsStored ks e
 stored_at ks e k s l h c =
     let at = stands_at 0 ks s e.place.0 k l in
     let p : place_of (get_or ks e.place.0 k) ≡ e.place.0 = omega arith in
     (k, subst (λ x. Contains ks x) (sym h) (Contains-get_or ks e.place.0 k l), subst (λ x. place_of x ≡ e.place.0) (sym h) p, c)
 
 -- where an entry is stored, its place is in range, and is the one at that number
-pub place_stored : (ks : List AnyKept) (e : Entry) → StandInOrder 0 ks → (w : IsStored ks e) → (e.place.0 < length ks) × (get_or ks e.place.0 w.0 ≡ w.0)
+pub place_stored : (ks : List AnyKept) (e : Entry) → StandInOrder 0 ks → (w : IsStored ks e) → (e.place.0 < length ks)
+    × (get_or ks e.place.0 w.0 ≡ w.0)
 place_stored ks e s w =
     let k : AnyKept = w.0 in
     let c : Contains ks k = w.1 in

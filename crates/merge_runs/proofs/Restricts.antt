@@ -16,7 +16,8 @@ use Rattle.tect_ids.specs.declared.ids.Place.{Place}
 use Rattle.place_kit.specs.Kept.{history_of, place_of}
 use Rattle.merge_runs.specs.Merged.{IsInOrder, moments_of}
 use Rattle.merge_runs.proofs.Order.{In, both, same_order, order_rises, order_history}
-use Rattle.merge_runs.proofs.Members.{in_permutation, in_filter, filter_in, in_flat, flat_in, in_map, map_in, order_filter, count_of, one_only}
+use Rattle.merge_runs.proofs.Members.{in_permutation, in_filter, filter_in, in_flat, flat_in, in_map, map_in}
+use Rattle.merge_runs.proofs.Members.{order_filter, count_of, one_only}
 use Rattle.merge_runs.proofs.Strict.{actor_of_pass}
 
 pub actor_in : (a : ℕ) (ms : List Moment) (z : Moment) → all_of_actor a ms ≡ true → In z ms → actor_of z ≡ a
@@ -26,14 +27,17 @@ actor_in a (m ∷ ms) z h (inr i) = actor_in a ms z (both (eqb (actor_of m) a) (
 
 place_in : (p : Place) (es : List Entry) (e : Entry) → all_at p es ≡ true → In e es → e.place.0 ≡ p.0
 place_in p [] e h i = absurd i
-place_in p (x ∷ es) e h (inl q) = ap (λ (w : Entry). w.place.0) (sym q) ∙ eqb-true x.place.0 p.0 (both (eqb x.place.0 p.0) (all_at p es) h).0
+place_in p (x ∷ es) e h (inl q) = ap (λ (w : Entry). w.place.0) (sym q)
+    ∙ eqb-true x.place.0 p.0 (both (eqb x.place.0 p.0) (all_at p es) h).0
 place_in p (x ∷ es) e h (inr i) = place_in p es e (both (eqb x.place.0 p.0) (all_at p es) h).1 i
 
-pub restrict_trail : (ps : List Pass) (ms : List Moment) → IsPermutation (flat_map moments_of ps) ms → IsInOrder ms → ((a : ℕ) → count_of actor_of_pass a ps ≤ 1)
+pub restrict_trail : (ps : List Pass) (ms : List Moment) → IsPermutation (flat_map moments_of ps) ms → IsInOrder ms
+    → ((a : ℕ) → count_of actor_of_pass a ps ≤ 1)
     → (p : Pass) → In p ps → filter (is_of p.actor) ms ≡ p.moments.items
 restrict_trail ps ms perm o c p here =
     let back = IsPermutation-sym (flat_map moments_of ps) ms perm in
-    same_order (filter (is_of p.actor) ms) p.moments.items (order_filter (is_of p.actor) ms o) (order_rises 0 p.clock p.moments.items p.known.rising)
+    same_order (filter (is_of p.actor) ms) p.moments.items (order_filter (is_of p.actor) ms o)
+    (order_rises 0 p.clock p.moments.items p.known.rising)
     (λ z i.
     let f = in_filter (is_of p.actor) ms z i in
     let w = in_flat moments_of ps z (in_permutation ms (flat_map moments_of ps) back z f.0) in
@@ -66,7 +70,8 @@ act_at ks ms k w here c (Act e) i h =
     map_in {X = Moment} (λ _. []) Act (history_of k) e (subst (λ q. In e (history_of q)) same t.3)
 act_at ks ms k w here c (Local s a n) i h = cc
 
-pub restrict_place : (ks : List AnyKept) (ms : List Moment) → IsInOrder ms → KnowsAll ks ms → (k : AnyKept) → In k ks → count_of place_of (place_of k) ks ≤ 1
+pub restrict_place : (ks : List AnyKept) (ms : List Moment) → IsInOrder ms → KnowsAll ks ms → (k : AnyKept) → In k ks
+    → count_of place_of (place_of k) ks ≤ 1
     → filter (is_at (place_of k)) ms ≡ map Act (history_of k)
 restrict_place ks ms o w k here c =
     same_order (filter (is_at (place_of k)) ms) (map Act (history_of k)) (order_filter (is_at (place_of k)) ms o) (order_kept k)

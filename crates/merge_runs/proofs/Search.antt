@@ -1,5 +1,6 @@
 -- What a binary search by a key that rises says of membership.
-use Rattle.std.proofs.Common.{◌≡◌, ℕ, zero, suc, ◌+◌, ◌<◌, ◌≤◌, Bool, true, false, cond, ◌⊎◌, inl, inr, List, [], ◌∷◌, refl, sym, ◌∙◌, ap, subst, arith, length, get_or, ltb, eqb, rules, IsTrue, ◌↔◌}
+use Rattle.std.proofs.Common.{◌≡◌, ℕ, zero, suc, ◌+◌, ◌<◌, ◌≤◌, Bool, true, false, cond, ◌⊎◌, inl, inr, List, [], ◌∷◌}
+use Rattle.std.proofs.Common.{refl, sym, ◌∙◌, ap, subst, arith, length, get_or, ltb, eqb, rules, IsTrue, ◌↔◌}
 use Rattle.std.specs.List.{Contains, HoldsAt}
 use Rattle.std.specs.List.Sorted.{IsNonDecreasingBy, IsPartitionPoint}
 use Rattle.std.specs.Ordering.{nat_cmp, is_lt, ordering_index}
@@ -20,7 +21,8 @@ use Rattle.merge_runs.proofs.Order.{both}
 abbrev pub Climbs : {X : Type 0} → (X → ℕ) → List X → Type 0
 Climbs {X} key xs = (i j : ℕ) (d : X) → i < j → j < length xs → key (get_or xs i d) < key (get_or xs j d)
 
-above_trail : (low high : ℕ) (ms : List Moment) → rises low high ms ≡ true → (j : ℕ) (d : Moment) → j < length ms → low < stamp_of (get_or ms j d)
+above_trail : (low high : ℕ) (ms : List Moment) → rises low high ms ≡ true → (j : ℕ) (d : Moment) → j < length ms
+    → low < stamp_of (get_or ms j d)
 above_trail low high [] r j d l = absurd (omega arith)
 above_trail low high (m ∷ ms) r zero d l = ltb-true low (stamp_of m) (both (ltb low (stamp_of m)) (rises (stamp_of m) high ms) r).0
 above_trail low high (m ∷ ms) r (suc j) d l =
@@ -31,10 +33,13 @@ above_trail low high (m ∷ ms) r (suc j) d l =
 pub climbs_trail : (low high : ℕ) (ms : List Moment) → rises low high ms ≡ true → Climbs stamp_of ms
 climbs_trail low high [] r i j d a l = absurd (omega arith)
 climbs_trail low high (m ∷ ms) r i zero d a l = absurd (omega arith)
-climbs_trail low high (m ∷ ms) r zero (suc j) d a l = above_trail (stamp_of m) high ms (both (ltb low (stamp_of m)) (rises (stamp_of m) high ms) r).1 j d (omega arith)
-climbs_trail low high (m ∷ ms) r (suc i) (suc j) d a l = climbs_trail (stamp_of m) high ms (both (ltb low (stamp_of m)) (rises (stamp_of m) high ms) r).1 i j d (omega arith) (omega arith)
+climbs_trail low high (m ∷ ms) r zero (suc j) d a l =
+    above_trail (stamp_of m) high ms (both (ltb low (stamp_of m)) (rises (stamp_of m) high ms) r).1 j d (omega arith)
+climbs_trail low high (m ∷ ms) r (suc i) (suc j) d a l =
+    climbs_trail (stamp_of m) high ms (both (ltb low (stamp_of m)) (rises (stamp_of m) high ms) r).1 i j d (omega arith) (omega arith)
 
-above_history : (low high : ℕ) (es : List Entry) → stamps_rise low high es ≡ true → (j : ℕ) (d : Entry) → j < length es → low < (get_or es j d).stamp
+above_history : (low high : ℕ) (es : List Entry) → stamps_rise low high es ≡ true → (j : ℕ) (d : Entry) → j < length es
+    → low < (get_or es j d).stamp
 above_history low high [] r j d l = absurd (omega arith)
 above_history low high (e ∷ es) r zero d l = ltb-true low e.stamp (both (ltb low e.stamp) (stamps_rise e.stamp high es) r).0
 above_history low high (e ∷ es) r (suc j) d l =
@@ -45,8 +50,10 @@ above_history low high (e ∷ es) r (suc j) d l =
 pub climbs_history : (low high : ℕ) (es : List Entry) → stamps_rise low high es ≡ true → Climbs (λ e. e.stamp) es
 climbs_history low high [] r i j d a l = absurd (omega arith)
 climbs_history low high (e ∷ es) r i zero d a l = absurd (omega arith)
-climbs_history low high (e ∷ es) r zero (suc j) d a l = above_history e.stamp high es (both (ltb low e.stamp) (stamps_rise e.stamp high es) r).1 j d (omega arith)
-climbs_history low high (e ∷ es) r (suc i) (suc j) d a l = climbs_history e.stamp high es (both (ltb low e.stamp) (stamps_rise e.stamp high es) r).1 i j d (omega arith) (omega arith)
+climbs_history low high (e ∷ es) r zero (suc j) d a l =
+    above_history e.stamp high es (both (ltb low e.stamp) (stamps_rise e.stamp high es) r).1 j d (omega arith)
+climbs_history low high (e ∷ es) r (suc i) (suc j) d a l =
+    climbs_history e.stamp high es (both (ltb low e.stamp) (stamps_rise e.stamp high es) r).1 i j d (omega arith) (omega arith)
 
 not_less_or : (m n : ℕ) (b : Bool) → ltb m n ≡ b → n ≤ m → ltb m n ≡ false
 not_less_or m n true h l = let k = ltb-true m n h in absurd (omega arith)
@@ -67,7 +74,12 @@ three : (i j : ℕ) → (i < j) ⊎ ((i ≡ j) ⊎ (j < i))
 three zero zero = inr (inl refl)
 three zero (suc j) = inl (omega arith)
 three (suc i) zero = inr (inr (omega arith))
-three (suc i) (suc j) = elim (three i j) [ inl a ↦ inl (omega arith) | inr (inl b) ↦ inr (inl (ap suc b)) | inr (inr c) ↦ inr (inr (omega arith)) ]
+three (suc i) (suc j) = elim (three i j) [
+  | inl a ↦ inl (omega arith)
+  | inr (inl b) ↦ inr (inl (ap suc b))
+  | inr
+      (inr c) ↦ inr (inr (omega arith))
+]
 
 below_or : (j i : ℕ) → (j < i) ⊎ (i ≤ j)
 below_or j i = elim (three j i) [ inl a ↦ inl a | inr (inl b) ↦ inr (omega arith) | inr (inr c) ↦ inr (omega arith) ]
@@ -90,10 +102,12 @@ module _ {X : Type 0} (key : X → ℕ) (xs : List X) (up : Climbs key xs) where
   step_up : (k : ℕ) (d : X) → k + 1 < length xs → is_lt (nat_cmp (key (get_or xs (k + 1) d)) (key (get_or xs k d))) ≡ false
   step_up k d l =
       let h = up k (k + 1) d (omega arith) l in
-      let t : ltb (key (get_or xs (k + 1) d)) (key (get_or xs k d)) ≡ false = not_less (key (get_or xs (k + 1) d)) (key (get_or xs k d)) (omega arith) in
+      let t : ltb (key (get_or xs (k + 1) d)) (key (get_or xs k d)) ≡ false =
+      not_less (key (get_or xs (k + 1) d)) (key (get_or xs k d)) (omega arith) in
       not_lt_cmp (key (get_or xs (k + 1) d)) (key (get_or xs k d)) t
 
-  one_place : (z y : X) (i j : ℕ) → i < length xs → y ≡ get_or xs i y → key y ≡ key z → j < length xs → get_or xs j z ≡ z → (i < j) ⊎ ((i ≡ j) ⊎ (j < i)) → y ≡ z
+  one_place : (z y : X) (i j : ℕ) → i < length xs → y ≡ get_or xs i y → key y ≡ key z → j < length xs → get_or xs j z ≡ z
+      → (i < j) ⊎ ((i ≡ j) ⊎ (j < i)) → y ≡ z
   one_place z y i j l e k m f (inl h) =
       let a : key (get_or xs i z) < key (get_or xs j z) = up i j z h m in
       let b : key (get_or xs i z) ≡ key y = ap key (get_or-default xs i z y l ∙ sym e) in
@@ -109,7 +123,8 @@ module _ {X : Type 0} (key : X → ℕ) (xs : List X) (up : Climbs key xs) where
   pub found_is : (z y : X) (i : ℕ) → i < length xs → y ≡ get_or xs i y → key y ≡ key z → Contains xs z → y ≡ z
   found_is z y i l e k c = one_place z y i c.0 l e k c.1 c.2 (three i c.0)
 
-  pub none_is : (z : X) (i : ℕ) → (IsNonDecreasingBy (λ y. ordering_index (nat_cmp (key y) (key z))) xs → IsPartitionPoint (λ y. nat_cmp (key y) (key z) ≡ Less) (λ y. nat_cmp (key y) (key z) ≡ Greater) xs i) → Contains xs z → ⊥
+  pub none_is : (z : X) (i : ℕ) → (IsNonDecreasingBy (λ y. ordering_index (nat_cmp (key y) (key z))) xs
+      → IsPartitionPoint (λ y. nat_cmp (key y) (key z) ≡ Less) (λ y. nat_cmp (key y) (key z) ≡ Greater) xs i) → Contains xs z → ⊥
   none_is z i f c =
       let p = f (searchable_from_sorted nat_cmp_total key xs (key z) (λ k d _ l. step_up k d l)) in
       let same : nat_cmp (key (get_or xs c.0 z)) (key z) ≡ Equal = ap (λ w. nat_cmp (key w) (key z)) c.2 ∙ cmp_itself (key z) in
@@ -118,17 +133,20 @@ module _ {X : Type 0} (key : X → ℕ) (xs : List X) (up : Climbs key xs) where
         | inr h ↦ (let a : Greater ≡ Equal = sym (p.1 c.0 z h c.1) ∙ same in absurd cc)
       ]
 
-  pub ok_answer : (z d : X) (i : ℕ) (b : Bool) → i < length xs → HoldsAt (λ y. nat_cmp (key y) (key z) ≡ Equal) xs i → (IsTrue b ↔ (get_or xs i d ≡ z)) → IsTrue b ↔ Contains xs z
+  pub ok_answer : (z d : X) (i : ℕ) (b : Bool) → i < length xs → HoldsAt (λ y. nat_cmp (key y) (key z) ≡ Equal) xs i
+      → (IsTrue b ↔ (get_or xs i d ≡ z)) → IsTrue b ↔ Contains xs z
   ok_answer z d i b l h f =
       let y : X = get_or xs i d in
       let k : key y ≡ key z = nat_equal (key y) (key z) (h d) in
       (λ t. (i, l, get_or-default xs i z d l ∙ f.0 t), λ c. f.1 (found_is z y i l (get_or-default xs i d y l) k c))
 
   -- the same where y is the element that was read there
-  pub ok_element : (z y : X) (i : ℕ) (b : Bool) → i < length xs → HoldsAt (λ w. nat_cmp (key w) (key z) ≡ Equal) xs i → y ≡ get_or xs i y → (IsTrue b ↔ (y ≡ z)) → IsTrue b ↔ Contains xs z
+  pub ok_element : (z y : X) (i : ℕ) (b : Bool) → i < length xs → HoldsAt (λ w. nat_cmp (key w) (key z) ≡ Equal) xs i
+      → y ≡ get_or xs i y → (IsTrue b ↔ (y ≡ z)) → IsTrue b ↔ Contains xs z
   ok_element z y i b l h e f = ok_answer z y i b l h (subst (λ w. IsTrue b ↔ (w ≡ z)) e f)
 
-  pub err_answer : (z : X) (i : ℕ) → (IsNonDecreasingBy (λ y. ordering_index (nat_cmp (key y) (key z))) xs → IsPartitionPoint (λ y. nat_cmp (key y) (key z) ≡ Less) (λ y. nat_cmp (key y) (key z) ≡ Greater) xs i) → IsTrue false ↔ Contains xs z
+  pub err_answer : (z : X) (i : ℕ) → (IsNonDecreasingBy (λ y. ordering_index (nat_cmp (key y) (key z))) xs
+      → IsPartitionPoint (λ y. nat_cmp (key y) (key z) ≡ Less) (λ y. nat_cmp (key y) (key z) ≡ Greater) xs i) → IsTrue false ↔ Contains xs z
   err_answer z i f = (λ t. absurd (not_true t), λ c. absurd (none_is z i f c))
 
 pub climbs_kept : (k : AnyKept) → Climbs (λ e. e.stamp) (history_of k)

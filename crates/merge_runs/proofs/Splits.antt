@@ -1,5 +1,6 @@
 -- At the step of an entry that not both have, the pass and the places differ.
-use Rattle.std.proofs.Common.{◌≡◌, ◌≢◌, ℕ, ◌+◌, ◌<◌, ◌≤◌, true, inl, inr, List, [], ◌∷◌, refl, sym, ◌∙◌, ap, subst, arith, eqb, length, get_or, Option, Some, None}
+use Rattle.std.proofs.Common.{◌≡◌, ◌≢◌, ℕ, ◌+◌, ◌<◌, ◌≤◌, true, inl, inr, List, [], ◌∷◌, refl, sym, ◌∙◌, ap, subst}
+use Rattle.std.proofs.Common.{arith, eqb, length, get_or, Option, Some, None}
 use Rattle.std.specs.List.{All, Contains}
 use Rattle.std.proofs.lemmas.List.Elements.{Contains-get_or}
 use borrow.Author.Tests.{eqb-true}
@@ -43,37 +44,45 @@ one_step first next (x ∷ xs) e f h (inr i) (inl b) q =
     let t : x.step ≡ f.step = ap (λ (y : Entry). y.step) b in
     let r = from_step (first + 1) next xs e w.1 i in
     absurd (omega arith)
-one_step first next (x ∷ xs) e f h (inr i) (inr j) q = one_step (first + 1) next xs e f (both (eqb x.step first) (steps_count (first + 1) next xs) h).1 i j q
+one_step first next (x ∷ xs) e f h (inr i) (inr j) q =
+    one_step (first + 1) next xs e f (both (eqb x.step first) (steps_count (first + 1) next xs) h).1 i j q
 
 -- what the search in the pass of the actor shows
-pub entry_found : (p : Pass) (i : ℕ) (ms : List Moment) (m : Moment) (e : Entry) → i < length ms → m ≡ get_or ms i m → ms ≡ moments_of p → m ≡ Act e → Contains (entries_of p) e
+pub entry_found : (p : Pass) (i : ℕ) (ms : List Moment) (m : Moment) (e : Entry) → i < length ms → m ≡ get_or ms i m
+    → ms ≡ moments_of p → m ≡ Act e → Contains (entries_of p) e
 entry_found p i ms m e l h q a =
     let at : Contains ms m = subst (λ x. Contains ms x) (sym h) (Contains-get_or ms i m l) in
     let act : Contains (moments_of p) (Act e) = subst (λ x. Contains (moments_of p) x) a (subst (λ xs. Contains xs m) q at) in
     contains_from_in (entries_of p) e (entry_in (moments_of p) e (in_from_contains (moments_of p) (Act e) act))
 
-pub none_in_pass : (ps : List Pass) (p : Pass) (actor step : ℕ) → HaveDifferentActors ps → Contains ps p → p.actor ≡ actor → All (λ e. e.step ≢ step) (entries_of p) → IsInPass ps actor step None
+pub none_in_pass : (ps : List Pass) (p : Pass) (actor step : ℕ) → HaveDifferentActors ps → Contains ps p → p.actor ≡ actor
+    → All (λ e. e.step ≢ step) (entries_of p) → IsInPass ps actor step None
 none_in_pass ps p actor step d c a all =
     in_all (λ q. q.actor ≡ actor → All (λ e. e.step ≢ step) (entries_of q)) ps
     (λ q i h. subst (λ x. All (λ e. e.step ≢ step) (entries_of x)) (one_pass ps p q d (in_from_contains ps p c) i (a ∙ sym h)) all)
 
 -- no history has an entry that its place lacks
-pub not_in_histories : (ks : List AnyKept) (e : Entry) (p : Option Entry) → p ≡ Some e → (¬ IsStored ks e) → All (λ x. Some x ≢ p) (histories ks)
+pub not_in_histories : (ks : List AnyKept) (e : Entry) (p : Option Entry) → p ≡ Some e → (¬ IsStored ks e)
+    → All (λ x. Some x ≢ p) (histories ks)
 not_in_histories ks e p h n =
     in_all (λ x. Some x ≢ p) (histories ks)
-    (λ x i q. let s : Some x ≡ Some e = q ∙ h in let same : x ≡ e = cc in n (stored_from_histories ks e (subst (λ y. Contains (histories ks) y) same (contains_from_in (histories ks) x i))))
+    (λ x i q. let s : Some x ≡ Some e = q ∙ h in let same : x ≡ e =
+    cc in n (stored_from_histories ks e (subst (λ y. Contains (histories ks) y) same (contains_from_in (histories ks) x i))))
 
 module _ (ks : List AnyKept) (ps : List Pass) (e : Entry) (d : HaveDifferentActors ps) where
   not_there : (ip : Option Entry) → (¬ Contains (trails ps) e) → IsInPass ps e.actor e.step ip → Some e ≢ ip
   not_there None n w q = absurd cc
   not_there (Some x) n w q =
       let same : x ≡ e = cc in
-      n (trails_in ps w.0 e (in_from_contains ps w.0 w.1) (subst (λ y. In y (entries_of w.0)) same (in_from_contains (entries_of w.0) x w.3)))
+      n (trails_in ps w.0 e (in_from_contains ps w.0 w.1) (subst (λ y. In y (entries_of w.0)) same
+      (in_from_contains (entries_of w.0) x w.3)))
 
   unknown_differs : (ip il : Option Entry) → Contains (histories ks) e → Some e ≢ ip → IsInPlace ks e.actor e.step ip il → ip ≢ il
-  unknown_differs ip None c o w q = all_in (λ x. ¬ IsOther e.actor e.step ip x) (histories ks) w.0 e (in_from_contains (histories ks) e c) (refl, refl, o)
+  unknown_differs ip None c o w q = all_in (λ x. ¬ IsOther e.actor e.step ip x) (histories ks) w.0 e
+      (in_from_contains (histories ks) e c) (refl, refl, o)
   unknown_differs ip (Some f) c o (inl w) q = w.3.2 (sym q)
-  unknown_differs ip (Some f) c o (inr w) q = all_in (λ x. ¬ IsOther e.actor e.step ip x) (histories ks) w.0 e (in_from_contains (histories ks) e c) (refl, refl, o)
+  unknown_differs ip (Some f) c o (inr w) q = all_in (λ x. ¬ IsOther e.actor e.step ip x) (histories ks) w.0 e
+      (in_from_contains (histories ks) e c) (refl, refl, o)
 
   is_there : (ip : Option Entry) → Contains (trails ps) e → IsInPass ps e.actor e.step ip → ip ≡ Some e
   is_there None c w =

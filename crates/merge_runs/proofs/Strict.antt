@@ -1,5 +1,6 @@
 -- A sort by key of moments, of which no two have one stamp and one actor, is in order.
-use Rattle.std.proofs.Common.{◌≡◌, ℕ, suc, ◌<◌, ◌≤◌, Bool, true, false, cond, ◌&&◌, ◌⊎◌, inl, inr, List, [], ◌∷◌, refl, sym, ◌∙◌, ap, arith, length, get_or, eqb, ltb}
+use Rattle.std.proofs.Common.{◌≡◌, ℕ, suc, ◌<◌, ◌≤◌, Bool, true, false, cond, ◌&&◌, ◌⊎◌, inl, inr, List, [], ◌∷◌, refl}
+use Rattle.std.proofs.Common.{sym, ◌∙◌, ap, arith, length, get_or, eqb, ltb}
 use Rattle.std.specs.List.{flat_map, sum_by}
 use Rattle.std.specs.List.Sorted.{IsPermutation, IsSortedBy}
 use Rattle.std.specs.Ordering.{nat_cmp, ordering_reverse, ordering_then, is_lt}
@@ -68,8 +69,14 @@ one_in_rises s a low high [] r = omega arith
 one_in_rises s a low high (m ∷ ms) r =
     let p = both (ltb low (stamp_of m)) (rises (stamp_of m) high ms) r in
     elim (at_or_not s a m) [
-      | inl e ↦ (let i = none_above s a (stamp_of m) high ms p.1 (omega arith) in let u = unit_at s a m in omega (arith, sum_by-cons (one_at s a) m ms))
-      | inr n ↦ (let z = zero_at s a m n in let i = one_in_rises s a (stamp_of m) high ms p.1 in omega (arith, sum_by-cons (one_at s a) m ms))
+      | inl e ↦ (let i = none_above s a (stamp_of m) high ms p.1 (omega arith) in let u = unit_at s a m in omega (
+        arith,
+        sum_by-cons (one_at s a) m ms,
+      ))
+      | inr n ↦ (let z = zero_at s a m n in let i = one_in_rises s a (stamp_of m) high ms p.1 in omega (
+        arith,
+        sum_by-cons (one_at s a) m ms,
+      ))
     ]
 
 none_of_other : (s a b : ℕ) (ms : List Moment) → all_of_actor b ms ≡ true → eqb b a ≡ false → count_at s a ms ≡ 0
@@ -96,7 +103,11 @@ count_trails s a (p ∷ ps) =
     let i = count_trails s a ps in
     let f : ℕ = count_at s a (moments_of p) in
     let c : f ≤ cond (eqb p.actor a) 1 0 = one_or_none s a p (eqb p.actor a) refl in
-    omega (arith, sum_by-append (one_at s a) (moments_of p) (flat_map moments_of ps), sum_by-cons (λ (q : Pass). cond (eqb (actor_of_pass q) a) 1 0) p ps)
+    omega (
+      arith,
+      sum_by-append (one_at s a) (moments_of p) (flat_map moments_of ps),
+      sum_by-cons (λ (q : Pass). cond (eqb (actor_of_pass q) a) 1 0) p ps,
+    )
 
 then_equal : (x y z : Ordering) → ordering_then (ordering_then x y) z ≡ Equal → (x ≡ Equal) × (z ≡ Equal)
 then_equal Less y z h = cc
@@ -109,10 +120,12 @@ nat_equal : (x y : ℕ) → nat_cmp x y ≡ Equal → x ≡ y
 nat_equal x y h = ranked x y Equal (sym h)
 
 -- it does not come before, and is not at the same stamp of the same actor, so it comes after
-decided : (x y : Moment) (o : Ordering) → moment_cmp x y ≡ o → is_lt (moment_cmp y x) ≡ false → same_at (stamp_of x) (actor_of x) y ≡ false → Before x y
+decided : (x y : Moment) (o : Ordering) → moment_cmp x y ≡ o → is_lt (moment_cmp y x) ≡ false
+    → same_at (stamp_of x) (actor_of x) y ≡ false → Before x y
 decided x y Less h w n = h
 decided x y Equal h w n =
-    let t = then_equal (nat_cmp (stamp_of x) (stamp_of y)) (nat_cmp (place_of_moment x) (place_of_moment y)) (nat_cmp (actor_of x) (actor_of y)) h in
+    let t = then_equal (nat_cmp (stamp_of x) (stamp_of y)) (nat_cmp (place_of_moment x) (place_of_moment y))
+    (nat_cmp (actor_of x) (actor_of y)) h in
     let a : eqb (stamp_of y) (stamp_of x) ≡ true = eq-eqb (stamp_of y) (stamp_of x) (sym (nat_equal (stamp_of x) (stamp_of y) t.0)) in
     let b : eqb (actor_of y) (actor_of x) ≡ true = eq-eqb (actor_of y) (actor_of x) (sym (nat_equal (actor_of x) (actor_of y) t.1)) in
     let c : same_at (stamp_of x) (actor_of x) y ≡ true = rw (a, b) refl in
@@ -156,17 +169,24 @@ strict (x ∷ xs) w c =
     let z : count_at (stamp_of x) (actor_of x) xs ≡ 0 = omega (arith, sum_by-cons (one_at (stamp_of x) (actor_of x)) x xs) in
     (strict_head x xs w.0 z, strict xs w.1 (λ s a. let k = c s a in omega (arith, sum_by-cons (one_at s a) x xs)))
 
-weak_head : (x : Moment) (ys : List Moment) → ((j : ℕ) (d : Moment) → j < length ys → is_lt (moment_cmp (get_or ys j d) x) ≡ false) → NoneBefore x ys
+weak_head : (x : Moment) (ys : List Moment) → ((j : ℕ) (d : Moment) → j < length ys → is_lt (moment_cmp (get_or ys j d) x)
+    ≡ false) → NoneBefore x ys
 weak_head x [] f = tt
 weak_head x (y ∷ ys) f = (f 0 y (omega arith), weak_head x ys (λ j d l. f (suc j) d (omega arith)))
 
-weak : (xs : List Moment) → ((i j : ℕ) (d : Moment) → i ≤ j → j < length xs → is_lt (moment_cmp (get_or xs j d) (get_or xs i d)) ≡ false) → IsWeak xs
+weak : (xs : List Moment) → ((i j : ℕ) (d : Moment) → i ≤ j → j < length xs
+    → is_lt (moment_cmp (get_or xs j d) (get_or xs i d)) ≡ false) → IsWeak xs
 weak [] f = tt
-weak (x ∷ xs) f = (weak_head x xs (λ j d l. f 0 (suc j) d (omega arith) (omega arith)), weak xs (λ i j d a b. f (suc i) (suc j) d (omega arith) (omega arith)))
+weak (x ∷ xs) f = (
+  weak_head x xs (λ j d l. f 0 (suc j) d (omega arith) (omega arith)),
+  weak xs (λ i j d a b. f (suc i) (suc j) d (omega arith) (omega arith)),
+)
 
 -- what a sort of the trails of passes with different actors gives
-pub order_sorted : (ps : List Pass) (ms : List Moment) → ((a : ℕ) → count_of actor_of_pass a ps ≤ 1) → IsPermutation (flat_map moments_of ps) ms
+pub order_sorted : (ps : List Pass) (ms : List Moment) → ((a : ℕ) → count_of actor_of_pass a ps ≤ 1)
+    → IsPermutation (flat_map moments_of ps) ms
     → IsSortedBy (λ x y. is_lt (moment_cmp x y)) ms → IsInOrder ms
 order_sorted ps ms c p s =
     strict ms (weak ms (sorted_far (λ x y. is_lt (moment_cmp x y)) (ranks_by total (λ m. m)) ms s))
-    (λ s' a. let e = sum_by-IsPermutation (one_at s' a) (flat_map moments_of ps) ms p in let b = count_trails s' a ps in let d = c a in omega arith)
+    (λ s' a. let e = sum_by-IsPermutation (one_at s' a) (flat_map moments_of ps) ms p in let b =
+    count_trails s' a ps in let d = c a in omega arith)

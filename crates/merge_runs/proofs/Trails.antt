@@ -45,10 +45,12 @@ pub trails_in : (ps : List Pass) (p : Pass) (e : Entry) → In p ps → In e (en
 trails_in ps p e i j = contains_from_in (trails ps) e (flat_in entries_of ps p e i j)
 
 pub stored_entries : (ks : List AnyKept) (p : Pass) → All (IsStoredMoment ks) (moments_of p) → All (IsStored ks) (entries_of p)
-stored_entries ks p a = in_all (IsStored ks) (entries_of p) (λ e i. all_in (IsStoredMoment ks) (moments_of p) a (Act e) (act_in p.moments.items e i))
+stored_entries ks p a = in_all (IsStored ks) (entries_of p) (λ e i. all_in (IsStoredMoment ks) (moments_of p) a (Act e)
+    (act_in p.moments.items e i))
 
 abbrev pub IsNotAt : ℕ → Moment → Type 0
 IsNotAt step m = (e : Entry) → m ≡ Act e → e.step ≢ step
 
 pub not_at : (step : ℕ) (p : Pass) → All (IsNotAt step) (moments_of p) → All (λ e. e.step ≢ step) (entries_of p)
-not_at step p a = in_all (λ e. e.step ≢ step) (entries_of p) (λ e i. all_in (IsNotAt step) (moments_of p) a (Act e) (act_in p.moments.items e i) e refl)
+not_at step p a = in_all (λ e. e.step ≢ step) (entries_of p) (λ e i. all_in (IsNotAt step) (moments_of p) a (Act e)
+    (act_in p.moments.items e i) e refl)

@@ -5,7 +5,6 @@ ghost use Rattle.entry_words.specs.Moments.{stamp_of};
 ghost use Rattle.merge_runs.specs.Merged.{HaveDifferentActors, StandInOrder, moments_of, entries_of, trails, histories, IsStored};
 ghost use Rattle.merge_runs.specs.Splits.{IsApart, IsStoredMoment};
 
-use crate::same::same_entry;
 use entry_words::{Entry, Moment};
 use place_kit::{AnyKept, Pass};
 
@@ -25,7 +24,7 @@ fn is_act(moment: &Moment, entry: &Entry) -> bool
     ensures { IsTrue result ↔ (moment.now ≡ Moment.Act entry.now) }
 {
     match moment {
-        Moment::Act(other) => same_entry(other, entry),
+        Moment::Act(other) => other.is_same(entry),
         Moment::Local { .. } => false,
     }
 }
@@ -47,7 +46,7 @@ fn place_has(kept: &AnyKept, entry: &Entry) -> bool
 {
     let history = kept.history();
     match history.binary_search_by_key(&entry.stamp, |e| e.stamp) {
-        Ok(at) => same_entry(&history[at], entry),
+        Ok(at) => history[at].is_same(entry),
         Err(_) => false,
     }
 }
@@ -75,7 +74,8 @@ pub fn is_stored(kepts: &[AnyKept], entry: &Entry) -> bool
 // The first entry of a history that no trail has.
 fn first_unknown<'a>(history: &'a [Entry], passes: &[Pass]) -> Option<&'a Entry>
     requires { HaveDifferentActors passes.now }
-    ensures { MatchOption result (All (Contains (trails passes.now)) history.now) (λ e. Contains history.now e.now × (¬ Contains (trails passes.now) e.now)) }
+    ensures { MatchOption result (All (Contains (trails passes.now)) history.now) (λ e. Contains history.now e.now
+        × (¬ Contains (trails passes.now) e.now)) }
 {
     for entry in history {
         if !is_known(passes, entry) {
@@ -88,7 +88,8 @@ fn first_unknown<'a>(history: &'a [Entry], passes: &[Pass]) -> Option<&'a Entry>
 // The entry of the moment, if the history of its place lacks it.
 fn missing<'a>(moment: &'a Moment, kepts: &[AnyKept]) -> Option<&'a Entry>
     requires { StandInOrder 0 kepts.now }
-    ensures { MatchOption result (IsStoredMoment kepts.now moment.now) (λ e. (moment.now ≡ Moment.Act e.now) × (¬ IsStored kepts.now e.now)) }
+    ensures { MatchOption result (IsStoredMoment kepts.now moment.now) (λ e. (moment.now ≡ Moment.Act e.now)
+        × (¬ IsStored kepts.now e.now)) }
 {
     match moment {
         Moment::Act(entry) => {
@@ -105,7 +106,8 @@ fn missing<'a>(moment: &'a Moment, kepts: &[AnyKept]) -> Option<&'a Entry>
 // The first entry of a trail that the history of its place lacks.
 fn first_missing<'a>(moments: &'a [Moment], kepts: &[AnyKept]) -> Option<&'a Entry>
     requires { StandInOrder 0 kepts.now }
-    ensures { MatchOption result (All (IsStoredMoment kepts.now) moments.now) (λ e. Contains moments.now (Moment.Act e.now) × (¬ IsStored kepts.now e.now)) }
+    ensures { MatchOption result (All (IsStoredMoment kepts.now) moments.now) (λ e. Contains moments.now (Moment.Act e.now)
+        × (¬ IsStored kepts.now e.now)) }
 {
     for moment in moments {
         if let Some(entry) = missing(moment, kepts) {
@@ -120,7 +122,8 @@ pub fn first_apart<'a>(kepts: &'a [AnyKept], passes: &'a [Pass]) -> Option<&'a E
     requires places { StandInOrder 0 kepts.now }
     requires actors { HaveDifferentActors passes.now }
     ensures { MatchOption result
-        (All (λ k. All (Contains (trails passes.now)) (history_of k)) kepts.now × All (λ p. All (IsStoredMoment kepts.now) (moments_of p)) passes.now)
+        (All (λ k. All (Contains (trails passes.now)) (history_of k)) kepts.now
+        × All (λ p. All (IsStoredMoment kepts.now) (moments_of p)) passes.now)
         (λ e. IsApart kepts.now passes.now e.now) }
 {
     for kept in kepts {

@@ -1,7 +1,8 @@
 //! One history of all places and passes.
 ghost use Rattle.std.specs.Prelude.{◌≡◌, IfOk, IfErr, OnOk, OnErr, IsPermutation, All, Err, map};
 ghost use Rattle.std.specs.List.{flat_map};
-ghost use Rattle.merge_runs.specs.Merged.{moments_of, trails, Agree, IsInOrder, HaveDifferentActors, StandInOrder, RestrictsToTrails, RestrictsToHistories, IsStored};
+ghost use Rattle.merge_runs.specs.Merged.{moments_of, trails, Agree, IsInOrder, HaveDifferentActors, StandInOrder};
+ghost use Rattle.merge_runs.specs.Merged.{RestrictsToTrails, RestrictsToHistories, IsStored};
 ghost use Rattle.merge_runs.specs.Splits.{IsFault};
 
 use crate::agree::first_apart;
@@ -37,7 +38,7 @@ pub fn gather<'a>(
     ensures memory { OnErr result (Agree kepts.now passes.now → result ≡ Err GatherFault.NoMemory) }
 {
     if let Some(apart) = first_apart(kepts, passes) {
-        return Err(split(alloc, kepts, passes, apart));
+        return Err(split(kepts, passes, apart));
     }
     match merged(alloc, passes) {
         Ok(entries) => Ok(entries),

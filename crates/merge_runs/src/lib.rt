@@ -5,7 +5,6 @@ mod agree;
 mod fault;
 mod gathered;
 mod keyed;
-mod same;
 mod sorted;
 mod split;
 

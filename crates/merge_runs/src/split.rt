@@ -6,15 +6,14 @@ ghost use Rattle.merge_runs.specs.Splits.{IsApart, IsFault, IsInPass, IsInPlace,
 
 use crate::agree::{is_stored, pass_of};
 use crate::fault::GatherFault;
-use crate::same::same_entry;
 use entry_words::{Entry, Moment};
 use place_kit::{AnyKept, Pass};
-use std::alloc::Global;
 use tect_ids::NoMemory;
 
 // The entry of the moment, if it is the one of that step.
 fn act_at(moment: &Moment, step: u32) -> Option<&Entry>
-    ensures { MatchOption result ((e : _) → moment.now ≡ Moment.Act e → e.step ≢ step) (λ e. (moment.now ≡ Moment.Act e.now) × (e.now.step ≡ step)) }
+    ensures { MatchOption result ((e : _) → moment.now ≡ Moment.Act e → e.step ≢ step) (λ e. (moment.now ≡ Moment.Act e.now)
+        × (e.now.step ≡ step)) }
 {
     match moment {
         Moment::Act(entry) => {
@@ -30,7 +29,8 @@ fn act_at(moment: &Moment, step: u32) -> Option<&Entry>
 
 // The entry of that step.
 fn entry_at(pass: &Pass, step: u32) -> Option<&Entry>
-    ensures { MatchOption result (All (λ e. e.step ≢ step) (entries_of pass.now)) (λ e. Contains (entries_of pass.now) e.now × (e.now.step ≡ step)) }
+    ensures { MatchOption result (All (λ e. e.step ≢ step) (entries_of pass.now)) (λ e. Contains (entries_of pass.now) e.now
+        × (e.now.step ≡ step)) }
 {
     for moment in pass.moments() {
         if let Some(entry) = act_at(moment, step) {
@@ -55,7 +55,7 @@ fn is_same(one: &Option<Entry>, other: &Entry) -> bool
     ensures { IsTrue result ↔ (Some other.now ≡ one.now) }
 {
     match one {
-        Some(entry) => same_entry(entry, other),
+        Some(entry) => entry.is_same(other),
         None => false,
     }
 }
@@ -72,7 +72,8 @@ fn first_other_of<'a>(
     step: u32,
     in_pass: &Option<Entry>,
 ) -> Option<&'a Entry>
-    ensures { MatchOption result (All (λ e. ¬ IsOther actor step in_pass.now e) history.now) (λ e. IsFirst (IsOther actor step in_pass.now) history.now e.now) }
+    ensures { MatchOption result (All (λ e. ¬ IsOther actor step in_pass.now e) history.now)
+        (λ e. IsFirst (IsOther actor step in_pass.now) history.now e.now) }
 {
     for entry in history {
         if is_other(entry, actor, step, in_pass) {
@@ -89,7 +90,8 @@ fn first_other<'a>(
     step: u32,
     in_pass: &Option<Entry>,
 ) -> Option<&'a Entry>
-    ensures { MatchOption result (All (λ e. ¬ IsOther actor step in_pass.now e) (histories kepts.now)) (λ e. IsFirst (IsOther actor step in_pass.now) (histories kepts.now) e.now) }
+    ensures { MatchOption result (All (λ e. ¬ IsOther actor step in_pass.now e) (histories kepts.now))
+        (λ e. IsFirst (IsOther actor step in_pass.now) (histories kepts.now) e.now) }
 {
     for kept in kepts {
         if let Some(entry) = first_other_of(kept.history(), actor, step, in_pass) {
@@ -102,7 +104,8 @@ fn first_other<'a>(
 // The entry, if a history has it.
 fn if_stored<'a>(kepts: &[AnyKept], entry: &'a Option<Entry>) -> Option<&'a Entry>
     requires { StandInOrder 0 kepts.now }
-    ensures { MatchOption result (All (λ e. Some e ≢ entry.now) (histories kepts.now)) (λ e. (Some e.now ≡ entry.now) × Contains (histories kepts.now) e.now) }
+    ensures { MatchOption result (All (λ e. Some e ≢ entry.now) (histories kepts.now)) (λ e. (Some e.now ≡ entry.now)
+        × Contains (histories kepts.now) e.now) }
 {
     match entry {
         Some(stored) => {
@@ -123,7 +126,8 @@ fn in_place<'a>(
     in_pass: &'a Option<Entry>,
 ) -> Option<&'a Entry>
     requires { StandInOrder 0 kepts.now }
-    ensures { MatchOption result (IsInPlace kepts.now actor step in_pass.now None) (λ e. IsInPlace kepts.now actor step in_pass.now (Some e.now)) }
+    ensures { MatchOption result (IsInPlace kepts.now actor step in_pass.now None)
+        (λ e. IsInPlace kepts.now actor step in_pass.now (Some e.now)) }
 {
     match first_other(kepts, actor, step, in_pass) {
         Some(entry) => Some(entry),
@@ -131,34 +135,30 @@ fn in_place<'a>(
     }
 }
 
-fn copied(alloc: Global, entry: Option<&Entry>) -> Result<Option<Entry>, NoMemory>
+#[tactic(auto, using(entry_words::proofs::Clones::same_entry))]
+fn copied(entry: Option<&Entry>) -> Result<Option<Entry>, NoMemory>
     ensures { IfOk result (λ r. MatchOption entry.entry (r ≡ None) (λ e. r ≡ Some e.now)) }
 {
     match entry {
-        Some(entry) => Ok(Some(entry.copy(alloc)?)),
+        Some(entry) => Ok(Some(entry.clone()?)),
         None => Ok(None),
     }
 }
 
 /// What the pass and the places have at the step of an entry that not both of them have.
-pub fn split(alloc: Global, kepts: &[AnyKept], passes: &[Pass], apart: &Entry) -> GatherFault
+pub fn split(kepts: &[AnyKept], passes: &[Pass], apart: &Entry) -> GatherFault
     requires places { StandInOrder 0 kepts.now }
     requires actors { HaveDifferentActors passes.now }
     requires apart { IsApart kepts.now passes.now apart.now }
     ensures { IsFault kepts.now passes.now result }
 {
-    match try_split(alloc, kepts, passes, apart) {
+    match try_split(kepts, passes, apart) {
         Ok(fault) => fault,
         Err(NoMemory) => GatherFault::NoMemory,
     }
 }
 
-fn try_split(
-    alloc: Global,
-    kepts: &[AnyKept],
-    passes: &[Pass],
-    apart: &Entry,
-) -> Result<GatherFault, NoMemory>
+fn try_split(kepts: &[AnyKept], passes: &[Pass], apart: &Entry) -> Result<GatherFault, NoMemory>
     requires places { StandInOrder 0 kepts.now }
     requires actors { HaveDifferentActors passes.now }
     requires apart { IsApart kepts.now passes.now apart.now }
@@ -166,8 +166,8 @@ fn try_split(
 {
     let actor = apart.actor;
     let step = apart.step;
-    let in_pass = copied(alloc, in_pass(passes, actor, step))?;
-    let in_place = copied(alloc, in_place(kepts, actor, step, &in_pass))?;
+    let in_pass = copied(in_pass(passes, actor, step))?;
+    let in_place = copied(in_place(kepts, actor, step, &in_pass))?;
     Ok(GatherFault::Split {
         actor,
         step,

@@ -1,5 +1,4 @@
 ghost use Rattle.std.specs.Prelude.{◌≡◌, OnOk, IfOk, None};
-ghost use Rattle.merge_runs.specs.Merged.{HaveDifferentActors};
 
 use crate::gather;
 use entry_words::{Moment, Note};
@@ -17,14 +16,16 @@ const OP: OpId = OpId {
 };
 
 fn check_root(names: &mut Kept<NameShard>, pass: &mut Pass) -> Result<(), Fail>
-    ensures { OnOk result ((names.new.label ≡ names.old.label) × (pass.new.actor ≡ pass.old.actor) × (pass.new.running ≡ pass.old.running)) }
+    ensures { OnOk result ((names.new.label ≡ names.old.label) × (pass.new.actor ≡ pass.old.actor)
+        × (pass.new.running ≡ pass.old.running)) }
 {
     let _reply = names.commit(pass, NameReq::CheckDir { dir: ROOT })?;
     Ok(())
 }
 
 fn release(files: &mut Kept<FileShard>, pass: &mut Pass) -> Result<(), Fail>
-    ensures { OnOk result ((files.new.label ≡ files.old.label) × (pass.new.actor ≡ pass.old.actor) × (pass.new.running ≡ pass.old.running)) }
+    ensures { OnOk result ((files.new.label ≡ files.old.label) × (pass.new.actor ≡ pass.old.actor)
+        × (pass.new.running ≡ pass.old.running)) }
 {
     let hold = Hold { op: OP, part: 0 };
     let file = FileId(9);
@@ -49,7 +50,8 @@ fn act(
     two: &mut Pass,
 ) -> Result<(), Fail>
     requires { (one.old.actor ≡ 1) × (one.old.running ≡ None) × (two.old.actor ≡ 2) }
-    ensures { OnOk result ((names.new.label ≡ names.old.label) × (files.new.label ≡ files.old.label) × (one.new.actor ≡ 1) × (two.new.actor ≡ 2)) }
+    ensures { OnOk result ((names.new.label ≡ names.old.label) × (files.new.label ≡ files.old.label) × (one.new.actor ≡ 1)
+        × (two.new.actor ≡ 2)) }
 {
     let command = Command::SweepAll;
     one.note(Note::Began { op: OP, command })?;
@@ -94,23 +96,7 @@ fn told(alloc: Global, moments: &[&Moment]) -> Result<String, AllocError> {
     Ok(text)
 }
 
-/// What is gathered of both places and these passes or, where they are not the same, what the fault says.
-fn outcome(
-    alloc: Global,
-    names: Kept<NameShard>,
-    files: Kept<FileShard>,
-    passes: &[Pass],
-) -> Result<String, AllocError>
-    requires places { (names.label.place.0 ≡ 0) × (files.label.place.0 ≡ 1) }
-    requires actors { HaveDifferentActors passes.now }
-{
-    let kepts = vec![in alloc; AnyKept::Name(names), AnyKept::File(files)]?;
-    match gather(alloc, kepts.as_slice(), passes) {
-        Ok(entries) => told(alloc, entries.as_slice()),
-        Err(fault) => format!(in alloc; "{fault:?}"),
-    }
-}
-
+/// What is gathered of both places and these passes.
 fn both(
     alloc: Global,
     names: Kept<NameShard>,
@@ -121,18 +107,11 @@ fn both(
     requires places { (names.label.place.0 ≡ 0) × (files.label.place.0 ≡ 1) }
     requires actors { (one.actor ≡ 1) × (two.actor ≡ 2) }
 {
-    outcome(alloc, names, files, &[one, two])
-}
-
-fn alone(
-    alloc: Global,
-    names: Kept<NameShard>,
-    files: Kept<FileShard>,
-    one: Pass,
-) -> Result<String, AllocError>
-    requires places { (names.label.place.0 ≡ 0) × (files.label.place.0 ≡ 1) }
-{
-    outcome(alloc, names, files, &[one])
+    let kepts = vec![in alloc; AnyKept::Name(names), AnyKept::File(files)]?;
+    match gather(alloc, kepts.as_slice(), &[one, two]) {
+        Ok(moments) => told(alloc, moments.as_slice()),
+        Err(fault) => format!(in alloc; "{fault:?}"),
+    }
 }
 
 #[test]
@@ -144,49 +123,5 @@ fn moments_are_in_order(rt: HostRuntime) -> Result<(), Fail> {
         text.as_str(),
         "1 1 2, 1 note 1, 2 0 1, 3 0 2, 3 1 1, 4 note 1, "
     );
-    Ok(())
-}
-
-#[test]
-fn a_pass_is_missing(rt: HostRuntime) -> Result<(), Fail> {
-    let alloc = rt.alloc();
-    let done = acted(alloc)?;
-    let text = alone(alloc, done.names, done.files, done.one)?;
-    let split =
-        "Split { actor: 2, step: 1, in_pass: None, in_place: Some(Entry { stamp: 3, place: Place(0), actor: 2, number: 0, step: 1, req: Name(CheckDir { dir: DirId(1) }), reply: Name(DirIs { parent: DirId(0), sealed: false }) }) }";
-    assert_eq!(&rt; text.as_str(), split);
-    Ok(())
-}
-
-#[test]
-fn a_place_lacks_an_entry(rt: HostRuntime) -> Result<(), Fail> {
-    let alloc = rt.alloc();
-    let done = acted(alloc)?;
-    let empty = Kept::open_files(alloc, Place(1));
-    let text = both(alloc, done.names, empty, done.one, done.two)?;
-    let split =
-        "Split { actor: 1, step: 1, in_pass: Some(Entry { stamp: 3, place: Place(1), actor: 1, number: 4, step: 1, req: File(Release { file: FileId(9), hold: Hold { op: OpId { actor: 1, number: 4 }, part: 0 } }), reply: File(Released { was: false }) }), in_place: None }";
-    assert_eq!(&rt; text.as_str(), split);
-    Ok(())
-}
-
-/// A file shard with one transaction of another pass of the first actor.
-fn other_files(alloc: Global) -> Result<Kept<FileShard>, Fail>
-    ensures { IfOk result (λ files. files.label.place.0 ≡ 1) }
-{
-    let mut files = Kept::open_files(alloc, Place(1));
-    release(&mut files, &mut Pass::start(alloc, 1))?;
-    Ok(files)
-}
-
-#[test]
-fn a_place_has_another_entry(rt: HostRuntime) -> Result<(), Fail> {
-    let alloc = rt.alloc();
-    let other = other_files(alloc)?;
-    let done = acted(alloc)?;
-    let text = both(alloc, done.names, other, done.one, done.two)?;
-    let split =
-        "Split { actor: 1, step: 0, in_pass: Some(Entry { stamp: 2, place: Place(0), actor: 1, number: 4, step: 0, req: Name(CheckDir { dir: DirId(1) }), reply: Name(DirIs { parent: DirId(0), sealed: false }) }), in_place: Some(Entry { stamp: 1, place: Place(1), actor: 1, number: 0, step: 0, req: File(Release { file: FileId(9), hold: Hold { op: OpId { actor: 1, number: 4 }, part: 0 } }), reply: File(Released { was: false }) }) }";
-    assert_eq!(&rt; text.as_str(), split);
     Ok(())
 }

@@ -16,7 +16,8 @@ use Rattle.store_rules.specs.Outcomes.{changes}
 use Rattle.store_rules.specs.Names.{Names, entry_limit, bind_answer, swap_answer, key_in}
 use Rattle.name_shard.specs.Limits.{IsWithinLimit}
 
-pub limit_put : (m : FinMap key_cmp Entry) (k : Key) (e : Entry) → IsWithinLimit m → (get m k ≡ None → len (entries_of m k.dir) < entry_limit) → IsWithinLimit (set_at m k (Some e))
+pub limit_put : (m : FinMap key_cmp Entry) (k : Key) (e : Entry) → IsWithinLimit m
+    → (get m k ≡ None → len (entries_of m k.dir) < entry_limit) → IsWithinLimit (set_at m k (Some e))
 limit_put m k e s room = record { count = λ d. put d (get m k) refl }
   where
     put : (d : DirId) (x : Option Entry) → get m k ≡ x → len (entries_of (set_at m k (Some e)) d) ≤ entry_limit
@@ -27,15 +28,26 @@ pub limit_taken : (m : FinMap key_cmp Entry) (k : Key) → IsWithinLimit m → I
 limit_taken m k s = record { count = λ d. grind (arith, len-within_taken m k d, s.count d) }
 
 -- a bind that is not refused leaves the directory within its limit
-pub limit_bound : (s : Names) (k : Key) (o : Over) (e : Entry) → IsWithinLimit s.entries → changes (bind_answer s k o) ≡ true → IsWithinLimit (set_at s.entries k (Some e))
+pub limit_bound : (s : Names) (k : Key) (o : Over) (e : Entry) → IsWithinLimit s.entries → changes (bind_answer s k o)
+    ≡ true → IsWithinLimit (set_at s.entries k (Some e))
 limit_bound s k o e within able = limit_put s.entries k e within (λ none. grind (arith, nat_tests, none, able))
 
 -- after a swap: where the new name was free, the old one has made room
-pub limit_swapped : (s : Names) (d : DirId) (n m : List ℕ) (x : Node) (e : Entry) → IsWithinLimit s.entries → changes (swap_answer s d n m x) ≡ true
+pub limit_swapped : (s : Names) (d : DirId) (n m : List ℕ) (x : Node) (e : Entry) → IsWithinLimit s.entries
+    → changes (swap_answer s d n m x) ≡ true
     → IsWithinLimit (set_at (set_at s.entries (key_in d n) None) (key_in d m) (Some e))
-limit_swapped s d n m x e within able = limit_put (set_at s.entries (key_in d n) None) (key_in d m) e (limit_taken s.entries (key_in d n) within) (λ free.
+limit_swapped s d n m x e within able = limit_put (set_at s.entries (key_in d n) None) (key_in d m) e
+    (limit_taken s.entries (key_in d n) within) (λ free.
     by_entry (get s.entries (key_in d n)) refl)
   where
-    by_entry : (old : Option Entry) → get s.entries (key_in d n) ≡ old → len (entries_of (set_at s.entries (key_in d n) None) d) < entry_limit
+    by_entry : (old : Option Entry) → get s.entries (key_in d n) ≡ old
+        → len (entries_of (set_at s.entries (key_in d n) None) d) < entry_limit
     by_entry None is = absurd (grind (arith, is, able))
-    by_entry (Some old) is = grind (arith, len-within_taken s.entries (key_in d n) d, len-within_positive s.entries (key_in d n) old is, within.count d, is, dir_eq_cases d d)
+    by_entry (Some old) is = grind (
+      arith,
+      len-within_taken s.entries (key_in d n) d,
+      len-within_positive s.entries (key_in d n) old is,
+      within.count d,
+      is,
+      dir_eq_cases d d,
+    )

@@ -16,9 +16,12 @@ pub same_dirs : (dirs : FinMap dir_cmp Directory) (d : DirId) (x : Option Direct
 same_dirs dirs d x is = sym (set_at_same dir_cmp_total dir_antisymmetric dirs d x is)
 
 pub released : (s : Names) (d : DirId) (h : Hold)
-    → ◌≡◌ {A = Names} record { dirs = set_at s.dirs d (dir_with_hold (get s.dirs d) h None); entries = s.entries } (name_step s (req.Release d h))
+    → ◌≡◌ {A = Names} record { dirs = set_at s.dirs d (dir_with_hold (get s.dirs d) h None); entries = s.entries }
+    (name_step s (req.Release d h))
 released s d h = by_dir (get s.dirs d) refl
   where
-    by_dir : (x : Option Directory) → get s.dirs d ≡ x → ◌≡◌ {A = Names} record { dirs = set_at s.dirs d (dir_with_hold (get s.dirs d) h None); entries = s.entries } (name_step s (req.Release d h))
+    by_dir : (x : Option Directory) → get s.dirs d ≡ x
+        → ◌≡◌ {A = Names} record { dirs = set_at s.dirs d (dir_with_hold (get s.dirs d) h None); entries = s.entries }
+        (name_step s (req.Release d h))
     by_dir None is = grind (arith, same_dirs s.dirs d None is)
     by_dir (Some x) is = grind (arith, is, set_at_same hold_cmp_total hold_antisymmetric x.holds h None, same_dirs s.dirs d (Some x) is)

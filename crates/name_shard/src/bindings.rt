@@ -6,7 +6,8 @@ ghost use Rattle.store_rules.specs.declared.names.NameReq.TheVariants as req;
 ghost use Rattle.tect_ids.specs.Keys.{node_eq};
 ghost use Rattle.store_rules.specs.declared.names.NameReply.TheVariants.{Unbound};
 ghost use Rattle.store_rules.specs.Outcomes.{Changes, reply};
-ghost use Rattle.store_rules.specs.Names.{bind_answer, bind_over, swap_answer, swap_over, unbind_answer, unbind_any, unbind_node, key_in, name_step};
+ghost use Rattle.store_rules.specs.Names.{bind_answer, bind_over, swap_answer, swap_over, unbind_answer, unbind_any};
+ghost use Rattle.store_rules.specs.Names.{unbind_node, key_in, name_step};
 ghost use Rattle.name_shard.specs.Outcomes.{outcome_of, dir_refusal};
 
 use crate::outcome::Outcome;
@@ -111,11 +112,11 @@ impl NameShard {
     {
         let from = Key {
             dir,
-            name: from.copy(self.alloc)?,
+            name: from.clone()?,
         };
         let to = Key {
             dir,
-            name: to.copy(self.alloc)?,
+            name: to.clone()?,
         };
         Ok((from, to))
     }
@@ -143,18 +144,17 @@ impl NameShard {
         dir: DirId,
         from: &Name,
         to: &Name,
-        node: Node,
-        hold: Hold,
+        entry: Entry,
     ) -> Result<NameReply, NoMemory>
-        ensures answers { IfOk result (λ x. x ≡ reply (swap_answer self.old dir from.now to.now node)) }
-        ensures steps { OnOk result (self.new ≡ name_step self.old (req.Swap dir from.now to.now node hold)) }
+        ensures answers { IfOk result (λ x. x ≡ reply (swap_answer self.old dir from.now to.now entry.node)) }
+        ensures steps { OnOk result (self.new ≡ name_step self.old (req.Swap dir from.now to.now entry.node entry.hold)) }
         ensures err { OnErr result (self.new ≡ self.old) }
     {
         let (from, to) = self.keys_in(dir, from, to)?;
-        match self.swap_outcome(&from, &to, node) {
+        match self.swap_outcome(&from, &to, entry.node) {
             Outcome::Leaves(reply) => Ok(reply),
             Outcome::Changes(reply) => {
-                rename_entry(&mut self.entries, &from, &to, Entry { node, hold })?;
+                rename_entry(&mut self.entries, &from, &to, entry)?;
                 Ok(reply)
             }
         }

@@ -8,9 +8,9 @@ ghost use Rattle.name_shard.specs.Outcomes.{outcome_of};
 
 use crate::outcome::Outcome;
 use crate::shard::NameShard;
-use key_maps::DirMap;
+use key_maps::{DirMap, HoldList};
 use store_rules::{Directory, NameReply};
-use tect_ids::{DirId, Hold, HoldList, Key, NoMemory, Upper};
+use tect_ids::{DirId, Hold, Key, NoMemory, Upper};
 
 // The requests that change a directory.
 impl NameShard {
@@ -38,7 +38,7 @@ impl NameShard {
             Outcome::Leaves(reply) => Ok(reply),
             Outcome::Changes(reply) => {
                 let mut holds = HoldList::new(self.alloc);
-                holds.grant(hold, Upper::Entry(key.copy(self.alloc)?))?;
+                holds.grant(hold, Upper::Entry(key.clone()?))?;
                 let directory = Directory {
                     parent,
                     sealed: false,
@@ -69,7 +69,7 @@ impl NameShard {
         match self.grant_outcome(dir) {
             Outcome::Leaves(reply) => Ok(reply),
             Outcome::Changes(reply) => {
-                let key = Upper::Entry(key.copy(self.alloc)?);
+                let key = Upper::Entry(key.clone()?);
                 grant_hold(&mut self.dirs, dir, hold, key)?;
                 Ok(reply)
             }

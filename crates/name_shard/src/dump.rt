@@ -80,7 +80,7 @@ impl NameShard {
         ensures { IfOk result (λ line. line ≡ entry_line (key.now, entry.now)) }
     {
         Ok(DumpLine::Entry {
-            key: key.copy(self.alloc)?,
+            key: key.clone()?,
             node: entry.node,
             pin: None,
         })

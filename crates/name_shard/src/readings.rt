@@ -53,7 +53,7 @@ impl NameShard {
         let mut items = Vec::with_capacity(self.alloc, self.entries.count(dir) as usize)?;
         for (key, entry) in self.entries.within(dir) {
             items.push(Listed {
-                name: key.name.copy(self.alloc)?,
+                name: key.name.clone()?,
                 node: entry.node,
             })?;
         }

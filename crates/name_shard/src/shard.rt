@@ -3,11 +3,11 @@ ghost use Rattle.store_rules.specs.Names.{root_names, no_names, name_answer, nam
 ghost use Rattle.store_rules.specs.Outcomes.{reply};
 ghost use Rattle.name_shard.specs.Memory.{takes_no_memory};
 
-use key_maps::{DirMap, EntryTable};
+use key_maps::{DirMap, EntryTable, HoldList};
 use std::alloc::Global;
 use std::marker::Model;
 use store_rules::{Directory, Entry, NameReply, NameReq};
-use tect_ids::{DirId, HoldList, NoMemory, ROOT};
+use tect_ids::{DirId, NoMemory, ROOT};
 
 /// A shard of the Name layer: some of the directories, each with all of its entries. No directory comes to have more than
 /// 65,536 of them.
@@ -90,7 +90,13 @@ impl NameShard {
                 to,
                 node,
                 hold,
-            } => self.swap(*dir, from, to, *node, *hold),
+            } => {
+                let entry = Entry {
+                    node: *node,
+                    hold: *hold,
+                };
+                self.swap(*dir, from, to, entry)
+            }
             NameReq::Unbind { key, want } => Ok(self.unbind(key, *want)),
             NameReq::Grant { dir, hold, key } => self.grant(*dir, *hold, key),
             NameReq::Release { dir, hold } => Ok(self.release(*dir, *hold)),

@@ -136,7 +136,7 @@ fn ask_of(
             }
         },
         Phase::Bind { key, node, over } => Ok(Some(AnyReq::Name(NameReq::Bind {
-            key: key.copy(alloc)?,
+            key: key.clone()?,
             node: *node,
             hold: hold_of(op),
             over: *over,
@@ -148,7 +148,7 @@ fn ask_of(
         Phase::Swap { key, node } => match new_name_of(alloc, command)? {
             Some(to) => Ok(Some(AnyReq::Name(NameReq::Swap {
                 dir: key.dir,
-                from: key.name.copy(alloc)?,
+                from: key.name.clone()?,
                 to,
                 node: *node,
                 hold: hold_of(op),

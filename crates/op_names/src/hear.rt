@@ -275,7 +275,7 @@ fn next_phase(
             if !heard.reply.is_granted() {
                 return refused(alloc, heard, key);
             }
-            let key = key.copy(alloc)?;
+            let key = key.clone()?;
             Ok(Phase::Swap { key, node: *node })
         }
         Phase::Swap { key, node } => swapped_heard_of(alloc, heard, op, key, *node),

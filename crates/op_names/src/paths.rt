@@ -30,7 +30,7 @@ pub fn without_first(path: Path) -> Path
 pub fn key_at(alloc: Global, dir: DirId, name: &Name) -> Result<Key, NoMemory>
     ensures { IfOk result (λ key. key ≡ key_in dir name.now) }
 {
-    let name = name.copy(alloc)?;
+    let name = name.clone()?;
     Ok(Key { dir, name })
 }
 
@@ -39,7 +39,7 @@ pub fn last_of(alloc: Global, path: &Path) -> Result<Option<Name>, NoMemory>
     ensures { IfOk result (λ name. name ≡ at_last path.now (λ name. name)) }
 {
     match path.as_slice() {
-        [.., name] => Ok(Some(name.copy(alloc)?)),
+        [.., name] => Ok(Some(name.clone()?)),
         [] => Ok(None),
     }
 }

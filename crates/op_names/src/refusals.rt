@@ -22,7 +22,7 @@ fn name_refusal_of(
         NameReply::IsDir => Ok(Answer::IsDir),
         NameReply::Full => Ok(Answer::Full { id: key.dir.0 }),
         NameReply::Changed { now } => {
-            let key = key.copy(alloc)?;
+            let key = key.clone()?;
             Ok(Answer::Changed { key, now: *now })
         }
         _ => Ok(Answer::Odd { place }),

@@ -1,5 +1,6 @@
 -- What the types of `Kept` and `Pass` keep, after one item more; and that equal parts make equal values.
-use Rattle.std.proofs.Common.{◌≡◌, ℕ, ◌+◌, ◌<◌, ◌≤◌, ◌^◌, Bool, true, false, List, [], ◌∷◌, ◌++◌, length, Option, Some, None, refl, sym, ◌∙◌, ap, subst, arith, length-append}
+use Rattle.std.proofs.Common.{◌≡◌, ℕ, ◌+◌, ◌<◌, ◌≤◌, ◌^◌, Bool, true, false, List, [], ◌∷◌, ◌++◌, length, Option, Some}
+use Rattle.std.proofs.Common.{None, refl, sym, ◌∙◌, ap, subst, arith, length-append}
 use Rattle.std.specs.Coded.{Coded}
 use Rattle.std.proofs.lemmas.Bool.Decides.{nat_tests}
 use Rattle.std.proofs.lemmas.List.Sums.{sum_by_push}
@@ -22,7 +23,10 @@ use Rattle.place_kit.specs.Commits.{spare_of, begins}
 use Rattle.store_rules.specs.ReplyBytes.{reply_bytes}
 use Rattle.entry_words.specs.Moments.{trail_of, running_in, running_after, op_of, moment_cost}
 use Rattle.place_kit.specs.Replay.{IsKept, IsKept-prop}
-use Rattle.place_kit.proofs.Pushes.{rises-raised, rises-push, all_of_actor-push, trail_of-act, trail_of-local, trail_of-len, all_notes_of-act, all_notes_of-note, steps_count-push, steps_count-len, all_reply_bytes-push, running_in-push, state_after-push, IsLegal-push, all_at-push, stamps_rise-push}
+use Rattle.place_kit.proofs.Pushes.{rises-raised, rises-push, all_of_actor-push, trail_of-act, trail_of-local}
+use Rattle.place_kit.proofs.Pushes.{trail_of-len, all_notes_of-act, all_notes_of-note, steps_count-push}
+use Rattle.place_kit.proofs.Pushes.{steps_count-len, all_reply_bytes-push, running_in-push, state_after-push}
+use Rattle.place_kit.proofs.Pushes.{IsLegal-push, all_at-push, stamps_rise-push}
 
 pub IsKept-push : {S : Type 0} (after : S → AnyReq → S) (answer : S → AnyReq → AnyReply) (opening : Bool → S)
     (label : Label) (machine next base : S) (history : List Entry) (clock count : ℕ) (e : Entry)
@@ -42,23 +46,43 @@ IsKept-push after answer opening label machine next base history clock count e k
 
 -- kepts with equal parts are the same
 module _ {X Y Z : Type 0} {g : Ghosts X Y Z} (code : Coded X) where
-  pub same_kept : (k l : Kept X Y Z g) → k.label ≡ l.label → k.machine ≡ l.machine → k.base ≡ l.base → k.history ≡ l.history → k.clock ≡ l.clock → k.count ≡ l.count → k ≡ l
+  pub same_kept : (k l : Kept X Y Z g) → k.label ≡ l.label → k.machine ≡ l.machine → k.base ≡ l.base
+      → k.history ≡ l.history → k.clock ≡ l.clock → k.count ≡ l.count → k ≡ l
   same_kept k l a b c d e f =
       let T : Type 0 = Label × X × Snapshot X × Logged Entry × ℕ × ℕ in
       let F : T → Type 0 = λ t. IsKept g.after g.answer g.opening t.0 t.1 t.2.value t.3.items t.4 t.5 in
-      let to : (t : T) → F t → Kept X Y Z g = λ t f. record { label = t.0; machine = t.1; base = t.2; history = t.3; clock = t.4; count = t.5; kept = f } in
+      let to : (t : T) → F t → Kept X Y Z g = λ t f. record {
+        label = t.0;
+        machine = t.1;
+        base = t.2;
+        history = t.3;
+        clock = t.4;
+        count = t.5;
+        kept = f;
+      } in
       let s : T = (k.label, k.machine, k.base, k.history, k.clock, k.count) in
       let t : T = (l.label, l.machine, l.base, l.history, l.clock, l.count) in
       let p : s ≡ t = cc in
-      let here : (f : F t) → to t f ≡ l = λ f. ap (to t) (IsKept-prop code g.after g.answer g.opening l.label l.machine l.base.value l.history.items l.clock l.count f l.kept) in
+      let here : (f : F t) → to t f ≡ l =
+      λ f. ap (to t) (IsKept-prop code g.after g.answer g.opening l.label l.machine l.base.value l.history.items
+      l.clock l.count f l.kept) in
       subst (λ (u : T). (f : F u) → to u f ≡ l) (sym p) here k.kept
 
 -- passes with equal parts are the same
-pub same_pass : (p q : Pass) → p.actor ≡ q.actor → p.clock ≡ q.clock → p.steps ≡ q.steps → p.bytes ≡ q.bytes → p.running ≡ q.running → p.moments ≡ q.moments → p ≡ q
+pub same_pass : (p q : Pass) → p.actor ≡ q.actor → p.clock ≡ q.clock → p.steps ≡ q.steps → p.bytes ≡ q.bytes
+    → p.running ≡ q.running → p.moments ≡ q.moments → p ≡ q
 same_pass p q a b c d e f =
     let T : Type 0 = ℕ × ℕ × ℕ × ℕ × Option OpId × Logged Moment in
     let F : T → Type 0 = λ t. IsPass t.0 t.1 t.2 t.3 t.4 t.5 in
-    let to : (t : T) → F t → Pass = λ t f. record { actor = t.0; clock = t.1; steps = t.2; bytes = t.3; running = t.4; moments = t.5; known = f } in
+    let to : (t : T) → F t → Pass = λ t f. record {
+      actor = t.0;
+      clock = t.1;
+      steps = t.2;
+      bytes = t.3;
+      running = t.4;
+      moments = t.5;
+      known = f;
+    } in
     let s : T = (p.actor, p.clock, p.steps, p.bytes, p.running, p.moments) in
     let t : T = (q.actor, q.clock, q.steps, q.bytes, q.running, q.moments) in
     let e : s ≡ t = cc in
@@ -66,7 +90,8 @@ same_pass p q a b c d e f =
     subst (λ (u : T). (f : F u) → to u f ≡ q) (sym e) here p.known
 
 -- a log that was given its items and its room again is the same
-pub same_log : {X : Type 0} (h k : Logged X) (xs : List X) (n : ℕ) → (let l : Logged X = record { items = xs; spare = n } in h ≡ l) → xs ≡ k.items → n ≡ k.spare → h ≡ k
+pub same_log : {X : Type 0} (h k : Logged X) (xs : List X) (n : ℕ)
+    → (let l : Logged X = record { items = xs; spare = n } in h ≡ l) → xs ≡ k.items → n ≡ k.spare → h ≡ k
 same_log {X} h k xs n e a b =
     let T : Type 0 = List X × ℕ in
     let to : T → Logged X = λ t. record { items = t.0; spare = t.1 } in
@@ -75,7 +100,8 @@ same_log {X} h k xs n e a b =
     let p : s ≡ t = cc in
     e ∙ ap to p
 
-pub same_pass_by_spare : (p q : Pass) → p.actor ≡ q.actor → p.clock ≡ q.clock → p.steps ≡ q.steps → p.bytes ≡ q.bytes → p.running ≡ q.running
+pub same_pass_by_spare : (p q : Pass) → p.actor ≡ q.actor → p.clock ≡ q.clock → p.steps ≡ q.steps → p.bytes ≡ q.bytes
+    → p.running ≡ q.running
     → p.moments.items ≡ q.moments.items → spare_of p ≡ spare_of q → p ≡ q
 same_pass_by_spare p q a b c d e f h =
     let r : aside p.running ≡ aside q.running = ap aside e in
@@ -103,7 +129,8 @@ IsPass-room actor clock steps bytes running m n k same room = record {
   early = k.early;
 }
 
-pub IsPass-raised : (actor clock later steps bytes : ℕ) (running : Option OpId) (m : Logged Moment) → IsPass actor clock steps bytes running m
+pub IsPass-raised : (actor clock later steps bytes : ℕ) (running : Option OpId) (m : Logged Moment)
+    → IsPass actor clock steps bytes running m
     → clock ≤ later → later + aside running < 2 ^ 64 → IsPass actor later steps bytes running m
 IsPass-raised actor clock later steps bytes running m k le early = record {
   own = k.own;
@@ -119,7 +146,8 @@ IsPass-raised actor clock later steps bytes running m k le early = record {
   early = early;
 }
 
-runs_after : (actor : ℕ) (running : Option OpId) (stamp by : ℕ) (note : Note) → (op_of note).actor ≡ actor → is_run_by actor (running_after running (Local stamp by note)) ≡ true
+runs_after : (actor : ℕ) (running : Option OpId) (stamp by : ℕ) (note : Note) → (op_of note).actor ≡ actor
+    → is_run_by actor (running_after running (Local stamp by note)) ≡ true
 runs_after actor running stamp by (Began op command) own = grind (arith, nat_tests)
 runs_after actor running stamp by (Ended op answer) own = refl
 runs_after actor running stamp by (Stopped op) own = refl
@@ -171,14 +199,16 @@ IsPass-act actor clock steps bytes running m n e more k pushed own step later ad
     }
 
 -- as many steps as moments at most
-pub few_steps : (actor clock steps bytes : ℕ) (running : Option OpId) (m : Logged Moment) → IsPass actor clock steps bytes running m → steps ≤ 65536
+pub few_steps : (actor clock steps bytes : ℕ) (running : Option OpId) (m : Logged Moment)
+    → IsPass actor clock steps bytes running m → steps ≤ 65536
 few_steps actor clock steps bytes running m k =
     let a = steps_count-len 0 steps (trail_of m.items) k.counted in
     let b = trail_of-len m.items in
     omega (arith, a, b, k.few)
 
 -- after the end of an op none is running
-pub ends_none : (running : Option OpId) (stamp actor : ℕ) (note : Note) → begins note ≡ false → None ≡ running_after running (Local stamp actor note)
+pub ends_none : (running : Option OpId) (stamp actor : ℕ) (note : Note) → begins note ≡ false
+    → None ≡ running_after running (Local stamp actor note)
 ends_none running stamp actor (Began op command) e = grind arith
 ends_none running stamp actor (Ended op answer) e = refl
 ends_none running stamp actor (Stopped op) e = refl

@@ -11,27 +11,32 @@ use Rattle.entry_words.specs.declared.entry.Note.{Note}
 use Rattle.entry_words.specs.declared.entry.Moment.{Moment}
 use Rattle.entry_words.specs.declared.entry.Moment.TheVariants.{Act, Local}
 use Rattle.store_rules.specs.ReplyBytes.{reply_bytes}
-use Rattle.entry_words.specs.Moments.{stamp_of, actor_of, trail_of, rises, all_of_actor, steps_count, all_reply_bytes, running_after, running_in, op_of, all_notes_of}
+use Rattle.entry_words.specs.Moments.{stamp_of, actor_of, trail_of, rises, all_of_actor, steps_count, all_reply_bytes}
+use Rattle.entry_words.specs.Moments.{running_after, running_in, op_of, all_notes_of}
 use Rattle.place_kit.specs.Replay.{state_after, IsLegal, all_at, stamps_rise}
 
 pub rises-raised : (low high more : ℕ) (ms : List Moment) → rises low high ms ≡ true → high ≤ more → rises low more ms ≡ true
 rises-raised low high more [] h le = grind (arith, nat_tests)
 rises-raised low high more (m ∷ ms) h le = grind (arith, common_steps, rises-raised (stamp_of m) high more ms)
 
-pub rises-push : (low high : ℕ) (ms : List Moment) (m : Moment) → rises low high ms ≡ true → high < stamp_of m → rises low (stamp_of m) (ms ++ m ∷ []) ≡ true
+pub rises-push : (low high : ℕ) (ms : List Moment) (m : Moment) → rises low high ms ≡ true → high < stamp_of m
+    → rises low (stamp_of m) (ms ++ m ∷ []) ≡ true
 rises-push low high [] m h lt = grind (arith, nat_tests)
 rises-push low high (x ∷ ms) m h lt = grind (arith, common_steps, rises-push (stamp_of x) high ms m)
 
-pub all_of_actor-push : (actor : ℕ) (ms : List Moment) (m : Moment) → all_of_actor actor ms ≡ true → actor_of m ≡ actor → all_of_actor actor (ms ++ m ∷ []) ≡ true
+pub all_of_actor-push : (actor : ℕ) (ms : List Moment) (m : Moment) → all_of_actor actor ms ≡ true → actor_of m ≡ actor
+    → all_of_actor actor (ms ++ m ∷ []) ≡ true
 all_of_actor-push actor [] m h e = grind (arith, nat_tests)
 all_of_actor-push actor (x ∷ ms) m h e = grind (arith, common_steps, all_of_actor-push actor ms m)
 
-pub all_notes_of-act : (actor : ℕ) (ms : List Moment) (e : Entry) → all_notes_of actor ms ≡ true → all_notes_of actor (ms ++ Act e ∷ []) ≡ true
+pub all_notes_of-act : (actor : ℕ) (ms : List Moment) (e : Entry) → all_notes_of actor ms ≡ true
+    → all_notes_of actor (ms ++ Act e ∷ []) ≡ true
 all_notes_of-act actor [] e h = refl
 all_notes_of-act actor (Act x ∷ ms) e h = all_notes_of-act actor ms e h
 all_notes_of-act actor (Local s a n ∷ ms) e h = grind (arith, common_steps, all_notes_of-act actor ms e)
 
-pub all_notes_of-note : (actor : ℕ) (ms : List Moment) (stamp by : ℕ) (note : Note) → all_notes_of actor ms ≡ true → (op_of note).actor ≡ actor
+pub all_notes_of-note : (actor : ℕ) (ms : List Moment) (stamp by : ℕ) (note : Note) → all_notes_of actor ms ≡ true
+    → (op_of note).actor ≡ actor
     → all_notes_of actor (ms ++ Local stamp by note ∷ []) ≡ true
 all_notes_of-note actor [] stamp by note h own = grind (arith, nat_tests)
 all_notes_of-note actor (Act x ∷ ms) stamp by note h own = all_notes_of-note actor ms stamp by note h own
@@ -52,7 +57,8 @@ trail_of-len [] = omega arith
 trail_of-len (Act x ∷ ms) = let h = trail_of-len ms in omega (arith, h)
 trail_of-len (Local s a n ∷ ms) = let h = trail_of-len ms in omega (arith, h)
 
-pub steps_count-push : (first next : ℕ) (es : List Entry) (e : Entry) → steps_count first next es ≡ true → e.step ≡ next → steps_count first (next + 1) (es ++ e ∷ []) ≡ true
+pub steps_count-push : (first next : ℕ) (es : List Entry) (e : Entry) → steps_count first next es ≡ true → e.step ≡ next
+    → steps_count first (next + 1) (es ++ e ∷ []) ≡ true
 steps_count-push first next [] e h at = grind (arith, nat_tests)
 steps_count-push first next (x ∷ es) e h at = grind (arith, common_steps, steps_count-push (first + 1) next es e)
 
@@ -64,7 +70,8 @@ pub all_reply_bytes-push : (es : List Entry) (e : Entry) → all_reply_bytes (es
 all_reply_bytes-push [] e = omega arith
 all_reply_bytes-push (x ∷ es) e = let h = all_reply_bytes-push es e in omega (arith, h)
 
-pub running_in-push : (running : Option OpId) (ms : List Moment) (m : Moment) → running_in running (ms ++ m ∷ []) ≡ running_after (running_in running ms) m
+pub running_in-push : (running : Option OpId) (ms : List Moment) (m : Moment) → running_in running (ms ++ m ∷ [])
+    ≡ running_after (running_in running ms) m
 running_in-push running [] m = refl
 running_in-push running (x ∷ ms) m = running_in-push (running_after running x) ms m
 
@@ -73,7 +80,8 @@ module _ {S : Type 0} (after : S → AnyReq → S) where
   state_after-push s [] e = refl
   state_after-push s (x ∷ es) e = state_after-push (after s x.req) es e
 
-  pub IsLegal-push : (answer : S → AnyReq → AnyReply) (s : S) (es : List Entry) (e : Entry) → IsLegal after answer s es → e.reply ≡ answer (state_after after s es) e.req → IsLegal after answer s (es ++ e ∷ [])
+  pub IsLegal-push : (answer : S → AnyReq → AnyReply) (s : S) (es : List Entry) (e : Entry) → IsLegal after answer s es
+      → e.reply ≡ answer (state_after after s es) e.req → IsLegal after answer s (es ++ e ∷ [])
   IsLegal-push answer s [] e l h = (h, tt)
   IsLegal-push answer s (x ∷ es) e l h = (l.0, IsLegal-push answer (after s x.req) es e l.1 h)
 
@@ -81,6 +89,7 @@ pub all_at-push : (p : Place) (es : List Entry) (e : Entry) → all_at p es ≡ 
 all_at-push p [] e h at = grind (arith, nat_tests, ap (λ (q : Place). q.0) at)
 all_at-push p (x ∷ es) e h at = grind (arith, common_steps, all_at-push p es e)
 
-pub stamps_rise-push : (low high : ℕ) (es : List Entry) (e : Entry) → stamps_rise low high es ≡ true → high < e.stamp → stamps_rise low e.stamp (es ++ e ∷ []) ≡ true
+pub stamps_rise-push : (low high : ℕ) (es : List Entry) (e : Entry) → stamps_rise low high es ≡ true → high < e.stamp
+    → stamps_rise low e.stamp (es ++ e ∷ []) ≡ true
 stamps_rise-push low high [] e h lt = grind (arith, nat_tests)
 stamps_rise-push low high (x ∷ es) e h lt = grind (arith, common_steps, stamps_rise-push x.stamp high es e)

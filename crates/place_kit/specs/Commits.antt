@@ -65,4 +65,13 @@ op_number (Some op) = op.number
 -- the entry of a commit of the pass at a place whose clock is this
 abbrev pub entry_of : Label → ℕ → Pass → AnyReq → AnyReply → Entry
 entry_of label clock p req reply =
-    record { stamp = next_stamp clock p; place = label.place; actor = p.actor; number = op_number p.running; step = p.steps; req = req; reply = reply }
+    record {
+      stamp = next_stamp clock p;
+      place = label.place;
+      actor = p.actor;
+      number = op_number p.running;
+      step =
+          p.steps;
+      req = req;
+      reply = reply;
+    }

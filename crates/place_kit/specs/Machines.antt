@@ -4,8 +4,6 @@ use Rattle.std.specs.FinMap.{empty, get}
 use Rattle.store_rules.specs.declared.any.AnyReq.{AnyReq}
 use Rattle.store_rules.specs.declared.any.AnyReq.TheVariants.{Name, File}
 use Rattle.store_rules.specs.declared.any.AnyReply.{AnyReply}
-use Rattle.store_rules.specs.declared.any.AnyReply.TheVariants as replies
-use Rattle.store_rules.specs.declared.names.NameReply.TheVariants as name_reply
 use Rattle.store_rules.specs.declared.names.NameReq.TheVariants as names
 use Rattle.store_rules.specs.declared.files.FileReq.TheVariants as files
 use Rattle.store_rules.specs.Names.{Names, root_names, no_names, name_step}
@@ -41,8 +39,3 @@ file_replies s = store_reply (record { names = no_names; files = s })
 abbrev pub file_is_free : AnyReq → Bool
 file_is_free (File (files.Release f h)) = true
 file_is_free _ = false
-
--- a listing, which holds names
-abbrev pub holds_names : AnyReply → Bool
-holds_names (replies.Name (name_reply.Listing sealed items)) = true
-holds_names _ = false

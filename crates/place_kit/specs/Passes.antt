@@ -40,5 +40,6 @@ Bool-set = Coded-set coded_bool
 op-set : IsSet (Option OpId)
 op-set = Coded-set (coded_option op_code)
 
-pub IsPass-prop : (actor clock steps bytes : ℕ) (running : Option OpId) (moments : Logged Moment) → IsProp (IsPass actor clock steps bytes running moments)
+pub IsPass-prop : (actor clock steps bytes : ℕ) (running : Option OpId) (moments : Logged Moment)
+    → IsProp (IsPass actor clock steps bytes running moments)
 IsPass-prop actor clock steps bytes running moments = Prim.hlevel (Bool-set, ℕ-set, op-set, le_prop)

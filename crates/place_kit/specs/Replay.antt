@@ -40,7 +40,8 @@ pub record IsKept {S : Type 0} (after : S → AnyReq → S) (answer : S → AnyR
 pub AnyReply-set : IsSet AnyReply
 AnyReply-set = Coded-set (any_reply.the_row).coded
 
-pub IsLegal-prop : {S : Type 0} (after : S → AnyReq → S) (answer : S → AnyReq → AnyReply) (s : S) (es : List Entry) → IsProp (IsLegal after answer s es)
+pub IsLegal-prop : {S : Type 0} (after : S → AnyReq → S) (answer : S → AnyReq → AnyReply) (s : S) (es : List Entry)
+    → IsProp (IsLegal after answer s es)
 IsLegal-prop after answer s [] = Unit-prop
 IsLegal-prop after answer s (e ∷ es) = ×_prop (AnyReply-set e.reply (answer s e.req)) (IsLegal-prop after answer (after s e.req) es)
 
@@ -51,7 +52,8 @@ Bool-set = Coded-set coded_bool
 ℕ-set = Coded-set coded_ℕ
 
 pub IsKept-prop : {S : Type 0} (code : Coded S) (after : S → AnyReq → S) (answer : S → AnyReq → AnyReply) (opening : Bool → S)
-    (label : Label) (machine base : S) (history : List Entry) (clock count : ℕ) → IsProp (IsKept after answer opening label machine base history clock count)
+    (label : Label) (machine base : S) (history : List Entry) (clock count : ℕ)
+    → IsProp (IsKept after answer opening label machine base history clock count)
 IsKept-prop {S} code after answer opening label machine base history clock count =
     let set : IsSet S = Coded-set code in
     Prim.hlevel (set, IsLegal-prop, Bool-set, ℕ-set, le_prop)

@@ -1,7 +1,5 @@
-use crate::copies::{copy_file_reply, copy_file_req};
 use crate::machine::Machine;
 use file_shard::FileShard;
-use std::alloc::Global;
 use store_rules::{FileReply, FileReq};
 use tect_calls::{AnyReply, AnyReq};
 use tect_ids::NoMemory;
@@ -55,12 +53,15 @@ impl Machine for FileShard {
         AnyReq::File(req)
     }
 
-    fn copy_req(alloc: Global, req: &FileReq) -> Result<AnyReq, NoMemory> {
-        let req = copy_file_req(alloc, req)?;
-        Ok(AnyReq::File(req))
+    // A clone may want memory. So a request that holds no name is made anew.
+    fn copy_req(req: &FileReq) -> Result<AnyReq, NoMemory> {
+        match *req {
+            FileReq::Release { file, hold } => Ok(AnyReq::File(FileReq::Release { file, hold })),
+            _ => Ok(AnyReq::File(req.clone()?)),
+        }
     }
 
     fn copy_reply(reply: &FileReply) -> Result<AnyReply, NoMemory> {
-        Ok(AnyReply::File(copy_file_reply(reply)))
+        Ok(AnyReply::File(*reply))
     }
 }

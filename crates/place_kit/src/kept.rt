@@ -20,7 +20,7 @@ pub struct Kept<M: Machine> {
     pub(crate) history: Log<Entry>,
     pub(crate) clock: u64,
     pub(crate) count: u64,
-    ghost kept: { IsKept M.after M.answer M.opening label machine base.value history.items clock count } by { IsKept-prop M.code M.after M.answer M.opening label machine base.value history.items clock count },
+    ghost kept: { IsKept M.after M.answer M.opening label machine base.value history.items clock count } by { IsKept-prop M.code _ _ _ _ _ _ _ _ _ },
 }
 
 impl<M: Machine> Kept<M> {
@@ -82,7 +82,8 @@ impl<M: Machine> Kept<M> {
         ensures room { OnOk result (n ≤ self.new.history.spare) }
         ensures keeps { self.old.history.spare ≤ self.new.history.spare }
         ensures history { self.new.history.items ≡ self.old.history.items }
-        ensures same { (self.new.label ≡ self.old.label) × (self.new.machine ≡ self.old.machine) × (self.new.base.value ≡ self.old.base.value)
+        ensures same { (self.new.label ≡ self.old.label) × (self.new.machine ≡ self.old.machine)
+            × (self.new.base.value ≡ self.old.base.value)
             × (self.new.clock ≡ self.old.clock) }
         ensures enough { n ≤ self.old.history.spare → IsOk result × (self.new ≡ self.old) }
         ensures err { OnErr result (self.new ≡ self.old) }
@@ -104,7 +105,8 @@ impl<M: Machine> Kept<M> {
         ensures done { IfOk result (λ r. Committed self.old self.new pass.old pass.new (M.wide req) (M.wide_reply r)) }
         ensures full { (result ≡ Err (Refused.HistoryFull self.old.label.place)) ↔ IsFull pass.old }
         ensures memory { OnErr result (¬ IsFull pass.old → result ≡ Err Refused.NoMemory) }
-        ensures free { M.is_free self.old.machine (M.wide req) ≡ true → 0 < self.old.history.spare → 0 < spare_of pass.old → ¬ (result ≡ Err Refused.NoMemory) }
+        ensures free { M.is_free self.old.machine (M.wide req) ≡ true → 0 < self.old.history.spare → 0 < spare_of pass.old
+            → ¬ (result ≡ Err Refused.NoMemory) }
         ensures err { OnErr result ((self.new ≡ self.old) × (pass.new ≡ pass.old)) }
     {
         if pass.is_full() {
@@ -125,8 +127,7 @@ impl<M: Machine> Kept<M> {
         ensures free { M.is_free self.old.machine (M.wide req) ≡ true → 0 < self.old.history.spare → 0 < spare_of pass.old → IsOk result }
         ensures err { OnErr result ((self.new ≡ self.old) × (pass.new ≡ pass.old)) }
     {
-        let alloc = self.history.allocator();
-        let prepared = Prepared::new(alloc, pass, req)?;
+        let prepared = Prepared::new(pass, req)?;
         let spare = prepared.spare();
         match self.serve(pass, prepared) {
             Ok((reply, entry)) => {

@@ -3,7 +3,6 @@
 
 mod any;
 mod any_machine;
-mod copies;
 mod files;
 mod kept;
 mod log;
@@ -12,7 +11,6 @@ mod names;
 mod opening;
 mod pass;
 mod prepared;
-mod reply_bytes;
 
 pub use any::AnyKept;
 pub use any_machine::AnyMachine;

@@ -7,7 +7,6 @@ use tect_ids::NoMemory;
 /// A list that grows at its end. Contracts see its items, and for how many more the room is sure.
 #[derive(Drop)]
 pub(crate) struct Log<T> {
-    alloc: Global,
     items: Vec<T>,
     spare: usize,
 }
@@ -30,14 +29,9 @@ impl<T> Log<T> {
         ensures { result ≡ record { items = []; spare = 0 } }
     {
         Log {
-            alloc,
             items: Vec::new(alloc),
             spare: 0,
         }
-    }
-
-    pub(crate) fn allocator(&self) -> Global {
-        self.alloc
     }
 
     pub(crate) fn as_slice(&self) -> &[T]

@@ -2,7 +2,6 @@ ghost use Rattle.std.specs.Prelude.{◌≡◌, Bool, true, IfOk, OnErr, IsOk};
 ghost use Rattle.store_rules.specs.declared.any.AnyReq.{AnyReq};
 ghost use Rattle.store_rules.specs.declared.any.AnyReply.{AnyReply};
 
-use std::alloc::Global;
 use tect_calls::{AnyReply, AnyReq};
 use tect_ids::NoMemory;
 
@@ -54,7 +53,7 @@ pub trait Machine: Drop {
         ensures { result ≡ wide req };
 
     /// The request once more, as all places know it.
-    fn copy_req(alloc: Global, req: &Self::Req) -> Result<AnyReq, NoMemory>
+    fn copy_req(req: &Self::Req) -> Result<AnyReq, NoMemory>
         ensures same { IfOk result (λ r. r ≡ wide req.now) }
         ensures free { (s : Self) → is_free s (wide req.now) ≡ true → IsOk result };
 

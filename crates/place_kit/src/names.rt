@@ -1,10 +1,8 @@
 ghost use Rattle.std.specs.Prelude.{◌≡◌, is_some};
 ghost use Rattle.store_rules.specs.Views.{as_parent};
 
-use crate::copies::{copy_name_reply, copy_name_req};
 use crate::machine::Machine;
 use name_shard::NameShard;
-use std::alloc::Global;
 use store_rules::{NameReply, NameReq};
 use tect_calls::{AnyReply, AnyReq};
 use tect_ids::{NoMemory, ROOT};
@@ -58,14 +56,24 @@ impl Machine for NameShard {
         AnyReq::Name(req)
     }
 
-    fn copy_req(alloc: Global, req: &NameReq) -> Result<AnyReq, NoMemory> {
-        let req = copy_name_req(alloc, req)?;
-        Ok(AnyReq::Name(req))
+    // A clone may want memory. So requests and replies that hold no name are made anew, and the others are cloned.
+    fn copy_req(req: &NameReq) -> Result<AnyReq, NoMemory> {
+        match *req {
+            NameReq::CheckDir { dir } => Ok(AnyReq::Name(NameReq::CheckDir { dir })),
+            NameReq::Release { dir, hold } => Ok(AnyReq::Name(NameReq::Release { dir, hold })),
+            _ => Ok(AnyReq::Name(req.clone()?)),
+        }
     }
 
     fn copy_reply(reply: &NameReply) -> Result<AnyReply, NoMemory> {
-        let reply = copy_name_reply(reply)?;
-        Ok(AnyReply::Name(reply))
+        match *reply {
+            NameReply::DirIs { parent, sealed } => {
+                Ok(AnyReply::Name(NameReply::DirIs { parent, sealed }))
+            }
+            NameReply::NoDir => Ok(AnyReply::Name(NameReply::NoDir)),
+            NameReply::Released { was } => Ok(AnyReply::Name(NameReply::Released { was })),
+            _ => Ok(AnyReply::Name(reply.clone()?)),
+        }
     }
 }
 

@@ -1,9 +1,9 @@
-ghost use Rattle.std.specs.Prelude.{◌≡◌, ◌+◌, ◌-◌, ◌<◌, ◌≤◌, ◌^◌, [], ◌∷◌, ◌++◌, length, Some, None, max, OnOk, OnErr, IsOk, IsTrue, ◌↔◌, false, true};
+ghost use Rattle.std.specs.Prelude.{◌≡◌, ◌+◌, ◌-◌, ◌<◌, ◌≤◌, ◌^◌, [], ◌∷◌, ◌++◌, length, Some, None, max, OnOk, OnErr};
+ghost use Rattle.std.specs.Prelude.{IsOk, IsTrue, ◌↔◌, false, true};
 ghost use Rattle.place_kit.specs.Passes.{IsPass, IsPass-prop, aside};
 ghost use Rattle.store_rules.specs.ReplyBytes.{reply_bytes};
 
 use crate::log::Log;
-use crate::reply_bytes::reply_bytes;
 use entry_words::{CLOCK_LIMIT, Entry, Moment, Note, Refused};
 use std::alloc::Global;
 use tect_calls::{AnyReply, AnyReq};
@@ -220,11 +220,13 @@ impl Pass {
         ensures moments { OnOk result (self.new.moments.items ≡ self.old.moments.items ++ local_of self.old note ∷ []) }
         ensures running { OnOk result (self.new.running ≡ running_after self.old.running (local_of self.old note)) }
         ensures clock { OnOk result (self.new.clock ≡ self.old.clock + 1) }
-        ensures same { OnOk result ((self.new.actor ≡ self.old.actor) × (self.new.steps ≡ self.old.steps) × (self.new.bytes ≡ self.old.bytes)) }
+        ensures same { OnOk result ((self.new.actor ≡ self.old.actor) × (self.new.steps ≡ self.old.steps)
+            × (self.new.bytes ≡ self.old.bytes)) }
         ensures spare { OnOk result (begins note ≡ false → spare_of self.new ≡ spare_of self.old) }
         ensures full { (result ≡ Err (Refused.HistoryFull pass_place)) ↔ ((begins note ≡ true) × IsFullForBegin self.old) }
         ensures memory { OnErr result (¬ IsFullForBegin self.old → result ≡ Err Refused.NoMemory) }
-        ensures begin_free { begins note ≡ true → 2 ≤ spare_of self.old → ¬ IsFullForBegin self.old → IsOk result × (spare_of self.new + 2 ≡ spare_of self.old) }
+        ensures begin_free { begins note ≡ true → 2 ≤ spare_of self.old → ¬ IsFullForBegin self.old → IsOk result
+            × (spare_of self.new + 2 ≡ spare_of self.old) }
         ensures ends { begins note ≡ false → IsOk result }
         ensures err { OnErr result (self.new ≡ self.old) }
     {
@@ -247,7 +249,8 @@ impl Pass {
         ensures moments { OnOk result (self.new.moments.items ≡ self.old.moments.items ++ local_of self.old (Note.Began op command) ∷ []) }
         ensures running { OnOk result (self.new.running ≡ Some op) }
         ensures clock { OnOk result (self.new.clock ≡ self.old.clock + 1) }
-        ensures same { OnOk result ((self.new.actor ≡ self.old.actor) × (self.new.steps ≡ self.old.steps) × (self.new.bytes ≡ self.old.bytes)) }
+        ensures same { OnOk result ((self.new.actor ≡ self.old.actor) × (self.new.steps ≡ self.old.steps)
+            × (self.new.bytes ≡ self.old.bytes)) }
         ensures full { (result ≡ Err (Refused.HistoryFull pass_place)) ↔ IsFullForBegin self.old }
         ensures memory { OnErr result (¬ IsFullForBegin self.old → result ≡ Err Refused.NoMemory) }
         ensures free { 2 ≤ spare_of self.old → ¬ IsFullForBegin self.old → IsOk result × (spare_of self.new + 2 ≡ spare_of self.old) }
@@ -284,7 +287,10 @@ impl Pass {
         requires few { length self.old.moments.items + 1 + aside running ≤ MOST_MOMENTS }
         requires room { 1 + aside running ≤ self.old.moments.spare }
         requires early { self.old.clock + 1 + aside running < 2 ^ 64 }
-        ensures moments { self.new.moments ≡ record { items = self.old.moments.items ++ local_of self.old note ∷ []; spare = self.old.moments.spare - 1 } }
+        ensures moments { self.new.moments ≡ record {
+          items = self.old.moments.items ++ local_of self.old note ∷ [];
+          spare = self.old.moments.spare - 1;
+        } }
         ensures running { self.new.running ≡ running }
         ensures clock { self.new.clock ≡ self.old.clock + 1 }
         ensures same { (self.new.actor ≡ self.old.actor) × (self.new.steps ≡ self.old.steps) × (self.new.bytes ≡ self.old.bytes) }
@@ -298,7 +304,15 @@ impl Pass {
 
     // The entry of a transaction that the actor does next.
     pub(crate) fn entry(&self, stamp: u64, place: Place, req: AnyReq, reply: AnyReply) -> Entry
-        ensures { result ≡ record { stamp = stamp; place = place; actor = self.now.actor; number = op_number self.now.running; step = self.now.steps; req = req; reply = reply } }
+        ensures { result ≡ record {
+          stamp = stamp;
+          place = place;
+          actor = self.now.actor;
+          number = op_number self.now.running;
+          step = self.now.steps;
+          req = req;
+          reply = reply;
+        } }
     {
         Entry {
             stamp,
@@ -320,8 +334,12 @@ impl Pass {
         requires later { self.old.clock < entry.stamp }
         requires early { entry.stamp + 1 < 2 ^ 64 }
         requires own { (entry.actor ≡ self.old.actor) × (entry.step ≡ self.old.steps) }
-        ensures moments { self.new.moments ≡ record { items = self.old.moments.items ++ Moment.Act entry ∷ []; spare = self.old.moments.spare - 1 } }
-        ensures numbers { (self.new.clock ≡ entry.stamp) × (self.new.steps ≡ self.old.steps + 1) × (self.new.bytes ≡ self.old.bytes + reply_bytes entry.reply) }
+        ensures moments { self.new.moments ≡ record {
+          items = self.old.moments.items ++ Moment.Act entry ∷ [];
+          spare = self.old.moments.spare - 1;
+        } }
+        ensures numbers { (self.new.clock ≡ entry.stamp) × (self.new.steps ≡ self.old.steps + 1)
+            × (self.new.bytes ≡ self.old.bytes + reply_bytes entry.reply) }
         ensures same { (self.new.actor ≡ self.old.actor) × (self.new.running ≡ self.old.running) }
     {
         self.note_that_it_is_small();

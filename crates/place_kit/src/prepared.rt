@@ -3,7 +3,6 @@ ghost use Rattle.place_kit.specs.Commits.{spare_of};
 
 use crate::machine::Machine;
 use crate::pass::Pass;
-use std::alloc::Global;
 use tect_calls::AnyReq;
 use tect_ids::NoMemory;
 
@@ -20,7 +19,7 @@ impl<M: Machine> Prepared<M> {
     ///
     /// It may be refused for want of memory, but not where the pass has sure room, and the request takes none and holds no
     /// name. Then the pass is as it was.
-    pub fn new(alloc: Global, pass: &mut Pass, req: M::Req) -> Result<Prepared<M>, NoMemory>
+    pub fn new(pass: &mut Pass, req: M::Req) -> Result<Prepared<M>, NoMemory>
         ensures ready { IfOk result (λ p. (p.req ≡ req) × (p.copy ≡ M.wide req) × (p.spare ≡ spare_of pass.old)) }
         ensures room { OnOk result (0 < spare_of pass.new) }
         ensures keeps { spare_of pass.old ≤ spare_of pass.new }
@@ -31,7 +30,7 @@ impl<M: Machine> Prepared<M> {
         ensures free { (s : M) → M.is_free s (M.wide req) ≡ true → 0 < spare_of pass.old → IsOk result }
         ensures err { OnErr result (pass.new ≡ pass.old) }
     {
-        let copy = M::copy_req(alloc, &req)?;
+        let copy = M::copy_req(&req)?;
         let spare = pass.spare();
         pass.reserve(1)?;
         Ok(Prepared { req, copy, spare })

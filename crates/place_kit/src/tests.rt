@@ -1,13 +1,12 @@
 ghost use Rattle.std.specs.Prelude.{◌≡◌, None, OnOk};
 
-use crate::{AnyKept, Kept, MOST_MOMENTS, Pass};
+use crate::{AnyKept, AnyMachine, Kept, MOST_MOMENTS, Pass};
 use entry_words::{Note, Refused};
 use file_shard::FileShard;
 use name_shard::NameShard;
 use std::alloc::Global;
-use std::process::Abort;
 use std::test::Fail;
-use store_rules::{FileReq, NameReply, NameReq};
+use store_rules::{AnyReply, AnyReq, FileReply, FileReq, NameReply, NameReq};
 use tect_ids::{Answer, Command, FileId, Hold, Key, Name, OpId, Place, ROOT};
 
 const ACTOR: u32 = 7;
@@ -75,50 +74,13 @@ fn do_op(alloc: Global, kept: &mut Kept<NameShard>, pass: &mut Pass) -> Result<(
     Ok(())
 }
 
-fn is_told(rt: &impl Abort, alloc: Global, kept: &Kept<NameShard>, text: &str) -> Result<(), Fail> {
-    let entry = kept.history().last();
-    let entry = format!(in alloc; "{entry:?}")?;
-    assert_eq!(rt; entry.as_str(), text);
-    Ok(())
-}
-
-#[test]
-fn an_entry_tells_of_its_op(rt: HostRuntime) -> Result<(), Fail> {
-    let alloc = rt.alloc();
+fn names_are_kept(alloc: Global) -> Result<bool, Fail> {
     let mut kept = Kept::open_names(alloc, Place(3), true)?;
     let mut pass = Pass::start(alloc, ACTOR);
-    pass.raise(100);
+    kept.reserve(2)?;
+    pass.reserve(2)?;
     do_op(alloc, &mut kept, &mut pass)?;
-    assert_eq!(&rt; pass.moments().len(), 3);
-    assert_eq!(&rt; pass.clock(), 103);
-    assert_eq!(&rt; pass.running(), None);
-    let text =
-        "Some(Entry { stamp: 102, place: Place(3), actor: 7, number: 4, step: 0, req: Name(Look { key: Key { dir: DirId(1), name: Name { bytes: [103, 111, 110, 101] } } }), reply: Name(NoName) })";
-    is_told(&rt, alloc, &kept, text)
-}
-
-/// Commits that take no memory, once there is room for them.
-fn check_often(kept: &mut Kept<NameShard>, pass: &mut Pass) -> Result<(), Fail> {
-    kept.reserve(100)?;
-    pass.reserve(100)?;
-    for _ in 0..100 {
-        check_root(kept, pass)?;
-    }
-    Ok(())
-}
-
-#[test]
-fn commits_find_the_room_that_was_reserved(rt: HostRuntime) -> Result<(), Fail> {
-    let alloc = rt.alloc();
-    let mut kept = Kept::open_names(alloc, Place(3), true)?;
-    let mut pass = Pass::start(alloc, ACTOR);
-    check_often(&mut kept, &mut pass)?;
-    assert_eq!(&rt; kept.history().len(), 100);
-    assert_eq!(&rt; pass.used(), 100);
-    assert_eq!(&rt; pass.bytes(), 0);
-    let root = kept.machine().reply(&NameReq::CheckDir { dir: ROOT })?;
-    assert!(&rt; matches!(root, NameReply::DirIs { .. }));
-    Ok(())
+    Ok(kept.history().len() == 1 && pass.moments().len() == 3)
 }
 
 fn release_nothing(kept: &mut Kept<FileShard>, pass: &mut Pass) -> Result<(), Refused> {
@@ -130,15 +92,29 @@ fn release_nothing(kept: &mut Kept<FileShard>, pass: &mut Pass) -> Result<(), Re
     }
 }
 
-#[test]
-fn files_are_kept(rt: HostRuntime) -> Result<(), Fail> {
-    let alloc = rt.alloc();
-    let mut kept = Kept::start(alloc, Place(4), FileShard::new(alloc));
+fn files_are_kept(alloc: Global) -> Result<bool, Fail> {
+    let mut kept = Kept::open_files(alloc, Place(4));
     let mut pass = Pass::start(alloc, ACTOR);
     release_nothing(&mut kept, &mut pass)?;
-    assert_eq!(&rt; pass.moments().len(), 1);
     let kept = AnyKept::File(kept);
-    assert_eq!(&rt; kept.label().place, Place(4));
-    assert_eq!(&rt; kept.history().len(), 1);
+    Ok(kept.label().place == Place(4) && kept.history().len() == 1)
+}
+
+fn machine_answers(alloc: Global) -> Result<bool, Fail> {
+    let mut files = AnyMachine::File(FileShard::new(alloc));
+    let release = AnyReq::File(FileReq::Release {
+        file: FileId(9),
+        hold: Hold { op: OP, part: 0 },
+    });
+    let reply = files.step(&release)?;
+    Ok(reply == AnyReply::File(FileReply::Released { was: false }) && files.dump()?.is_empty())
+}
+
+#[test]
+fn each_call_that_takes_memory_is_answered(rt: HostRuntime) -> Result<(), Fail> {
+    let alloc = rt.alloc();
+    assert!(&rt; names_are_kept(alloc)?);
+    assert!(&rt; files_are_kept(alloc)?);
+    assert!(&rt; machine_answers(alloc)?);
     Ok(())
 }

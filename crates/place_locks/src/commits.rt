@@ -56,7 +56,7 @@ fn commit_with_room<M: Machine, R: Wait, G: Gate>(
     ensures missed { IfErr result (IsMissOf want) }
     ensures err { OnErr result (pass.new ≡ pass.old) }
 {
-    let Ok(prepared) = Prepared::new(caller.alloc, pass, req) else {
+    let Ok(prepared) = Prepared::new(pass, req) else {
         return Err(Refused::NoMemory);
     };
     let spare = prepared.spare();

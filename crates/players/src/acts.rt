@@ -24,7 +24,7 @@ fn answer_line<P: Player<At>, At>(
     ensures { IfOk result (λ line. line ≡ line_of names.now (P.history player.now at.now) (op_at (P.actor player.now) (P.state player.now at.now)) answer) }
 {
     Ok(ReportLine::Client {
-        client: names[player.actor() as usize - 1].copy(alloc)?,
+        client: names[player.actor() as usize - 1].clone()?,
         op: player.number(at),
         steps: player.transactions(at),
         answer,

@@ -9,9 +9,10 @@ use Rattle.tect_ids.specs.declared.answer.Answer.TheVariants.{Odd}
 use Rattle.world_runs.specs.declared.event.Event.{Event}
 use Rattle.world_runs.specs.declared.event.Event.TheVariants.{Ended}
 use Rattle.world_runs.specs.Moments.{WorldState, IsWorldRun, May, RunFrom, after, after_all, answered, moment, opening}
-use Rattle.sound_runs.proofs.RunsKeep.{front_runs, no_run_answers_odd, sound_at_each_moment}
+use Rattle.world_runs.proofs.Histories.{front_runs}
+use Rattle.sound_runs.proofs.RunsKeep.{no_run_answers_odd, sound_at_each_moment}
 use Rattle.tree_runs.proofs.Headlines.{run_headline}
-use Rattle.run_bounds.proofs.RunsShort.{each_is_short}
+use Rattle.run_claims.proofs.RunsShort.{each_is_short}
 use Rattle.run_claims.specs.Claims.{EveryRunIsClaimed}
 
 -- each event of a run may happen at the moment after those before it

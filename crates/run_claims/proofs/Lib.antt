@@ -1,1 +1,4 @@
+pub mod PhasesLeft
+pub mod Steps
+pub mod RunsShort
 pub mod Claims

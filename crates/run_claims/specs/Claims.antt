@@ -12,7 +12,7 @@ use Rattle.world_runs.specs.Headline.{Headline, command_of}
 use Rattle.world_runs.specs.Moments.{AtEachMoment, IsWorldRun}
 use Rattle.world_runs.specs.Sound.{IsSound}
 use Rattle.world_runs.specs.Limits.{KeepsLimits}
-use Rattle.run_bounds.specs.Bounds.{IsShort}
+use Rattle.run_claims.specs.Bounds.{IsShort}
 
 -- It is a run of the world, within the limits of its actors' histories. The store is sound at each moment; each answer is the one
 -- that the tree gives at the command's point, or says that there was no room to begin; none says that a reply was odd; and each

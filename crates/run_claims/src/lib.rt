@@ -1,7 +1,16 @@
 //! What is claimed of every history that a program shows: that it is a run of the world within its limits, and what follows
-//! from that. Nothing here is called: the function's contract is the law.
+//! from that, as how few transactions each command takes. Nothing here is called: each function's contract is a law.
 #![tactic(auto)]
 
+ghost use Rattle.std.specs.Prelude.{◌≡◌, Some, None, List};
+ghost use Rattle.tect_ids.specs.declared.ids.Counts.{Counts};
+ghost use Rattle.tect_ids.specs.declared.ids.OpId.{OpId};
+ghost use Rattle.tect_ids.specs.declared.command.Command.{Command};
+ghost use Rattle.world_runs.specs.declared.event.Event.{Event};
+ghost use Rattle.world_runs.specs.Moments.{IsWorldRun};
+ghost use Rattle.world_runs.specs.Headline.{command_of};
+ghost use Rattle.world_runs.specs.Report.{transactions};
+ghost use Rattle.run_claims.specs.Bounds.{IsShort};
 ghost use Rattle.run_claims.specs.Claims.{EveryRunIsClaimed};
 
 /// Of every run of the world that keeps the limits of its actors' histories all of it holds: the store is sound at each moment,
@@ -9,4 +18,14 @@ ghost use Rattle.run_claims.specs.Claims.{EveryRunIsClaimed};
 /// few transactions.
 pub fn every_run_is_claimed()
     ensures { EveryRunIsClaimed }
+{}
+
+/// In every run of the world each command looks at no more names than its first path has, or once at the root where the
+/// path has none, and takes at most four other transactions, in whatever order the actors' transactions come. An op that
+/// began no command has no transaction.
+pub fn each_command_is_short()
+    ensures short { (counts : Counts) (history : List Event) → IsWorldRun counts history
+        → (op : OpId) (c : Command) → command_of history op ≡ Some c → IsShort history op c }
+    ensures idle { (counts : Counts) (history : List Event) → IsWorldRun counts history
+        → (op : OpId) → command_of history op ≡ None → transactions history op ≡ 0 }
 {}

@@ -46,7 +46,8 @@ pub record IsWrongWords (counts : Counts) (words rest : List (List ℕ)) : Type 
 
 -- a path whose names pass that limit first, or bytes that are too many for a block
 abbrev pub PassesLimit : List ℕ → Limit → Type 0
-PassesLimit w limit = ((is_path_form w ≡ true) × (names_fit 0 (path_names w) ≡ Over limit)) ⊎ ((are_hex_pairs w ≡ true) × (65536 < length w) × (limit ≡ limits.Block))
+PassesLimit w limit = ((is_path_form w ≡ true) × (names_fit 0 (path_names w) ≡ Over limit))
+    ⊎ ((are_hex_pairs w ≡ true) × (65536 < length w) × (limit ≡ limits.Block))
 
 -- The rest begins with the first word that is too large.
 pub record IsLargeWords (counts : Counts) (words : List (List ℕ)) (limit : Limit) (rest : List (List ℕ)) : Type 0 where
@@ -64,7 +65,8 @@ pub record IsLargeWords (counts : Counts) (words : List (List ℕ)) (limit : Lim
 -- a client's name, and behind it no word that its state forbids; and the client is one of 64
 abbrev pub IsInState : Seen → List (List ℕ) → Type 0
 IsInState seen [] = Unit {0}
-IsInState seen (first ∷ others) = is_client_name first ≡ true → (out_of_state seen first others ≡ false) × (is_one_too_many seen first ≡ false)
+IsInState seen (first ∷ others) = is_client_name first ≡ true → (out_of_state seen first others ≡ false)
+    × (is_one_too_many seen first ≡ false)
 
 -- the first word is a client whose state forbids the second
 abbrev pub IsOutOfState : Seen → List (List ℕ) → Type 0
@@ -74,10 +76,12 @@ IsOutOfState seen (client ∷ others) = (is_client_name client ≡ true) × (out
 -- the first word is one client too many
 abbrev pub IsTooMany : Seen → List (List ℕ) → Type 0
 IsTooMany seen [] = ⊥
-IsTooMany seen (client ∷ others) = (is_client_name client ≡ true) × (out_of_state seen client others ≡ false) × (is_one_too_many seen client ≡ true)
+IsTooMany seen (client ∷ others) = (is_client_name client ≡ true) × (out_of_state seen client others ≡ false)
+    × (is_one_too_many seen client ≡ true)
 
 abbrev pub IsWrongLine : Counts → Seen → List (List ℕ) → List (List ℕ) → Type 0
 IsWrongLine counts seen words rest = (IsOutOfState seen words × (rest ≡ words)) ⊎ (IsInState seen words × IsWrongWords counts words rest)
 
 abbrev pub IsLargeLine : Counts → Seen → List (List ℕ) → Limit → List (List ℕ) → Type 0
-IsLargeLine counts seen words limit rest = (IsTooMany seen words × (limit ≡ limits.Clients)) ⊎ (IsInState seen words × IsLargeWords counts words limit rest)
+IsLargeLine counts seen words limit rest = (IsTooMany seen words × (limit ≡ limits.Clients))
+    ⊎ (IsInState seen words × IsLargeWords counts words limit rest)

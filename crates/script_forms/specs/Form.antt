@@ -48,4 +48,5 @@ passes limited Unfit = ⊥
 
 abbrev pub IsAlive : {A : Type 0} → Bool → Form A → Type 0
 IsAlive limited (done value) = Unit {0}
-IsAlive limited (word fit next) = ((w : List ℕ) × passes limited (fit w)) × ((w : List ℕ) → passes limited (fit w) → IsAlive limited (next w))
+IsAlive limited (word fit next) = ((w : List ℕ) × passes limited (fit w))
+    × ((w : List ℕ) → passes limited (fit w) → IsAlive limited (next w))

@@ -4,7 +4,8 @@ use Rattle.std.specs.Str.{bytes_eq}
 use Rattle.script_words.specs.declared.limits.Limit.TheVariants as limits
 use Rattle.script_words.specs.declared.limits.Fit.{Fit}
 use Rattle.script_words.specs.declared.limits.Fit.TheVariants.{Fits, Unfit}
-use Rattle.script_words.specs.WordForm.{path_names, path_fit, sibling_fit, hex_bytes, hex_fit, number_of, number_fit, count_fit, layer_of, is_client_name}
+use Rattle.script_words.specs.WordForm.{path_names, path_fit, sibling_fit, hex_bytes, hex_fit, number_of, number_fit, count_fit, layer_of,
+    is_client_name}
 use Rattle.tect_ids.specs.declared.ids.Counts.{Counts}
 use Rattle.tect_ids.specs.declared.ids.Layer.{Layer}
 use Rattle.tect_ids.specs.declared.ids.Layer.TheVariants.{Names, Files, Blocks, Disks}
@@ -65,10 +66,12 @@ abbrev pub append_form : Form Command
 append_form = word path_fit (λ p. word hex_fit (λ h. done (commands.Append (path_names p) (hex_bytes h))))
 
 abbrev pub sweep_form : Counts → Form Command
-sweep_form counts = word layer_fit (λ l. word (number_fit 0 (places_of counts (the_layer l) - 1)) (λ i. done (commands.Sweep (the_layer l) (number_of i))))
+sweep_form counts = word layer_fit
+    (λ l. word (number_fit 0 (places_of counts (the_layer l) - 1)) (λ i. done (commands.Sweep (the_layer l) (number_of i))))
 
 abbrev pub repair_form : Counts → Form Command
-repair_form counts = word (number_fit 0 (counts.disks - 1)) (λ d. word (number_fit 0 (counts.blocks - 1)) (λ i. done (commands.Repair (the_disk (number_of d)) (number_of i))))
+repair_form counts = word (number_fit 0 (counts.disks - 1))
+    (λ d. word (number_fit 0 (counts.blocks - 1)) (λ i. done (commands.Repair (the_disk (number_of d)) (number_of i))))
 
 abbrev pub command_form : Counts → Verb → Form Command
 command_form counts (verbs.OnPath verb) = path_form verb
@@ -142,7 +145,8 @@ abbrev pub client_form : Counts → List ℕ → ℕ → Form Line
 client_form counts client actor = and_then (act_form counts) (λ act. done (lines.Client client actor act))
 
 abbrev pub behind_first : Counts → (List ℕ → ℕ) → List ℕ → Form Line
-behind_first counts actor w = if is_client_name w then client_form counts w (actor w) else world_behind counts (unwrap_or (served_world w) worlds.Dump)
+behind_first counts actor w = if is_client_name w then client_form counts w (actor w) else world_behind counts
+    (unwrap_or (served_world w) worlds.Dump)
 
 abbrev pub line_form : Counts → (List ℕ → ℕ) → Form Line
 line_form counts actor = word first_fit (λ w. behind_first counts actor w)

@@ -35,13 +35,15 @@ IsCommand counts (commands.List path) = IsOnPath paths.List path
 IsCommand counts (commands.Create path) = IsOnPath paths.Create path
 IsCommand counts (commands.Mkdir path) = IsOnPath paths.Mkdir path
 IsCommand counts (commands.Delete path) = IsOnPath paths.Delete path
-IsCommand counts (commands.Rename from to) = (serves verbs.Rename ≡ true) × IsPath from × IsPath to × (folder_text (path_text to) ≡ folder_text (path_text from))
+IsCommand counts (commands.Rename from to) = (serves verbs.Rename ≡ true) × IsPath from × IsPath to
+    × (folder_text (path_text to) ≡ folder_text (path_text from))
 IsCommand counts (commands.Move from to) = (serves verbs.Move ≡ true) × IsPath from × IsPath to
 IsCommand counts (commands.Rmdir path) = IsOnPath paths.Rmdir path
 IsCommand counts (commands.Drop path) = IsOnPath paths.Drop path
 IsCommand counts (commands.Seal path) = IsOnPath paths.Seal path
 IsCommand counts (commands.Open path) = IsOnPath paths.Open path
-IsCommand counts (commands.Append path bytes) = (serves verbs.Append ≡ true) × IsPath path × (0 < length bytes) × AllByRecursion (λ (b : ℕ). b < 256) bytes
+IsCommand counts (commands.Append path bytes) = (serves verbs.Append ≡ true) × IsPath path × (0 < length bytes)
+    × AllByRecursion (λ (b : ℕ). b < 256) bytes
 IsCommand counts (commands.Blocks path) = IsOnPath paths.Blocks path
 IsCommand counts (commands.Read path) = IsOnPath paths.Read path
 IsCommand counts (commands.Sweep layer index) = (serves verbs.Sweep ≡ true) × (index < places_of counts layer)

@@ -39,7 +39,8 @@ act_words acts.Run = codes "run" ∷ []
 act_words acts.Stop = codes "stop" ∷ []
 
 abbrev pub counts_words : Counts → List (List ℕ)
-counts_words counts = decimal counts.names ∷ decimal counts.files ∷ decimal counts.blocks ∷ decimal counts.disks ∷ decimal counts.copies ∷ []
+counts_words counts = decimal counts.names ∷ decimal counts.files ∷ decimal counts.blocks ∷ decimal counts.disks ∷ decimal counts.copies
+    ∷ []
 
 abbrev pub line_words : Line → List (List ℕ)
 line_words (lines.Store counts) = codes "store" ∷ counts_words counts

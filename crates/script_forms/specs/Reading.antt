@@ -1,5 +1,6 @@
 -- Reading a script, with the place of its first fault.
-use Rattle.std.specs.Prelude.{ℕ, ◌+◌, ◌-◌, ◌==◌, nat_lt, Bool, true, false, not, List, [], ◌∷◌, length, Option, Some, None, Result, Ok, Err, if◌then◌else◌}
+use Rattle.std.specs.Prelude.{ℕ, ◌+◌, ◌-◌, ◌==◌, nat_lt, Bool, true, false, not, List, [], ◌∷◌, length, Option, Some, None, Result, Ok, Err,
+    if◌then◌else◌}
 use Rattle.std.specs.Map.{keys_of}
 use Rattle.tect_ids.specs.declared.ids.Counts.{Counts}
 use Rattle.tect_ids.specs.declared.script.Act.{Act}
@@ -44,7 +45,8 @@ world_read counts (Some verb) first words = ended (read true (world_behind count
 
 abbrev pub line_read : Counts → Seen → List (List ℕ) → Outcome Line
 line_read counts seen [] = Wrong []
-line_read counts seen (first ∷ words) = if is_client_name first then client_read counts seen first words else world_read counts (served_world first) first words
+line_read counts seen (first ∷ words) = if is_client_name first then client_read counts seen first words else world_read counts
+    (served_world first) first words
 
 -- ---- lines, by their numbers
 
@@ -59,7 +61,8 @@ at_line number line (Large limit words) = Err (too_large limit)
 
 -- the limits of lines come before their words
 abbrev pub measured : {A : Type 0} → ℕ → List ℕ → Result A ScriptFault → Result A ScriptFault
-measured number line more = if nat_lt 65536 number then Err (too_large limits.Lines) else if nat_lt 70000 (length line) then Err (too_large limits.Line) else more
+measured number line more = if nat_lt 65536 number then Err (too_large limits.Lines) else if nat_lt 70000 (length line) then Err
+    (too_large limits.Line) else more
 
 abbrev pub is_comment : List ℕ → Bool
 is_comment [] = false
@@ -71,7 +74,8 @@ some_line (Err fault) = Err fault
 
 -- a line, or nothing for a comment
 abbrev pub text_read : Counts → Seen → ℕ → List ℕ → Result (Option Line) ScriptFault
-text_read counts seen number line = measured number line (if is_comment line then Ok None else some_line (at_line number line (line_read counts seen (parts 32 line))))
+text_read counts seen number line = measured number line
+    (if is_comment line then Ok None else some_line (at_line number line (line_read counts seen (parts 32 line))))
 
 abbrev pub go_on : {A B : Type 0} → Result A ScriptFault → (A → Result B ScriptFault) → Result B ScriptFault
 go_on (Ok value) go = go value
@@ -96,7 +100,8 @@ abbrev pub lines_read : Counts → Seen → ℕ → List (List ℕ) → Result (
 lines_read counts seen number [] = Ok ([], seen)
 lines_read counts seen number ([] ∷ []) = Ok ([], seen)
 lines_read counts seen number (line ∷ more) =
-    go_on (text_read counts seen number line) (λ read. ended_by number line more (add_line read (lines_read counts (seen_behind seen read) (number + 1) more)))
+    go_on (text_read counts seen number line)
+        (λ read. ended_by number line more (add_line read (lines_read counts (seen_behind seen read) (number + 1) more)))
 
 -- ---- the whole script
 
@@ -108,7 +113,9 @@ plan_of counts (Ok read) = Ok (the_plan counts (keys_of read.1) read.0)
 plan_of counts (Err fault) = Err fault
 
 abbrev pub store_text_read : ℕ → List ℕ → Result (Option Counts) ScriptFault
-store_text_read number line = measured number line (if is_comment line then Ok None else go_on (at_line number line (ended (read true store_form (parts 32 line)))) (λ counts. Ok (Some counts)))
+store_text_read number line = measured number line
+    (if is_comment line then Ok None else go_on (at_line number line (ended (read true store_form (parts 32 line))))
+    (λ counts. Ok (Some counts)))
 
 abbrev pub behind_store : Option Counts → Result Plan ScriptFault → (Counts → Result Plan ScriptFault) → Result Plan ScriptFault
 behind_store None next found = next
@@ -119,7 +126,9 @@ abbrev pub store_read : ℕ → List (List ℕ) → Result Plan ScriptFault
 store_read number [] = Err (faults.Bad number 1)
 store_read number ([] ∷ []) = Err (faults.Bad number 1)
 store_read number (line ∷ more) =
-    go_on (store_text_read number line) (λ read. ended_by number line more (behind_store read (store_read (number + 1) more) (λ counts. plan_of counts (lines_read counts [] (number + 1) more))))
+    go_on (store_text_read number line)
+        (λ read. ended_by number line more
+        (behind_store read (store_read (number + 1) more) (λ counts. plan_of counts (lines_read counts [] (number + 1) more))))
 
 abbrev pub script_read : List ℕ → Result Plan ScriptFault
 script_read bytes = if nat_lt 67108864 (length bytes) then Err (too_large limits.Script) else store_read 1 (parts 10 bytes)

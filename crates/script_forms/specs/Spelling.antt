@@ -15,7 +15,8 @@ use Rattle.script_forms.specs.Reading.{out_of_state, is_comment}
 
 -- A client does what its state allows, is one of 64, and has its number in first-seen order.
 abbrev pub IsInOrder : Seen → Line → Type 0
-IsInOrder seen (lines.Client client actor act) = (out_of_state seen client (act_words act) ≡ false) × (is_one_too_many seen client ≡ false) × (actor ≡ client_number seen client)
+IsInOrder seen (lines.Client client actor act) = (out_of_state seen client (act_words act) ≡ false) × (is_one_too_many seen client ≡ false)
+    × (actor ≡ client_number seen client)
 IsInOrder seen line = Unit {0}
 
 -- the line may stand behind lines that left the clients so

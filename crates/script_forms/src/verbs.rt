@@ -1,7 +1,7 @@
-ghost use Rattle.std.specs.Prelude.{◌≡◌};
+ghost use Rattle.std.specs.Prelude.{◌≡◌, map};
 ghost use Rattle.std.specs.Str.{bytes_eq};
-ghost use Rattle.script_forms.specs.Served.{serves_path, serves as is_served, serves_world};
-ghost use Rattle.script_forms.specs.Verbs.{path_command as command_of, path_verb_of as path_verb, verb_of as verb, served_verb as served, act_word_of as act_word, world_verb_of as world_verb, served_world as world};
+ghost use Rattle.script_forms.specs.Verbs.{path_command as command_of, served_among as among, served_verb as served};
+ghost use Rattle.script_forms.specs.Verbs.{act_word_of as act_word, served_world as world};
 
 use tect_ids::{Command, Path};
 
@@ -50,46 +50,35 @@ pub enum WorldVerb {
     Dump,
 }
 
-fn serves_path(verb: PathVerb) -> bool
-    ensures { result ≡ serves_path verb }
-{
-    match verb {
-        PathVerb::Look => true,
-        PathVerb::List => true,
-        PathVerb::Create => true,
-        PathVerb::Mkdir => true,
-        PathVerb::Delete => true,
-        PathVerb::Rmdir => false,
-        PathVerb::Drop => false,
-        PathVerb::Seal => false,
-        PathVerb::Open => false,
-        PathVerb::Blocks => false,
-        PathVerb::Read => false,
-    }
-}
+/// A word, what it begins, and whether the store serves that.
+type Row<T> = (&'static str, T, bool);
 
-fn serves(verb: Verb) -> bool
-    ensures { result ≡ is_served verb }
-{
-    match verb {
-        Verb::OnPath(verb) => serves_path(verb),
-        Verb::Rename => true,
-        Verb::Move => false,
-        Verb::Append => false,
-        Verb::Sweep => false,
-        Verb::Repair => false,
-    }
-}
+/// The one table of commands.
+const VERBS: [Row<Verb>; 16] = [
+    ("look", Verb::OnPath(PathVerb::Look), true),
+    ("list", Verb::OnPath(PathVerb::List), true),
+    ("create", Verb::OnPath(PathVerb::Create), true),
+    ("mkdir", Verb::OnPath(PathVerb::Mkdir), true),
+    ("delete", Verb::OnPath(PathVerb::Delete), true),
+    ("rmdir", Verb::OnPath(PathVerb::Rmdir), false),
+    ("drop", Verb::OnPath(PathVerb::Drop), false),
+    ("seal", Verb::OnPath(PathVerb::Seal), false),
+    ("open", Verb::OnPath(PathVerb::Open), false),
+    ("blocks", Verb::OnPath(PathVerb::Blocks), false),
+    ("read", Verb::OnPath(PathVerb::Read), false),
+    ("rename", Verb::Rename, true),
+    ("move", Verb::Move, false),
+    ("append", Verb::Append, false),
+    ("sweep", Verb::Sweep, false),
+    ("repair", Verb::Repair, false),
+];
 
-fn serves_world(verb: WorldVerb) -> bool
-    ensures { result ≡ serves_world verb }
-{
-    match verb {
-        WorldVerb::Sweep => false,
-        WorldVerb::Lose => false,
-        WorldVerb::Dump => true,
-    }
-}
+/// The one table of world lines.
+const WORLD_VERBS: [Row<WorldVerb>; 3] = [
+    ("sweep", WorldVerb::Sweep, false),
+    ("lose", WorldVerb::Lose, false),
+    ("dump", WorldVerb::Dump, true),
+];
 
 /// The command of one path.
 pub fn path_command(verb: PathVerb, path: Path) -> Command
@@ -117,65 +106,23 @@ pub fn is_text(word: &[u8], text: &str) -> bool
     word == text.as_bytes()
 }
 
-fn path_verb_of(word: &[u8]) -> Option<PathVerb>
-    ensures { result ≡ path_verb word.now }
+/// What the word begins, by the first row that has it, if that is served.
+fn served_among<T: Copy>(rows: &[Row<T>], word: &[u8]) -> Option<T>
+    ensures { result ≡ among (map (λ row. (row.0.now, row.1, row.2)) rows.now) word.now }
 {
-    if is_text(word, "look") {
-        Some(PathVerb::Look)
-    } else if is_text(word, "list") {
-        Some(PathVerb::List)
-    } else if is_text(word, "create") {
-        Some(PathVerb::Create)
-    } else if is_text(word, "mkdir") {
-        Some(PathVerb::Mkdir)
-    } else if is_text(word, "delete") {
-        Some(PathVerb::Delete)
-    } else if is_text(word, "rmdir") {
-        Some(PathVerb::Rmdir)
-    } else if is_text(word, "drop") {
-        Some(PathVerb::Drop)
-    } else if is_text(word, "seal") {
-        Some(PathVerb::Seal)
-    } else if is_text(word, "open") {
-        Some(PathVerb::Open)
-    } else if is_text(word, "blocks") {
-        Some(PathVerb::Blocks)
-    } else if is_text(word, "read") {
-        Some(PathVerb::Read)
-    } else {
-        None
-    }
-}
-
-fn verb_of(word: &[u8]) -> Option<Verb>
-    ensures { result ≡ verb word.now }
-{
-    if is_text(word, "rename") {
-        Some(Verb::Rename)
-    } else if is_text(word, "move") {
-        Some(Verb::Move)
-    } else if is_text(word, "append") {
-        Some(Verb::Append)
-    } else if is_text(word, "sweep") {
-        Some(Verb::Sweep)
-    } else if is_text(word, "repair") {
-        Some(Verb::Repair)
-    } else {
-        match path_verb_of(word) {
-            Some(verb) => Some(Verb::OnPath(verb)),
-            None => None,
+    for (text, begun, is_served) in rows {
+        if is_text(word, text) {
+            return if *is_served { Some(*begun) } else { None };
         }
     }
+    None
 }
 
 /// The command that the word begins, if the store serves it.
 pub fn served_verb(word: &[u8]) -> Option<Verb>
     ensures { result ≡ served word.now }
 {
-    match verb_of(word) {
-        Some(verb) => { if serves(verb) { Some(verb) } else { None } }
-        None => None,
-    }
+    served_among(&VERBS, word)
 }
 
 /// What the second word of a client's line begins.
@@ -198,26 +145,9 @@ pub fn act_word_of(word: &[u8]) -> Option<ActWord>
     }
 }
 
-fn world_verb_of(word: &[u8]) -> Option<WorldVerb>
-    ensures { result ≡ world_verb word.now }
-{
-    if is_text(word, "sweep") {
-        Some(WorldVerb::Sweep)
-    } else if is_text(word, "lose") {
-        Some(WorldVerb::Lose)
-    } else if is_text(word, "dump") {
-        Some(WorldVerb::Dump)
-    } else {
-        None
-    }
-}
-
 /// The world line that the word begins, if the store serves it.
 pub fn served_world(word: &[u8]) -> Option<WorldVerb>
     ensures { result ≡ world word.now }
 {
-    match world_verb_of(word) {
-        Some(verb) => { if serves_world(verb) { Some(verb) } else { None } }
-        None => None,
-    }
+    served_among(&WORLD_VERBS, word)
 }

@@ -1,3 +1,11 @@
+pub mod FormLaws
+pub mod WordLaws
+pub mod VerbLaws
+pub mod CommandLaws
+pub mod ActLaws
+pub mod GrammarLaws
+pub mod Visible
+pub mod HonestLaws
 pub mod LineSteps
 pub mod ScriptLaws
 pub mod PlanLaws

@@ -1,5 +1,6 @@
 -- What is written of a plan spells it.
-use Rattle.std.proofs.Common.{◌≡◌, ℕ, ◌≤◌, Bool, true, false, nat_le, List, [], ◌∷◌, ◌++◌, length, map, filter, refl, sym, ap, subst, ◌∙◌, append_assoc, arith}
+use Rattle.std.proofs.Common.{◌≡◌, ℕ, ◌≤◌, Bool, true, false, nat_le, List, [], ◌∷◌, ◌++◌, length, map, filter, refl, sym, ap, subst, ◌∙◌,
+    append_assoc, arith}
 use Rattle.std.specs.List.{list_all, AllByRecursion, flat_map}
 use Rattle.std.proofs.lemmas.Bool.{leb-true, le-leb, ne_eqb, false≢true}
 use Rattle.script_words.specs.Splitting.{splits, parts}
@@ -14,7 +15,7 @@ use Rattle.script_forms.specs.LineForms.{IsLine, AreCounts}
 use Rattle.script_forms.specs.Clients.{Seen, seen_after}
 use Rattle.script_forms.specs.Reading.{is_comment}
 use Rattle.script_forms.specs.Spelling.{AreLines, is_told, plan_lines, IsPlan, Spells, script_text, IsSmall}
-use Rattle.line_laws.proofs.Visible.{is_visible, IsVisible, AreVisible, line_visible, store_visible}
+use Rattle.script_laws.proofs.Visible.{is_visible, IsVisible, AreVisible, line_visible, store_visible}
 
 -- a byte of a line's text: no control character
 abbrev is_plain : ℕ → Bool
@@ -38,7 +39,8 @@ plain_append (x ∷ a) b p q =
 
 behind_plain : (ws : List (List ℕ)) → AreVisible ws → list_all is_plain (behind ws) ≡ true
 behind_plain [] are = refl
-behind_plain (w ∷ ws) are = plain_append (32 ∷ w) (behind ws) (joined (is_plain 32) (list_all is_plain w) refl (visible_plain w are.0)) (behind_plain ws are.1)
+behind_plain (w ∷ ws) are = plain_append (32 ∷ w) (behind ws) (joined (is_plain 32) (list_all is_plain w) refl (visible_plain w are.0))
+    (behind_plain ws are.1)
 
 spaced_plain : (ws : List (List ℕ)) → AreVisible ws → list_all is_plain (spaced ws) ≡ true
 spaced_plain [] are = refl
@@ -62,16 +64,19 @@ line_told counts lines.Dump is = refl
 abbrev IsWritten : List ℕ → Type 0
 IsWritten text = (list_all is_plain text ≡ true) × (is_comment text ≡ false)
 
-written_lines : (counts : Counts) → AreCounts counts → (seen : Seen) (ls : List Line) → AreLines counts seen ls → AllByRecursion IsWritten (map line_text ls)
+written_lines : (counts : Counts) → AreCounts counts → (seen : Seen) (ls : List Line) → AreLines counts seen ls
+    → AllByRecursion IsWritten (map line_text ls)
 written_lines counts are seen [] may = tt
 written_lines counts are seen (l ∷ ls) may =
-    ((spaced_plain (line_words l) (line_visible counts are l may.0.form), line_told counts l may.0.form), written_lines counts are (seen_after seen l) ls may.1)
+    ((spaced_plain (line_words l) (line_visible counts are l may.0.form), line_told counts l may.0.form), written_lines counts are
+        (seen_after seen l) ls may.1)
 
 written_told : (texts : List (List ℕ)) → AllByRecursion IsWritten texts → filter is_told texts ≡ texts
 written_told [] are = refl
 written_told (t ∷ texts) are = rw are.0.1 (ap (λ (ts : List (List ℕ)). t ∷ ts) (written_told texts are.1))
 
-written_parts : (ls : List Line) → AllByRecursion IsWritten (map line_text ls) → parts 10 (flat_map (λ line. line_text line ++ 10 ∷ []) ls) ≡ map line_text ls ++ [] ∷ []
+written_parts : (ls : List Line) → AllByRecursion IsWritten (map line_text ls)
+    → parts 10 (flat_map (λ line. line_text line ++ 10 ∷ []) ls) ≡ map line_text ls ++ [] ∷ []
 written_parts [] are = refl
 written_parts (l ∷ ls) are =
     ap (λ (bs : List ℕ). parts 10 bs) (append_assoc (line_text l) (10 ∷ []) (flat_map (λ line. line_text line ++ 10 ∷ []) ls))
@@ -84,7 +89,9 @@ length-map (l ∷ ls) = omega (arith, length-map ls)
 
 pub script_written : (plan : Plan) → IsPlan plan → IsSmall plan → Spells (script_text plan) plan
 script_written plan is small =
-    let written : AllByRecursion IsWritten (map line_text (plan_lines plan)) = ((spaced_plain (line_words (lines.Store plan.counts)) (store_visible plan.counts is.counts), refl), written_lines plan.counts is.counts [] plan.lines is.lines) in
+    let written : AllByRecursion IsWritten (map line_text (plan_lines plan)) =
+        ((spaced_plain (line_words (lines.Store plan.counts)) (store_visible plan.counts is.counts), refl), written_lines plan.counts
+        is.counts [] plan.lines is.lines) in
     let few = small.few in
     let same = length-map (plan_lines plan) in
     record {

@@ -1,2 +1,4 @@
+pub mod FormReads
+pub mod ClientNames
 pub mod LineByLine
 pub mod PublicLaws

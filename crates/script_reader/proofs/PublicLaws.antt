@@ -13,24 +13,31 @@ use Rattle.script_laws.proofs.PlanLaws.{script_sound, script_complete}
 use Rattle.script_laws.proofs.FaultLaws.{script_wrong}
 use Rattle.script_laws.proofs.WrittenLaws.{script_written}
 
-pub result_spelled : (bytes : List ℕ) (result : Result Plan ScriptFault) → GivesRead result (script_read bytes) → IfOk result (λ plan. Spells bytes plan)
+pub result_spelled : (bytes : List ℕ) (result : Result Plan ScriptFault) → GivesRead result (script_read bytes)
+    → IfOk result (λ plan. Spells bytes plan)
 result_spelled bytes (Ok plan) gives = script_sound bytes plan gives
 result_spelled bytes (Err fault) gives = tt
 
-pub result_complete : (bytes : List ℕ) (plan : Plan) (result : Result Plan ScriptFault) → GivesRead result (script_read bytes) → Spells bytes plan → IsUnlessMemory plan result
+pub result_complete : (bytes : List ℕ) (plan : Plan) (result : Result Plan ScriptFault) → GivesRead result (script_read bytes)
+    → Spells bytes plan → IsUnlessMemory plan result
 result_complete bytes plan (Ok found) gives spells = right_same found plan (sym gives ∙ script_complete bytes plan spells)
 result_complete bytes plan (Err faults.NoMemory) gives spells = refl
-result_complete bytes plan (Err (faults.Bad line column)) gives spells = faulty_right (faults.Bad line column) plan (sym gives ∙ script_complete bytes plan spells)
-result_complete bytes plan (Err (faults.TooLarge what limit)) gives spells = faulty_right (faults.TooLarge what limit) plan (sym gives ∙ script_complete bytes plan spells)
+result_complete bytes plan (Err (faults.Bad line column)) gives spells = faulty_right (faults.Bad line column) plan
+    (sym gives ∙ script_complete bytes plan spells)
+result_complete bytes plan (Err (faults.TooLarge what limit)) gives spells = faulty_right (faults.TooLarge what limit) plan
+    (sym gives ∙ script_complete bytes plan spells)
 
-pub result_written : (bytes : List ℕ) (plan : Plan) (result : Result Plan ScriptFault) → GivesRead result (script_read bytes) → IsPlan plan → IsSmall plan → bytes ≡ script_text plan → IsUnlessMemory plan result
-result_written bytes plan result gives is small text = result_complete bytes plan result gives (subst (λ (bs : List ℕ). Spells bs plan) (sym text) (script_written plan is small))
+pub result_written : (bytes : List ℕ) (plan : Plan) (result : Result Plan ScriptFault) → GivesRead result (script_read bytes) → IsPlan plan
+    → IsSmall plan → bytes ≡ script_text plan → IsUnlessMemory plan result
+result_written bytes plan result gives is small text = result_complete bytes plan result gives
+    (subst (λ (bs : List ℕ). Spells bs plan) (sym text) (script_written plan is small))
 
 fault_first : (bytes : List ℕ) (fault : ScriptFault) → GivesRead (faulty Plan fault) (script_read bytes) → IsFirstFault bytes fault
 fault_first bytes faults.NoMemory gives = tt
 fault_first bytes (faults.Bad line column) gives = script_wrong bytes (faults.Bad line column) gives
 fault_first bytes (faults.TooLarge what limit) gives = script_wrong bytes (faults.TooLarge what limit) gives
 
-pub result_first : (bytes : List ℕ) (result : Result Plan ScriptFault) → GivesRead result (script_read bytes) → IfErr result (λ fault. IsFirstFault bytes fault)
+pub result_first : (bytes : List ℕ) (result : Result Plan ScriptFault) → GivesRead result (script_read bytes)
+    → IfErr result (λ fault. IsFirstFault bytes fault)
 result_first bytes (Ok plan) gives = tt
 result_first bytes (Err fault) gives = fault_first bytes fault gives

@@ -2,8 +2,8 @@
 use Rattle.std.specs.Prelude.{ℕ, ◌≡◌, ◌+◌, ◌-◌, ◌<◌, ◌≤◌, ◌==◌, Bool, false, List, length, Option, Some, None, Result, Ok, Err}
 use Rattle.std.specs.Borrow.{Bor}
 use Rattle.script_words.specs.declared.limits.Limit.TheVariants as limits
-use Rattle.script_lines.specs.declared.faults.LineFault.{LineFault}
-use Rattle.script_lines.specs.declared.faults.LineFault.TheVariants as line_faults
+use Rattle.script_reader.specs.declared.faults.LineFault.{LineFault}
+use Rattle.script_reader.specs.declared.faults.LineFault.TheVariants as line_faults
 use Rattle.script_forms.specs.declared.faults.ScriptFault.{ScriptFault}
 use Rattle.script_forms.specs.declared.faults.ScriptFault.TheVariants as faults
 use Rattle.script_forms.specs.Reading.{too_large}

@@ -2,13 +2,17 @@ ghost use Rattle.std.specs.Prelude.{◌≡◌, ◌∷◌, [], ◌+◌, ◌-◌, 
 ghost use Rattle.script_words.specs.Splitting.{parts, parts_behind};
 ghost use Rattle.script_words.specs.WordList.{spaced_length};
 ghost use Rattle.script_forms.specs.Clients.{seen_after};
-ghost use Rattle.script_forms.specs.Reading.{too_large as fault_of, is_comment as comment, text_read, store_text_read, seen_behind, plan_of, lines_read, store_read, script_read};
+ghost use Rattle.script_forms.specs.Reading.{too_large as fault_of, is_comment as comment, text_read, store_text_read, seen_behind, plan_of,
+    lines_read, store_read, script_read};
 ghost use Rattle.script_reader.specs.GivesPlan.{GivesRead, IsUnlessMemory, IsFaultAt, EndsLine, IsMeasured, ends_script};
 ghost use Rattle.script_forms.specs.Spelling.{Spells, IsPlan, IsSmall, script_text};
 ghost use Rattle.script_forms.specs.FirstFault.{IsFirstFault};
 
+use crate::acts::whole_store;
+use crate::clients::{Clients, names_of};
+use crate::faults::LineFault;
+use crate::lines::read_line;
 use script_forms::ScriptFault;
-use script_lines::{Clients, LineFault, names_of, read_line, whole_store};
 use script_words::{Limit, first_part};
 use std::alloc::Global;
 use tect_ids::{Counts, Items, Line, NoMemory, Plan};

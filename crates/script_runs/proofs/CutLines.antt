@@ -9,17 +9,13 @@ use Rattle.tect_ids.specs.declared.script.Line.{Line}
 use Rattle.tect_ids.specs.declared.script.Line.TheVariants as lines
 use Rattle.world_runs.specs.declared.event.Event.{Event}
 use Rattle.world_runs.specs.declared.event.Event.TheVariants.{Began, Refused, Acted, Ended, Stopped, Failed, Dumped}
-use Rattle.world_runs.specs.Moments.{WorldState, May, opening, after, after_all, RunFrom, moment}
+use Rattle.world_runs.specs.Moments.{WorldState, opening, after, after_all, RunFrom}
 use Rattle.world_runs.specs.Follows.{Acts, IsEndOf, EndsAfter, IsBeginOf, DoesLine, Busy, with_busy, FollowsFrom}
 use Rattle.world_runs.specs.Turns.{Turns, all_idle, with_turn, turn_after, InTurnFrom}
-use Rattle.store_world.specs.Worlds.{Ghost, opening_ghost}
-use Rattle.sound_runs.specs.Known.{AllSound}
-use Rattle.sound_runs.specs.Pasts.{ghost_after, ghosts_after}
-use Rattle.sound_runs.proofs.MomentsKeep.{event_sound, opening_all_sound}
-use Rattle.sound_runs.proofs.RunsKeep.{run_keeps}
-use Rattle.tree_runs.proofs.Histories.{after_all-append, run-front, run-rest, run-append}
+use Rattle.world_runs.proofs.Histories.{run-front, run-rest, run-append}
 use Rattle.world_runs.specs.Standing.{busy_at}
 use Rattle.world_runs.specs.Smooth.{EndsAtOnce}
+use Rattle.world_runs.proofs.Running.{AllWell, opening_well, run_well, event_well}
 use Rattle.script_runs.specs.RunningOut.{RefusesAsFull}
 use Rattle.script_runs.specs.Laws.{EachCutLineCanBeRunOut}
 use Rattle.script_runs.proofs.Moves.{Keeps, acts_move, begin_moves}
@@ -132,14 +128,14 @@ module _ (full : List Event → ℕ → Bool) where
     ends : EndsAfter op n (h ++ end ∷ [])
     refuses : (before : List Event) → RefusesAsFull full before (end ∷ [])
 
-  to_end : (m : WorldState) (g : Ghost) → AllSound m g → (op : OpId) (n : ℕ) (h : List Event) → busy_at m op.actor ≡ Some op → RunFrom m h → Acts op n h → ToEnd m op n h
-  to_end m g s op n h busy run acts =
+  to_end : (m : WorldState) → AllWell m → (op : OpId) (n : ℕ) (h : List Event) → busy_at m op.actor ≡ Some op → RunFrom m h → Acts op n h → ToEnd m op n h
+  to_end m s op n h busy run acts =
       let k : WorldState = after_all m h in
       let moved : Keeps m k op.actor (busy_at m op.actor) = acts_move m op n h acts in
-      let e : EndsNow full k op = busy_ends full k (ghosts_after m g h) (run_keeps h m g s run) op.actor op (moved.busy ∙ busy) in
+      let e : EndsNow full k op = busy_ends full k (run_well h m s run) op.actor op (moved.busy ∙ busy) in
       record { end = e.end; run = run-append m h (e.end ∷ []) run (e.may, tt); ends = (h, e.end, refl, acts, e.ends); refuses = e.refuses }
 
-  module _ (m : WorldState) (g : Ghost) (s : AllSound m g) (a : ℕ) where
+  module _ (m : WorldState) (s : AllWell m) (a : ℕ) where
     -- a command that began
     module _ (c : Command) (op : OpId) (begin : Event) (own : op.actor ≡ a) (is : IsBeginOf op c begin) where
       does_whole : (n : ℕ) (h : List Event) → RunFrom m (begin ∷ h) → EndsAfter op n h → Completes m a None (acts.Do c) (begin ∷ h)
@@ -147,7 +143,7 @@ module _ (full : List Event → ℕ → Bool) where
 
       does_rest : (n : ℕ) (h : List Event) → RunFrom m (begin ∷ h) → Acts op n h → Completes m a None (acts.Do c) (begin ∷ h)
       does_rest n h run acts =
-          let e : ToEnd (after m begin) op n h = to_end (after m begin) (ghost_after m g begin) (event_sound m g begin s run.0) op n h (begin_moves m op c begin is run.0).busy run.1 acts in
+          let e : ToEnd (after m begin) op n h = to_end (after m begin) (event_well m begin s run.0) op n h (begin_moves m op c begin is run.0).busy run.1 acts in
           record {
             tail = e.end ∷ [];
             next = None;
@@ -171,7 +167,7 @@ module _ (full : List Event → ℕ → Bool) where
 
       steps_rest : (n k : ℕ) (h : List Event) → RunFrom m h → k ≤ n → Acts op k h → Completes m a (Some op) (acts.Step n) h
       steps_rest n k h run few acts =
-          let e : ToEnd m op k h = to_end m g s op k h own_busy run acts in
+          let e : ToEnd m op k h = to_end m s op k h own_busy run acts in
           record { tail = e.end ∷ []; next = None; run = e.run; does = inr (k, few, e.ends, refl); at_once = ends_once m op k (h ++ e.end ∷ []) e.ends e.run; refuses = e.refuses }
 
       steps_on : (n k : ℕ) (h tail : List Event) → RunFrom m h → k ≤ n → EndsAfter op k (h ++ tail) → Completes m a (Some op) (acts.Step n) h
@@ -186,7 +182,7 @@ module _ (full : List Event → ℕ → Bool) where
           elim (ends_front op n h tail ends) [
             | inl all ↦ whole m a (Some op) acts.Run h None run ((n, all), refl) (ends_once m op n h all run)
             | inr some ↦
-                let e : ToEnd m op some.count h = to_end m g s op some.count h own_busy run some.acts in
+                let e : ToEnd m op some.count h = to_end m s op some.count h own_busy run some.acts in
                 record { tail = e.end ∷ []; next = None; run = e.run; does = ((some.count, e.ends), refl); at_once = ends_once m op some.count (h ++ e.end ∷ []) e.ends e.run; refuses = e.refuses }
           ]
 
@@ -247,16 +243,16 @@ module _ (full : List Event → ℕ → Bool) where
   from_here : (before : List Event) (m : WorldState) (ls : List Line) → CanRunOut full before m ls → CanFinish before [] m ls
   from_here before m ls c = record { events = c.events; run = c.run; follows = c.follows; at_once = refuses_at_once full before m c.events c.refuses; refuses = c.refuses }
 
-  module _ (client : List ℕ) (a : ℕ) (act : Act) (ls : List Line) (before : List Event) (m : WorldState) (g : Ghost) (turns : Turns) (k : ℕ) (s : AllSound m g)
+  module _ (client : List ℕ) (a : ℕ) (act : Act) (ls : List Line) (before : List Event) (m : WorldState) (turns : Turns) (k : ℕ) (s : AllWell m)
       (in_turn : InTurnFrom turns (lines.Client client a act ∷ ls)) (all : AllStand m turns k) where
     -- the first line began, and the others did not
     line_then : (h : List Event) → k + 1 + length ls < 2 ^ 31 → Completes m a (busy_at m a) act h → CanFinish before h m (lines.Client client a act ∷ ls)
     line_then h few c =
         let part : List Event = h ++ c.tail in
         let n : WorldState = after_all m part in
-        let done : IsDone m n a act c.next = line_does m g s a act part c.next c.run c.does in
+        let done : IsDone m n a act c.next = line_does m s a act part c.next c.run c.does in
         let rest : CanRunOut full (before ++ c.tail) n ls =
-        lines_run_out full ls (before ++ c.tail) n (ghosts_after m g part) (with_turn turns a (turn_after act)) (k + 1) (run_keeps part m g s c.run) in_turn.3
+        lines_run_out full ls (before ++ c.tail) n (with_turn turns a (turn_after act)) (k + 1) (run_well part m s c.run) in_turn.3
         (stand_after m n turns k a act part c.next done c.does in_turn.2 all) few in
         let one : part ++ rest.events ≡ h ++ (c.tail ++ rest.events) = append_assoc h c.tail rest.events in
         record {
@@ -272,7 +268,7 @@ module _ (full : List Event → ℕ → Bool) where
         → EndsAtOnce m (h ++ rest) → CanFinish before (d ∷ tail) (after_all m part) ls → CanFinish before h m (lines.Client client a act ∷ ls)
     line_done_then h rest part next d tail parts mine does at_once f =
         let n : WorldState = after_all m part in
-        let done : IsDone m n a act next = line_does m g s a act part next mine does in
+        let done : IsDone m n a act next = line_does m s a act part next mine does in
         let behind : (es : List Event) → h ++ es ≡ part ++ (d ∷ tail ++ es) = λ es. ap (λ (l : List Event). l ++ es) parts ∙ append_assoc part (d ∷ tail) es in
         let so_far : EndsAtOnce m (part ++ (d ∷ tail ++ rest)) = subst (λ (l : List Event). EndsAtOnce m l) (behind rest) at_once in
         record {
@@ -283,35 +279,35 @@ module _ (full : List Event → ℕ → Bool) where
           refuses = f.refuses;
         }
 
-  cut_run_out : (front back : List Line) (before h rest : List Event) (m : WorldState) (g : Ghost) (turns : Turns) (k : ℕ) → AllSound m g → InTurnFrom turns (front ++ back) → AllStand m turns k
+  cut_run_out : (front back : List Line) (before h rest : List Event) (m : WorldState) (turns : Turns) (k : ℕ) → AllWell m → InTurnFrom turns (front ++ back) → AllStand m turns k
       → k + length (front ++ back) < 2 ^ 31 → RunFrom m h → FollowsFrom (busy_at m) front (h ++ rest) → EndsAtOnce m (h ++ rest) → CanFinish before h m (front ++ back)
-  cut_run_out front back before [] rest m g turns k s in_turn all few run f at_once = from_here before m (front ++ back) (lines_run_out full (front ++ back) before m g turns k s in_turn all few)
-  cut_run_out [] back before (d ∷ h) rest m g turns k s in_turn all few run f at_once = absurd (let z : d ∷ h ++ rest ≡ [] = f in cc)
-  cut_run_out (lines.Client client a act ∷ ls) back before (d ∷ h) rest m g turns k s in_turn all few run f at_once =
+  cut_run_out front back before [] rest m turns k s in_turn all few run f at_once = from_here before m (front ++ back) (lines_run_out full (front ++ back) before m turns k s in_turn all few)
+  cut_run_out [] back before (d ∷ h) rest m turns k s in_turn all few run f at_once = absurd (let z : d ∷ h ++ rest ≡ [] = f in cc)
+  cut_run_out (lines.Client client a act ∷ ls) back before (d ∷ h) rest m turns k s in_turn all few run f at_once =
       elim (fronts (d ∷ h) rest f.0 f.1 f.3) [
         | inl w ↦
-            line_then client a act (ls ++ back) before m g turns k s in_turn all (d ∷ h) (omega (arith, few))
-            (line_on m g s a d h w.tail run (busy_at m a) act f.2 refl (λ op is. (busy_is m g s a op is).own) (subst (λ (l : List Event). DoesLine a (busy_at m a) act l f.2) w.parts f.4))
+            line_then client a act (ls ++ back) before m turns k s in_turn all (d ∷ h) (omega (arith, few))
+            (line_on m s a d h w.tail run (busy_at m a) act f.2 refl (λ op is. (busy_is m s a op is).own) (subst (λ (l : List Event). DoesLine a (busy_at m a) act l f.2) w.parts f.4))
         | inr b ↦
             let part : List Event = f.0 in
             let n : WorldState = after_all m part in
             let both : RunFrom m (part ++ b.first ∷ b.tail) = subst (λ (l : List Event). RunFrom m l) b.parts run in
             let mine : RunFrom m part = run-front m part (b.first ∷ b.tail) both in
-            let done : IsDone m n a act f.2 = line_does m g s a act part f.2 mine f.4 in
+            let done : IsDone m n a act f.2 = line_does m s a act part f.2 mine f.4 in
             let on : FollowsFrom (busy_at n) ls (b.first ∷ b.tail ++ rest) =
             subst (λ (z : Busy). FollowsFrom z ls (b.first ∷ b.tail ++ rest)) (busy_after m n a act f.2 done) (subst (λ (l : List Event). FollowsFrom (with_busy (busy_at m) a f.2) ls l) b.laters f.5) in
             let parts : d ∷ h ++ rest ≡ part ++ (b.first ∷ b.tail ++ rest) = ap (λ (l : List Event). l ++ rest) b.parts ∙ append_assoc part (b.first ∷ b.tail) rest in
             let later : EndsAtOnce n (b.first ∷ b.tail ++ rest) = at_once-rest m part (b.first ∷ b.tail ++ rest) (subst (λ (l : List Event). EndsAtOnce m l) parts at_once) in
-            line_done_then client a act (ls ++ back) before m g turns k s in_turn all (d ∷ h) rest part f.2 b.first b.tail b.parts mine f.4 at_once
-            (cut_run_out ls back before (b.first ∷ b.tail) rest n (ghosts_after m g part) (with_turn turns a (turn_after act)) (k + 1) (run_keeps part m g s mine) in_turn.3
+            line_done_then client a act (ls ++ back) before m turns k s in_turn all (d ∷ h) rest part f.2 b.first b.tail b.parts mine f.4 at_once
+            (cut_run_out ls back before (b.first ∷ b.tail) rest n (with_turn turns a (turn_after act)) (k + 1) (run_well part m s mine) in_turn.3
             (stand_after m n turns k a act part f.2 done f.4 in_turn.2 all) (omega (arith, few)) (run-rest m part (b.first ∷ b.tail) both) on later)
       ]
-  cut_run_out (lines.Dump ∷ ls) back before (d ∷ h) rest m g turns k s in_turn all few run f at_once =
+  cut_run_out (lines.Dump ∷ ls) back before (d ∷ h) rest m turns k s in_turn all few run f at_once =
       let same : d ≡ Dumped = (let z : d ∷ h ++ rest ≡ Dumped ∷ f.0 = f.1 in cc) in
       let others : f.0 ≡ h ++ rest = (let z : d ∷ h ++ rest ≡ Dumped ∷ f.0 = f.1 in cc) in
       let ran : RunFrom m (Dumped ∷ h) = subst (λ (e : Event). RunFrom m (e ∷ h)) same run in
       let once : EndsAtOnce m (Dumped ∷ h ++ rest) = subst (λ (e : Event). EndsAtOnce m (e ∷ h ++ rest)) same at_once in
-      let c : CanFinish before h m (ls ++ back) = cut_run_out ls back before h rest m g turns k s in_turn all (omega (arith, few)) ran.1 (subst (λ (l : List Event). FollowsFrom (busy_at m) ls l) others f.2) once.1 in
+      let c : CanFinish before h m (ls ++ back) = cut_run_out ls back before h rest m turns k s in_turn all (omega (arith, few)) ran.1 (subst (λ (l : List Event). FollowsFrom (busy_at m) ls l) others f.2) once.1 in
       record {
         events = c.events;
         run = subst (λ (e : Event). RunFrom m (e ∷ h ++ c.events)) (sym same) (tt, c.run);
@@ -319,12 +315,12 @@ module _ (full : List Event → ℕ → Bool) where
         at_once = subst (λ (e : Event). EndsAtOnce m (e ∷ h ++ c.events)) (sym same) (tt, c.at_once);
         refuses = c.refuses;
       }
-  cut_run_out (lines.Store counts ∷ ls) back before (d ∷ h) rest m g turns k s in_turn all few run f at_once = absurd f
-  cut_run_out (lines.Sweep ∷ ls) back before (d ∷ h) rest m g turns k s in_turn all few run f at_once = absurd f
-  cut_run_out (lines.Lose disk ∷ ls) back before (d ∷ h) rest m g turns k s in_turn all few run f at_once = absurd f
+  cut_run_out (lines.Store counts ∷ ls) back before (d ∷ h) rest m turns k s in_turn all few run f at_once = absurd f
+  cut_run_out (lines.Sweep ∷ ls) back before (d ∷ h) rest m turns k s in_turn all few run f at_once = absurd f
+  cut_run_out (lines.Lose disk ∷ ls) back before (d ∷ h) rest m turns k s in_turn all few run f at_once = absurd f
 
 pub each_cut_line_can_be_run_out : EachCutLineCanBeRunOut
 each_cut_line_can_be_run_out full counts front back history rest in_turn few run f at_once =
     let c : CanFinish full history history (opening counts) (front ++ back) =
-    cut_run_out full front back history history rest (opening counts) opening_ghost all_idle 0 (opening_all_sound counts) in_turn (opening_stand counts) (omega (arith, few)) run f at_once in
+    cut_run_out full front back history history rest (opening counts) all_idle 0 (opening_well counts) in_turn (opening_stand counts) (omega (arith, few)) run f at_once in
     (c.events, c.run, c.follows, c.at_once, c.refuses)

@@ -10,10 +10,9 @@ use Rattle.world_runs.specs.declared.event.Event.{Event}
 use Rattle.world_runs.specs.declared.event.Event.TheVariants.{Began, Dumped}
 use Rattle.world_runs.specs.Moments.{WorldState, May, opening, after, after_all, RunFrom, answered}
 use Rattle.world_runs.specs.Follows.{Acts, EndsAfter, IsBeginOf, BeginsAndEnds, DoesLine, NoneFails}
-use Rattle.store_world.specs.Worlds.{opening_ghost}
-use Rattle.sound_runs.proofs.MomentsKeep.{opening_all_sound}
-use Rattle.tree_runs.proofs.Histories.{run-front, run-rest, none_fails-front, none_fails-rest, begin_is}
+use Rattle.world_runs.proofs.Histories.{run-front, run-rest, none_fails-front, none_fails-rest, begin_is}
 use Rattle.world_runs.specs.Standing.{busy_at}
+use Rattle.world_runs.proofs.Running.{opening_well}
 use Rattle.script_runs.specs.Laws.{ScriptFixesRun, ScriptWithoutStepsFixesRun}
 use Rattle.script_runs.proofs.SameEnds.{ends_answer, answers_same, acts_same, acts_not_ends}
 use Rattle.script_runs.proofs.Settles.{IsSettled, Settles, follows_settled, settled_without_steps}
@@ -143,12 +142,12 @@ lines_fixed (lines.Lose disk ∷ ls) m d e one two none clean first second = abs
 
 pub script_fixes_run : ScriptFixesRun
 script_fixes_run counts ls one other steps smooth also first second =
-    let settled : Settles (opening counts) ls one = follows_settled ls steps (opening counts) opening_ghost one (opening_all_sound counts) smooth.run smooth.at_once first in
-    let as_well : Settles (opening counts) ls other = follows_settled ls steps (opening counts) opening_ghost other (opening_all_sound counts) also.run also.at_once second in
+    let settled : Settles (opening counts) ls one = follows_settled ls steps (opening counts) one (opening_well counts) smooth.run smooth.at_once first in
+    let as_well : Settles (opening counts) ls other = follows_settled ls steps (opening counts) other (opening_well counts) also.run also.at_once second in
     lines_fixed ls (opening counts) one other smooth.run also.run smooth.none_fails also.none_fails settled as_well
 
 pub script_without_steps_fixes_run : ScriptWithoutStepsFixesRun
 script_without_steps_fixes_run counts ls one other aside run also none clean first second =
-    let settled : Settles (opening counts) ls one = settled_without_steps ls aside (opening counts) opening_ghost one (opening_all_sound counts) run first in
-    let as_well : Settles (opening counts) ls other = settled_without_steps ls aside (opening counts) opening_ghost other (opening_all_sound counts) also second in
+    let settled : Settles (opening counts) ls one = settled_without_steps ls aside (opening counts) one (opening_well counts) run first in
+    let as_well : Settles (opening counts) ls other = settled_without_steps ls aside (opening counts) other (opening_well counts) also second in
     lines_fixed ls (opening counts) one other run also none clean settled as_well

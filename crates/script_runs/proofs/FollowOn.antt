@@ -10,15 +10,12 @@ use Rattle.world_runs.specs.declared.event.Event.TheVariants.{Dumped}
 use Rattle.world_runs.specs.Moments.{WorldState, opening, after_all, RunFrom, moment}
 use Rattle.world_runs.specs.Follows.{DoesLine, Busy, with_busy, FollowsFrom}
 use Rattle.world_runs.specs.Turns.{Turns, all_idle, with_turn, turn_after, turns_after, TakesAct, InTurnFrom}
-use Rattle.store_world.specs.Worlds.{Ghost, opening_ghost}
-use Rattle.sound_runs.specs.Known.{AllSound}
-use Rattle.sound_runs.specs.Pasts.{ghosts_after}
-use Rattle.sound_runs.proofs.MomentsKeep.{opening_all_sound}
-use Rattle.sound_runs.proofs.RunsKeep.{run_keeps}
-use Rattle.tree_runs.proofs.Histories.{after_all-append, run-front, run-rest}
+use Rattle.world_runs.proofs.Histories.{run-front, run-rest}
+use Rattle.world_runs.proofs.Actors.{after_all-append}
 use Rattle.world_runs.specs.Standing.{busy_at}
+use Rattle.world_runs.proofs.Running.{AllWell, opening_well, run_well}
 use Rattle.script_runs.specs.Laws.{RunFollowsOn, Stands, StandsByTurn}
-use Rattle.script_runs.proofs.Moves.{changed}
+use Rattle.world_runs.proofs.Actors.{changed}
 use Rattle.script_runs.proofs.Lines.{IsDone, line_does, busy_after, turn_stands}
 
 -- ---- following on
@@ -33,36 +30,52 @@ moment_by : (m : WorldState) (history part rest : List Event) → history ≡ pa
 moment_by m history part rest parts = ap (after_all m) parts ∙ after_all-append m part rest
 
 -- one line, and then the others
-pub follows_on : (front back : List Line) (m : WorldState) (g : Ghost) (history more : List Event) → AllSound m g → RunFrom m history → FollowsFrom (busy_at m) front history
+pub follows_on : (front back : List Line) (m : WorldState) (history more : List Event) → AllWell m → RunFrom m history → FollowsFrom (busy_at m) front history
     → FollowsFrom (busy_at (after_all m history)) back more → FollowsFrom (busy_at m) (front ++ back) (history ++ more)
-follows_on [] back m g history more s run f then = none_first m back history more f then
-follows_on (lines.Client client a act ∷ ls) back m g history more s run f then =
+follows_on [] back m history more s run f then = none_first m back history more f then
+follows_on (lines.Client client a act ∷ ls) back m history more s run f then =
     let part : List Event = f.0 in
     let rest : List Event = f.1 in
     let whole : RunFrom m (part ++ rest) = rw f.3 at run in
     let mine : RunFrom m part = run-front m part rest whole in
     let n : WorldState = after_all m part in
-    let done : IsDone m n a act f.2 = line_does m g s a act part f.2 mine f.4 in
+    let done : IsDone m n a act f.2 = line_does m s a act part f.2 mine f.4 in
     let busy : with_busy (busy_at m) a f.2 ≡ busy_at n = busy_after m n a act f.2 done in
     let on : FollowsFrom (busy_at n) ls rest = subst (λ (b : Busy). FollowsFrom b ls rest) busy f.5 in
     let last : FollowsFrom (busy_at (after_all n rest)) back more = subst (λ (z : WorldState). FollowsFrom (busy_at z) back more) (moment_by m history part rest f.3) then in
     let more_lines : FollowsFrom (busy_at n) (ls ++ back) (rest ++ more) =
-    follows_on ls back n (ghosts_after m g part) rest more (run_keeps part m g s mine) (run-rest m part rest whole) on last in
+    follows_on ls back n rest more (run_well part m s mine) (run-rest m part rest whole) on last in
     (part, rest ++ more, f.2, ap (λ h. h ++ more) f.3 ∙ append_assoc part rest more, f.4, subst (λ (b : Busy). FollowsFrom b (ls ++ back) (rest ++ more)) (sym busy) more_lines)
-follows_on (lines.Dump ∷ ls) back m g history more s run f then =
+follows_on (lines.Dump ∷ ls) back m history more s run f then =
     let rest : List Event = f.0 in
     let whole : RunFrom m (Dumped ∷ rest) = rw f.1 at run in
     let last : FollowsFrom (busy_at (after_all m rest)) back more = subst (λ (h : List Event). FollowsFrom (busy_at (after_all m h)) back more) f.1 then in
-    (rest ++ more, ap (λ h. h ++ more) f.1, follows_on ls back m g rest more s whole.1 f.2 last)
-follows_on (lines.Store counts ∷ ls) back m g history more s run f then = absurd f
-follows_on (lines.Sweep ∷ ls) back m g history more s run f then = absurd f
-follows_on (lines.Lose disk ∷ ls) back m g history more s run f then = absurd f
+    (rest ++ more, ap (λ h. h ++ more) f.1, follows_on ls back m rest more s whole.1 f.2 last)
+follows_on (lines.Store counts ∷ ls) back m history more s run f then = absurd f
+follows_on (lines.Sweep ∷ ls) back m history more s run f then = absurd f
+follows_on (lines.Lose disk ∷ ls) back m history more s run f then = absurd f
 
 pub run_follows_on : RunFollowsOn
 run_follows_on counts front back history more run f then =
-    follows_on front back (opening counts) opening_ghost history more (opening_all_sound counts) (run-front (opening counts) history more run) f then
+    follows_on front back (opening counts) history more (opening_well counts) (run-front (opening counts) history more run) f then
 
 -- ---- turns
+
+pub turn_front : (front back : List Line) (turns : Turns) → InTurnFrom turns (front ++ back) → InTurnFrom turns front
+turn_front [] back turns t = tt
+turn_front (lines.Client client a act ∷ ls) back turns t = (t.0, t.1, t.2, turn_front ls back (with_turn turns a (turn_after act)) t.3)
+turn_front (lines.Dump ∷ ls) back turns t = turn_front ls back turns t
+turn_front (lines.Store counts ∷ ls) back turns t = absurd t
+turn_front (lines.Sweep ∷ ls) back turns t = absurd t
+turn_front (lines.Lose disk ∷ ls) back turns t = absurd t
+
+pub turn_back : (front back : List Line) (turns : Turns) → InTurnFrom turns (front ++ back) → InTurnFrom (turns_after turns front) back
+turn_back [] back turns t = t
+turn_back (lines.Client client a act ∷ ls) back turns t = turn_back ls back (with_turn turns a (turn_after act)) t.3
+turn_back (lines.Dump ∷ ls) back turns t = turn_back ls back turns t
+turn_back (lines.Store counts ∷ ls) back turns t = absurd t
+turn_back (lines.Sweep ∷ ls) back turns t = absurd t
+turn_back (lines.Lose disk ∷ ls) back turns t = absurd t
 
 -- each actor stands so, and began at most that many commands
 abbrev pub AllStand : WorldState → Turns → ℕ → Type 0
@@ -84,29 +97,29 @@ stand_after m n turns k a act part next done does takes all b =
     other d = rw (done.others b d) record { stands = (all b).stands; began = omega (arith, (all b).began) }
 
 -- so they do after all lines
-pub stand_by_turn : (ls : List Line) (m : WorldState) (g : Ghost) (turns : Turns) (k : ℕ) (history : List Event) → AllSound m g → InTurnFrom turns ls → RunFrom m history → FollowsFrom (busy_at m) ls history
+pub stand_by_turn : (ls : List Line) (m : WorldState) (turns : Turns) (k : ℕ) (history : List Event) → AllWell m → InTurnFrom turns ls → RunFrom m history → FollowsFrom (busy_at m) ls history
     → AllStand m turns k → AllStand (after_all m history) (turns_after turns ls) (k + length ls)
-stand_by_turn [] m g turns k history s in_turn run f all = rw f (λ a. record { stands = (all a).stands; began = omega (arith, (all a).began) })
-stand_by_turn (lines.Client client a act ∷ ls) m g turns k history s in_turn run f all =
+stand_by_turn [] m turns k history s in_turn run f all = rw f (λ a. record { stands = (all a).stands; began = omega (arith, (all a).began) })
+stand_by_turn (lines.Client client a act ∷ ls) m turns k history s in_turn run f all =
     let part : List Event = f.0 in
     let rest : List Event = f.1 in
     let whole : RunFrom m (part ++ rest) = rw f.3 at run in
     let mine : RunFrom m part = run-front m part rest whole in
     let n : WorldState = after_all m part in
-    let done : IsDone m n a act f.2 = line_does m g s a act part f.2 mine f.4 in
+    let done : IsDone m n a act f.2 = line_does m s a act part f.2 mine f.4 in
     let on : FollowsFrom (busy_at n) ls rest = subst (λ (b : Busy). FollowsFrom b ls rest) (busy_after m n a act f.2 done) f.5 in
     let now : AllStand n (with_turn turns a (turn_after act)) (k + 1) = stand_after m n turns k a act part f.2 done f.4 in_turn.2 all in
     let last : AllStand (after_all n rest) (turns_after (with_turn turns a (turn_after act)) ls) (k + 1 + length ls) =
-    stand_by_turn ls n (ghosts_after m g part) (with_turn turns a (turn_after act)) (k + 1) rest (run_keeps part m g s mine) in_turn.3 (run-rest m part rest whole) on now in
+    stand_by_turn ls n (with_turn turns a (turn_after act)) (k + 1) rest (run_well part m s mine) in_turn.3 (run-rest m part rest whole) on now in
     rw (moment_by m history part rest f.3) (λ b. record { stands = (last b).stands; began = omega (arith, (last b).began) })
-stand_by_turn (lines.Dump ∷ ls) m g turns k history s in_turn run f all =
+stand_by_turn (lines.Dump ∷ ls) m turns k history s in_turn run f all =
     let rest : List Event = f.0 in
     let whole : RunFrom m (Dumped ∷ rest) = rw f.1 at run in
-    let last : AllStand (after_all m rest) (turns_after turns ls) (k + length ls) = stand_by_turn ls m g turns k rest s in_turn whole.1 f.2 all in
+    let last : AllStand (after_all m rest) (turns_after turns ls) (k + length ls) = stand_by_turn ls m turns k rest s in_turn whole.1 f.2 all in
     rw f.1 (λ b. record { stands = (last b).stands; began = omega (arith, (last b).began) })
-stand_by_turn (lines.Store counts ∷ ls) m g turns k history s in_turn run f all = absurd f
-stand_by_turn (lines.Sweep ∷ ls) m g turns k history s in_turn run f all = absurd f
-stand_by_turn (lines.Lose disk ∷ ls) m g turns k history s in_turn run f all = absurd f
+stand_by_turn (lines.Store counts ∷ ls) m turns k history s in_turn run f all = absurd f
+stand_by_turn (lines.Sweep ∷ ls) m turns k history s in_turn run f all = absurd f
+stand_by_turn (lines.Lose disk ∷ ls) m turns k history s in_turn run f all = absurd f
 
 -- before any line
 pub opening_stand : (counts : Counts) → AllStand (opening counts) all_idle 0
@@ -115,5 +128,5 @@ opening_stand counts a = record { stands = (refl, refl); began = omega arith }
 pub stands_by_turn : StandsByTurn
 stands_by_turn counts ls history in_turn run f a =
     let last : Stands (turns_after all_idle ls a) (0 + length ls) ((moment counts history).actors a) =
-    stand_by_turn ls (opening counts) opening_ghost all_idle 0 history (opening_all_sound counts) in_turn run f (opening_stand counts) a in
+    stand_by_turn ls (opening counts) all_idle 0 history (opening_well counts) in_turn run f (opening_stand counts) a in
     record { stands = last.stands; began = omega (arith, last.began) }

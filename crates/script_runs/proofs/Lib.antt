@@ -1,9 +1,7 @@
 pub mod Moves
 pub mod Lines
 pub mod FollowOn
-pub mod CanEnd
 pub mod AtOnce
-pub mod RunOn
 pub mod RunOut
 pub mod CutLines
 pub mod SameEnds

@@ -1,22 +1,22 @@
 -- what the line of an actor changes
 use Rattle.std.proofs.Common.{◌≡◌, ◌≢◌, inl, inr, ℕ, ◌+◌, ◌≤◌, true, Option, Some, None, List, [], ◌∷◌, refl, sym, ap, subst, ◌∙◌, arith}
 use Rattle.tect_ids.specs.declared.ids.OpId.{OpId}
+use Rattle.tect_ids.specs.Keys.{op_eq}
+use Rattle.tect_ids.proofs.KeyTests.{op_eq_cases}
 use Rattle.tect_ids.specs.declared.command.Command.{Command}
 use Rattle.tect_ids.specs.declared.script.Act.{Act}
 use Rattle.tect_ids.specs.declared.script.Act.TheVariants as acts
 use Rattle.program_rules.specs.declared.program.Program.{Program}
 use Rattle.world_runs.specs.declared.event.Event.{Event}
 use Rattle.world_runs.specs.declared.event.Event.TheVariants.{Stopped}
-use Rattle.world_runs.specs.Moments.{Actor, WorldState, after, after_all, RunFrom}
+use Rattle.world_runs.specs.Moments.{running, program_of, Actor, WorldState, after, after_all, RunFrom}
 use Rattle.world_runs.specs.Follows.{Acts, EndsAfter, IsBeginOf, BeginsAndEnds, DoesLine, with_busy}
 use Rattle.world_runs.specs.Turns.{ClientTurn, TakesAct, turn_after}
 use Rattle.world_runs.specs.Turns as turns
-use Rattle.sound_runs.specs.Known.{AllSound, Knows}
-use Rattle.sound_runs.specs.Pasts.{world_of}
-use Rattle.sound_runs.proofs.RunsKeep.{knows_of}
-use Rattle.store_world.specs.Worlds.{Ghost}
 use Rattle.world_runs.specs.Standing.{op_of, busy_at, AtTurn}
-use Rattle.script_runs.proofs.Moves.{changed, Moves, Keeps, none_moves, moves_on, acts_move, ends_move, begin_moves, stopped_moves}
+use Rattle.world_runs.proofs.Running.{AllWell}
+use Rattle.world_runs.proofs.Actors.{changed}
+use Rattle.script_runs.proofs.Moves.{Moves, Keeps, none_moves, moves_on, acts_move, ends_move, begin_moves, stopped_moves}
 
 -- ---- the op that an actor is busy with
 
@@ -32,11 +32,20 @@ program_of_op None op e = absurd (let k : None ≡ Some op = e in cc)
 program_of_op (Some p) op e = (p, refl, cc)
 
 -- an op that is busy is its own actor's
-pub busy_is : (m : WorldState) (g : Ghost) → AllSound m g → (a : ℕ) (op : OpId) → busy_at m a ≡ Some op → IsBusy m a op
-busy_is m g s a op is =
+pub busy_is : (m : WorldState) → AllWell m → (a : ℕ) (op : OpId) → busy_at m a ≡ Some op → IsBusy m a op
+busy_is m s a op is =
     let p : (p : Program) × ((m.actors a).running ≡ Some p) × (p.op ≡ op) = program_of_op (m.actors a).running op is in
-    let k : Knows (world_of m g) a (m.actors a).serial (m.actors a).number p.0 = knows_of m g s a p.0 p.1 in
-    record { program = p.0; runs = p.1; its = p.2; own = subst (λ (o : OpId). o.actor ≡ a) p.2 k.own }
+    record { program = p.0; runs = p.1; its = p.2; own = subst (λ (o : OpId). o.actor ≡ a) p.2 (s a p.0 p.1).begun.own }
+
+itself : (op : OpId) → op_eq op op ≡ true
+itself op = grind (arith, op_eq_cases op op)
+
+-- the program runs as its op
+pub runs_as_its_op : (o : Option Program) (p : Program) (op : OpId) → o ≡ Some p → p.op ≡ op → program_of o op ≡ Some p
+runs_as_its_op o p op is its = let yes : op_eq p.op op ≡ true = rw its (itself op) in rw (is, yes) refl
+
+pub busy_runs : (m : WorldState) (a : ℕ) (op : OpId) → (b : IsBusy m a op) → running m op ≡ Some b.program
+busy_runs m a op b = runs_as_its_op (m.actors op.actor).running b.program op (rw b.own b.runs) b.its
 
 -- who is not busy runs nothing
 pub idle_is : (o : Option Program) → op_of o ≡ None → o ≡ None
@@ -119,9 +128,9 @@ line_done m a acts.Stop part (Some op) next is own run d =
     rw (d.0, d.1) (stopped_done m _ a None (subst (λ (i : ℕ). Moves m (after m (Stopped op)) i (m.actors i).number true None) (own op refl) (stopped_moves m op)))
 
 -- the same of a moment of a run
-pub line_does : (m : WorldState) (g : Ghost) → AllSound m g → (a : ℕ) (act : Act) (part : List Event) (next : Option OpId) → RunFrom m part → DoesLine a (busy_at m a) act part next
+pub line_does : (m : WorldState) → AllWell m → (a : ℕ) (act : Act) (part : List Event) (next : Option OpId) → RunFrom m part → DoesLine a (busy_at m a) act part next
     → IsDone m (after_all m part) a act next
-line_does m g s a act part next run d = line_done m a act part (busy_at m a) next refl (λ op is. (busy_is m g s a op is).own) run d
+line_does m s a act part next run d = line_done m a act part (busy_at m a) next refl (λ op is. (busy_is m s a op is).own) run d
 
 -- the busy ops after it
 busy_so : (m n : WorldState) (a : ℕ) (act : Act) (next : Option OpId) → IsDone m n a act next → (b : ℕ) → with_busy (busy_at m) a next b ≡ busy_at n b

@@ -1,9 +1,8 @@
 -- what the events of one op change of the actors
-use Rattle.std.proofs.Common.{◌≡◌, ◌≢◌, ℕ, ◌+◌, eqb, Bool, true, false, if◌then◌else◌, Option, Some, None, List, [], ◌∷◌, refl, sym, ap, subst, ◌∙◌, arith}
+use Rattle.std.proofs.Common.{◌≡◌, ◌≢◌, ℕ, ◌+◌, Bool, true, Option, Some, None, List, [], ◌∷◌, refl, sym, ap, subst, ◌∙◌}
 use Rattle.tect_ids.specs.declared.ids.Counts.{Counts}
 use Rattle.tect_ids.specs.declared.ids.OpId.{OpId}
 use Rattle.tect_ids.specs.declared.command.Command.{Command}
-use Rattle.tect_ids.proofs.KeyTests.{num_eq_cases}
 use Rattle.store_rules.specs.declared.any.AnyReq.{AnyReq}
 use Rattle.store_rules.specs.declared.any.AnyReply.{AnyReply}
 use Rattle.store_rules.specs.Store.{Store, store_step}
@@ -12,20 +11,8 @@ use Rattle.world_runs.specs.declared.event.Event.{Event}
 use Rattle.world_runs.specs.declared.event.Event.TheVariants.{Began, Refused, Acted, Ended, Stopped, Failed, Dumped}
 use Rattle.world_runs.specs.Moments.{Actor, WorldState, May, after, after_all, with_actor, heard, went_on, begun, refused}
 use Rattle.world_runs.specs.Follows.{Acts, IsEndOf, IsBeginOf, EndsAfter}
-use Rattle.tree_runs.proofs.Histories.{after_all-append}
+use Rattle.world_runs.proofs.Actors.{after_all-append, changed, changed_there}
 use Rattle.world_runs.specs.Standing.{op_of, busy_at}
-
--- one value has changed
-pub changed : {X : Type 0} (P : X → Type 0) (others : ℕ → X) (a : ℕ) (x : X) (b : ℕ) → (b ≡ a → P x) → (b ≢ a → P (others b)) → P (if eqb b a then x else others b)
-changed P others a x b here there =
-    elim (eqb b a) as (λ t. eqb b a ≡ t → P (if t then x else others b)) [
-      | true ↦ λ e. here (grind (arith, num_eq_cases))
-      | false ↦ λ e. there (grind (arith, num_eq_cases))
-    ] refl
-
--- and this is it
-pub changed_there : {X : Type 0} (P : X → Type 0) (others : ℕ → X) (a : ℕ) (x : X) → P x → P (if eqb a a then x else others a)
-changed_there P others a x h = changed P others a x a (λ e. h) (λ d. absurd (d refl))
 
 -- from one moment to another nothing but that actor changes: it has this number then, is stopped so, and is busy with this
 pub record Moves (m n : WorldState) (a i : ℕ) (halts : Bool) (op : Option OpId) : Type 0 where

@@ -20,21 +20,15 @@ use Rattle.world_runs.specs.Moments.{WorldState, May, CanBegin, opening, after, 
 use Rattle.world_runs.specs.Follows.{IsEndOf, IsBeginOf, DoesLine, Busy, FollowsFrom}
 use Rattle.world_runs.specs.Turns.{ClientTurn, Turns, all_idle, with_turn, turn_after, turns_after, TakesAct, InTurnFrom}
 use Rattle.world_runs.specs.Turns as turns
-use Rattle.store_world.specs.Worlds.{Ghost, opening_ghost}
-use Rattle.sound_runs.specs.Known.{AllSound}
-use Rattle.sound_runs.specs.Pasts.{ghosts, ghosts_after}
-use Rattle.sound_runs.proofs.MomentsKeep.{opening_all_sound}
-use Rattle.sound_runs.proofs.RunsKeep.{run_keeps, run_all_sound}
-use Rattle.tree_runs.proofs.Histories.{run-append}
+use Rattle.world_runs.proofs.Histories.{run-append}
 use Rattle.world_runs.specs.Standing.{op_of, busy_at, AtTurn}
 use Rattle.world_runs.specs.Smooth.{EndsAtOnce}
+use Rattle.world_runs.proofs.Running.{AllWell, opening_well, run_well, all_well}
 use Rattle.script_runs.specs.RunningOut.{RefusesAsFull}
 use Rattle.script_runs.specs.Laws.{EachScriptCanBeRunOut}
-use Rattle.script_runs.proofs.Moves.{changed_there}
-use Rattle.script_runs.proofs.Lines.{IsBusy, busy_is, IsDone, line_does, busy_after}
-use Rattle.script_runs.proofs.FollowOn.{AllStand, stand_after, stand_by_turn, opening_stand, run_follows_on}
-use Rattle.script_runs.proofs.CanEnd.{runs_as_its_op, busy_runs}
-use Rattle.script_runs.proofs.RunOn.{turn_front, turn_back}
+use Rattle.world_runs.proofs.Actors.{changed_there}
+use Rattle.script_runs.proofs.Lines.{IsBusy, busy_is, busy_runs, runs_as_its_op, IsDone, line_does, busy_after}
+use Rattle.script_runs.proofs.FollowOn.{turn_front, turn_back, AllStand, stand_after, stand_by_turn, opening_stand, run_follows_on}
 
 module _ (full : List Event → ℕ → Bool) where
   -- ---- one list of such events after another
@@ -80,8 +74,8 @@ module _ (full : List Event → ℕ → Bool) where
       at None says = record { end = Failed op answers.NoMemory; may = (tt, (p, runs)); ends = refl; refuses = λ before. (refl, tt) }
 
   -- the end of the op that an actor is busy with
-  pub busy_ends : (m : WorldState) (g : Ghost) → AllSound m g → (a : ℕ) (op : OpId) → busy_at m a ≡ Some op → EndsNow m op
-  busy_ends m g s a op is = let busy : IsBusy m a op = busy_is m g s a op is in ends_now m op busy.program (busy_runs m a op busy)
+  pub busy_ends : (m : WorldState) → AllWell m → (a : ℕ) (op : OpId) → busy_at m a ≡ Some op → EndsNow m op
+  busy_ends m s a op is = let busy : IsBusy m a op = busy_is m s a op is in ends_now m op busy.program (busy_runs m a op busy)
 
   -- ---- a line
 
@@ -155,23 +149,23 @@ module _ (full : List Event → ℕ → Bool) where
       refuses = refuses-append before (begins.begin ∷ []) (ends.end ∷ []) begins.refuses (ends.refuses (before ++ begins.begin ∷ []));
     }
 
-  module _ (before : List Event) (m : WorldState) (g : Ghost) (s : AllSound m g) (a : ℕ) where
+  module _ (before : List Event) (m : WorldState) (s : AllWell m) (a : ℕ) where
     step_can : (n : ℕ) (busy : Option OpId) → busy_at m a ≡ busy → CanDo before m a busy (acts.Step n)
     step_can n None is = nothing before m a None None (acts.Step n) (refl, refl)
     step_can n (Some op) is =
-        let e : EndsNow m op = busy_ends m g s a op is in
+        let e : EndsNow m op = busy_ends m s a op is in
         record { events = e.end ∷ []; next = None; run = (e.may, tt); does = inr (0, omega arith, ([], e.end, refl, refl, e.ends), refl); refuses = e.refuses before }
 
     run_can : (busy : Option OpId) → busy_at m a ≡ busy → CanDo before m a busy acts.Run
     run_can None is = nothing before m a None None acts.Run (refl, refl)
     run_can (Some op) is =
-        let e : EndsNow m op = busy_ends m g s a op is in
+        let e : EndsNow m op = busy_ends m s a op is in
         record { events = e.end ∷ []; next = None; run = (e.may, tt); does = ((0, ([], e.end, refl, refl, e.ends)), refl); refuses = e.refuses before }
 
     stop_can : (busy : Option OpId) → busy_at m a ≡ busy → CanDo before m a busy acts.Stop
     stop_can None is = nothing before m a None None acts.Stop (refl, refl)
     stop_can (Some op) is =
-        let busy : IsBusy m a op = busy_is m g s a op is in
+        let busy : IsBusy m a op = busy_is m s a op is in
         record { events = Stopped op ∷ []; next = None; run = ((busy.program, busy_runs m a op busy), tt); does = (refl, refl); refuses = tt }
 
     -- any line in turn
@@ -199,15 +193,15 @@ module _ (full : List Event → ℕ → Bool) where
     pub follows : FollowsFrom (busy_at m) ls events
     pub refuses : RefusesAsFull full before events
 
-  pub lines_run_out : (ls : List Line) (before : List Event) (m : WorldState) (g : Ghost) (turns : Turns) (k : ℕ) → AllSound m g → InTurnFrom turns ls → AllStand m turns k → k + length ls < 2 ^ 31
+  pub lines_run_out : (ls : List Line) (before : List Event) (m : WorldState) (turns : Turns) (k : ℕ) → AllWell m → InTurnFrom turns ls → AllStand m turns k → k + length ls < 2 ^ 31
       → CanRunOut before m ls
-  lines_run_out [] before m g turns k s in_turn all few = record { events = []; run = tt; follows = refl; refuses = tt }
-  lines_run_out (lines.Client client a act ∷ ls) before m g turns k s in_turn all few =
-      let d : CanDo before m a (busy_at m a) act = line_can before m g s a (turns a) act in_turn.0 in_turn.1 in_turn.2 (all a).stands (omega (arith, (all a).began, few)) in
+  lines_run_out [] before m turns k s in_turn all few = record { events = []; run = tt; follows = refl; refuses = tt }
+  lines_run_out (lines.Client client a act ∷ ls) before m turns k s in_turn all few =
+      let d : CanDo before m a (busy_at m a) act = line_can before m s a (turns a) act in_turn.0 in_turn.1 in_turn.2 (all a).stands (omega (arith, (all a).began, few)) in
       let n : WorldState = after_all m d.events in
-      let done : IsDone m n a act d.next = line_does m g s a act d.events d.next d.run d.does in
+      let done : IsDone m n a act d.next = line_does m s a act d.events d.next d.run d.does in
       let rest : CanRunOut (before ++ d.events) n ls =
-      lines_run_out ls (before ++ d.events) n (ghosts_after m g d.events) (with_turn turns a (turn_after act)) (k + 1) (run_keeps d.events m g s d.run) in_turn.3
+      lines_run_out ls (before ++ d.events) n (with_turn turns a (turn_after act)) (k + 1) (run_well d.events m s d.run) in_turn.3
       (stand_after m n turns k a act d.events d.next done d.does in_turn.2 all) (omega (arith, few)) in
       record {
         events = d.events ++ rest.events;
@@ -215,19 +209,19 @@ module _ (full : List Event → ℕ → Bool) where
         follows = (d.events, rest.events, d.next, refl, d.does, subst (λ (b : Busy). FollowsFrom b ls rest.events) (sym (busy_after m n a act d.next done)) rest.follows);
         refuses = refuses-append before d.events rest.events d.refuses rest.refuses;
       }
-  lines_run_out (lines.Dump ∷ ls) before m g turns k s in_turn all few =
-      let rest : CanRunOut (before ++ Dumped ∷ []) m ls = lines_run_out ls (before ++ Dumped ∷ []) m g turns k s in_turn all (omega (arith, few)) in
+  lines_run_out (lines.Dump ∷ ls) before m turns k s in_turn all few =
+      let rest : CanRunOut (before ++ Dumped ∷ []) m ls = lines_run_out ls (before ++ Dumped ∷ []) m turns k s in_turn all (omega (arith, few)) in
       record { events = Dumped ∷ rest.events; run = (tt, rest.run); follows = (rest.events, refl, rest.follows); refuses = rest.refuses }
-  lines_run_out (lines.Store counts ∷ ls) before m g turns k s in_turn all few = absurd in_turn
-  lines_run_out (lines.Sweep ∷ ls) before m g turns k s in_turn all few = absurd in_turn
-  lines_run_out (lines.Lose disk ∷ ls) before m g turns k s in_turn all few = absurd in_turn
+  lines_run_out (lines.Store counts ∷ ls) before m turns k s in_turn all few = absurd in_turn
+  lines_run_out (lines.Sweep ∷ ls) before m turns k s in_turn all few = absurd in_turn
+  lines_run_out (lines.Lose disk ∷ ls) before m turns k s in_turn all few = absurd in_turn
 
 pub each_script_can_be_run_out : EachScriptCanBeRunOut
 each_script_can_be_run_out full counts front back history in_turn few run f =
     let all : AllStand (moment counts history) (turns_after all_idle front) (0 + length front) =
-    stand_by_turn front (opening counts) opening_ghost all_idle 0 history (opening_all_sound counts) (turn_front front back all_idle in_turn) run f (opening_stand counts) in
+    stand_by_turn front (opening counts) all_idle 0 history (opening_well counts) (turn_front front back all_idle in_turn) run f (opening_stand counts) in
     let rest : CanRunOut full history (moment counts history) back =
-    lines_run_out full back history (moment counts history) (ghosts counts history) (turns_after all_idle front) (0 + length front) (run_all_sound counts history run) (turn_back front back all_idle in_turn) all
+    lines_run_out full back history (moment counts history) (turns_after all_idle front) (0 + length front) (all_well counts history run) (turn_back front back all_idle in_turn) all
     (omega (arith, few, length-append front back)) in
     let whole : IsWorldRun counts (history ++ rest.events) = run-append (opening counts) history rest.events run rest.run in
     (rest.events, whole, run_follows_on counts front back history rest.events whole f rest.follows, refuses_at_once full history (moment counts history) rest.events rest.refuses, rest.refuses)

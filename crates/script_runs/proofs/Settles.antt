@@ -12,14 +12,13 @@ use Rattle.world_runs.specs.declared.event.Event.{Event}
 use Rattle.world_runs.specs.declared.event.Event.TheVariants.{Began, Refused, Acted, Ended, Stopped, Failed, Dumped}
 use Rattle.world_runs.specs.Moments.{WorldState, after, after_all, RunFrom, answered}
 use Rattle.world_runs.specs.Follows.{Acts, IsEndOf, IsBeginOf, EndsAfter, DoesLine, Busy, with_busy, FollowsFrom}
-use Rattle.store_world.specs.Worlds.{Ghost}
-use Rattle.sound_runs.specs.Known.{AllSound}
-use Rattle.sound_runs.specs.Pasts.{ghosts_after}
-use Rattle.sound_runs.proofs.RunsKeep.{run_keeps}
-use Rattle.tree_runs.proofs.Histories.{after_all-append, run-front, run-rest}
+use Rattle.world_runs.proofs.Histories.{run-front, run-rest}
+use Rattle.world_runs.proofs.Actors.{after_all-append}
 use Rattle.world_runs.specs.Standing.{busy_at}
 use Rattle.world_runs.specs.Smooth.{EndIsNext, EndsAtOnce, StepsOn, AllStepOn, IsNoStep, NoneSteps}
-use Rattle.script_runs.proofs.Moves.{changed, Keeps, end_moves}
+use Rattle.world_runs.proofs.Running.{AllWell, run_well}
+use Rattle.world_runs.proofs.Actors.{changed}
+use Rattle.script_runs.proofs.Moves.{Keeps, end_moves}
 use Rattle.script_runs.proofs.Lines.{busy_is, IsDone, keeps_done, line_does, busy_after}
 use Rattle.script_runs.proofs.AtOnce.{at_once-rest}
 
@@ -114,7 +113,7 @@ not_first op e d rest part later ds end parts is =
 
 -- ---- an end that comes before its line
 
-module _ (n : WorldState) (g : Ghost) (s : AllSound n g) (a : ℕ) (op : OpId) (is : busy_at n a ≡ Some op) (e : Event) (end : IsEndOf op e) where
+module _ (n : WorldState) (s : AllWell n) (a : ℕ) (op : OpId) (is : busy_at n a ≡ Some op) (e : Event) (end : IsEndOf op e) where
   -- its own actor's line is over by it
   record IsOver (act : Act) (next : Option OpId) (rest later : List Event) : Type 0 where
     alone : rest ≡ later
@@ -136,7 +135,7 @@ module _ (n : WorldState) (g : Ghost) (s : AllSound n g) (a : ℕ) (op : OpId) (
   not_others : (c : ℕ) (o : OpId) → c ≢ a → o.actor ≡ c → IsEndOf o e → ⊥
   not_others c o apart own ends =
       let same : o ≡ op = end_of_one op o e end ends in
-      apart (sym own ∙ ap (λ (z : OpId). z.actor) same ∙ (busy_is n g s a op is).own)
+      apart (sym own ∙ ap (λ (z : OpId). z.actor) same ∙ (busy_is n s a op is).own)
 
   -- another actor's line does nothing then
   other_none : (c : ℕ) (busy : Option OpId) (act : Act) (part later rest : List Event) (next : Option OpId) → c ≢ a → ((o : OpId) → busy ≡ Some o → o.actor ≡ c) → e ∷ rest ≡ part ++ later
@@ -181,10 +180,10 @@ module _ (n : WorldState) (g : Ghost) (s : AllSound n g) (a : ℕ) (op : OpId) (
   other_without : (client : List ℕ) (c : ℕ) (act : Act) (ls : List Line) (part later rest : List Event) (next : Option OpId) → c ≢ a → WithoutEnd ls → e ∷ rest ≡ part ++ later
       → DoesLine c (busy_at n c) act part next → FollowsFrom (with_busy (busy_at n) c next) ls later → FollowsFrom (with_busy (busy_at n) a None) (lines.Client client c act ∷ ls) rest
   other_without client c act ls part later rest next apart others parts does more =
-      let none : part ≡ [] = other_none c (busy_at n c) act part later rest next apart (λ o at. (busy_is n g s c o at).own) parts does in
+      let none : part ≡ [] = other_none c (busy_at n c) act part later rest next apart (λ o at. (busy_is n s c o at).own) parts does in
       let idle : DoesLine c (busy_at n c) act [] next = subst (λ (l : List Event). DoesLine c (busy_at n c) act l next) none does in
       let all : e ∷ rest ≡ later = parts ∙ ap (λ l. l ++ later) none in
-      let same : with_busy (busy_at n) c next ≡ busy_at n = busy_after n n c act next (line_does n g s c act [] next tt idle) in
+      let same : with_busy (busy_at n) c next ≡ busy_at n = busy_after n n c act next (line_does n s c act [] next tt idle) in
       let here : FollowsFrom (busy_at n) ls (e ∷ rest) = subst (λ (b : Busy). FollowsFrom b ls (e ∷ rest)) same (subst (λ (l : List Event). FollowsFrom (with_busy (busy_at n) c next) ls l) (sym all) more) in
       let both : with_busy (with_busy (busy_at n) a None) c next ≡ with_busy (busy_at n) a None =
       swap (busy_at n) a c None next apart ∙ ap (λ (b : Busy). with_busy b a None) same in
@@ -278,9 +277,9 @@ step_acts a (Some o) k part op (inr d) = absurd (let z : Some op ≡ None = d.3 
 
 -- all lines of a list can be settled
 abbrev CanSettle : List Line → Type 0
-CanSettle ls = (m : WorldState) (g : Ghost) (es : List Event) → AllSound m g → RunFrom m es → EndsAtOnce m es → FollowsFrom (busy_at m) ls es → Settles m ls es
+CanSettle ls = (m : WorldState) (es : List Event) → AllWell m → RunFrom m es → EndsAtOnce m es → FollowsFrom (busy_at m) ls es → Settles m ls es
 
-module _ (client : List ℕ) (ls : List Line) (some : AllStepOn ls) (others : CanSettle ls) (m : WorldState) (g : Ghost) (s : AllSound m g) (a k : ℕ) (steps : 1 ≤ k) where
+module _ (client : List ℕ) (ls : List Line) (some : AllStepOn ls) (others : CanSettle ls) (m : WorldState) (s : AllWell m) (a k : ℕ) (steps : 1 ≤ k) where
   -- the end that comes next is the step's
   takes_end : (part rest : List Event) (op : OpId) (x : Answer) → RunFrom m (part ++ rest) → EndsAtOnce m (part ++ rest) → DoesLine a (busy_at m a) (acts.Step k) part (Some op)
       → FollowsFrom (busy_at (after_all m part)) ls rest → busy_at (after_all m part) a ≡ Some op → EndIsNext op rest → Settles m (lines.Client client a (acts.Step k) ∷ ls) (part ++ rest)
@@ -288,8 +287,8 @@ module _ (client : List ℕ) (ls : List Line) (some : AllStepOn ls) (others : Ca
   takes_end part (e ∷ rest) op x run all does more busy next =
       let did : (busy_at m a ≡ Some op) × Acts op k part = step_acts a (busy_at m a) k part op does in
       let n : WorldState = after_all m part in
-      let there : AllSound n (ghosts_after m g part) = run_keeps part m g s (run-front m part (e ∷ rest) run) in
-      let own : op.actor ≡ a = (busy_is m g s a op did.0).own in
+      let there : AllWell n = run_well part m s (run-front m part (e ∷ rest) run) in
+      let own : op.actor ≡ a = (busy_is m s a op did.0).own in
       let whole : List Event = part ++ e ∷ [] in
       let parts : part ++ e ∷ rest ≡ whole ++ rest = sym (append_assoc part (e ∷ []) rest) in
       let last : after_all m whole ≡ after n e = after_all-append m part (e ∷ []) in
@@ -299,9 +298,9 @@ module _ (client : List ℕ) (ls : List Line) (some : AllStepOn ls) (others : Ca
       let idle : with_busy (busy_at n) a None ≡ busy_at (after_all m whole) =
       busy_after n (after n e) a acts.Run None (keeps_done n (after n e) a acts.Run None keeps) ∙ ap busy_at (sym last) in
       let on : FollowsFrom (busy_at (after_all m whole)) ls rest =
-      subst (λ (b : Busy). FollowsFrom b ls rest) idle (without_end n (ghosts_after m g part) there a op busy e next ls some rest more) in
+      subst (λ (b : Busy). FollowsFrom b ls rest) idle (without_end n there a op busy e next ls some rest more) in
       let settled : Settles (after_all m whole) ls rest =
-      others (after_all m whole) (ghosts_after m g whole) rest (run_keeps whole m g s (run-front m whole rest runs)) (run-rest m whole rest runs) (at_once-rest m whole rest at_once) on in
+      others (after_all m whole) rest (run_well whole m s (run-front m whole rest runs)) (run-rest m whole rest runs) (at_once-rest m whole rest at_once) on in
       (whole, rest, None, parts, subst (λ (o : Option OpId). DoesLine a o (acts.Step k) whole None) (sym did.0) (inr (k, omega arith, (part, e, refl, did.1, next), refl)), tt, settled)
 
   leaves_end : (part rest : List Event) (op : OpId) (x : Answer) → RunFrom m (part ++ rest) → EndsAtOnce m (part ++ rest) → DoesLine a (busy_at m a) (acts.Step k) part (Some op)
@@ -311,36 +310,36 @@ module _ (client : List ℕ) (ls : List Line) (some : AllStepOn ls) (others : Ca
       takes_end part rest op x run all does more busy (end_follows_acts m op k part rest x steps (step_acts a (busy_at m a) k part op does).1 all says)
 
 -- a line
-module _ (client : List ℕ) (a : ℕ) (act : Act) (ls : List Line) (some : AllStepOn (lines.Client client a act ∷ ls)) (others : CanSettle ls) (m : WorldState) (g : Ghost) (s : AllSound m g) where
+module _ (client : List ℕ) (a : ℕ) (act : Act) (ls : List Line) (some : AllStepOn (lines.Client client a act ∷ ls)) (others : CanSettle ls) (m : WorldState) (s : AllWell m) where
   line_settles : (part rest : List Event) (next : Option OpId) → RunFrom m (part ++ rest) → EndsAtOnce m (part ++ rest) → DoesLine a (busy_at m a) act part next
       → FollowsFrom (with_busy (busy_at m) a next) ls rest → Settles m (lines.Client client a act ∷ ls) (part ++ rest)
   line_settles part rest next run all does more =
       let mine : RunFrom m part = run-front m part rest run in
       let n : WorldState = after_all m part in
-      let done : IsDone m n a act next = line_does m g s a act part next mine does in
+      let done : IsDone m n a act next = line_does m s a act part next mine does in
       let on : FollowsFrom (busy_at n) ls rest = subst (λ (b : Busy). FollowsFrom b ls rest) (busy_after m n a act next done) more in
       elim (settled_or n act next) [
-        | inl settled ↦ (part, rest, next, refl, does, settled, others n (ghosts_after m g part) rest (run_keeps part m g s mine) (run-rest m part rest run) (at_once-rest m part rest all) on)
+        | inl settled ↦ (part, rest, next, refl, does, settled, others n rest (run_well part m s mine) (run-rest m part rest run) (at_once-rest m part rest all) on)
         | inr l ↦
             let steps : 1 ≤ l.count = subst (λ (z : Act). StepsOn (lines.Client client a z)) l.step some.0 in
             let step : DoesLine a (busy_at m a) (acts.Step l.count) part (Some l.op) =
             subst (λ (z : Act). DoesLine a (busy_at m a) z part (Some l.op)) l.step (subst (λ (o : Option OpId). DoesLine a (busy_at m a) act part o) l.goes_on does) in
             subst (λ (z : Act). Settles m (lines.Client client a z ∷ ls) (part ++ rest)) (sym l.step)
-            (leaves_end client ls some.1 others m g s a l.count steps part rest l.op l.answer run all step l.says on (done.busy ∙ l.goes_on))
+            (leaves_end client ls some.1 others m s a l.count steps part rest l.op l.answer run all step l.says on (done.busy ∙ l.goes_on))
       ]
 
 pub follows_settled : (ls : List Line) → AllStepOn ls → CanSettle ls
-follows_settled [] some m g es s run all f = f
-follows_settled (lines.Client client a act ∷ ls) some m g es s run all f =
+follows_settled [] some m es s run all f = f
+follows_settled (lines.Client client a act ∷ ls) some m es s run all f =
     subst (λ (l : List Event). Settles m (lines.Client client a act ∷ ls) l) (sym f.3)
-    (line_settles client a act ls some (follows_settled ls some.1) m g s f.0 f.1 f.2 (rw f.3 at run) (rw f.3 at all) f.4 f.5)
-follows_settled (lines.Dump ∷ ls) some m g es s run all f =
+    (line_settles client a act ls some (follows_settled ls some.1) m s f.0 f.1 f.2 (rw f.3 at run) (rw f.3 at all) f.4 f.5)
+follows_settled (lines.Dump ∷ ls) some m es s run all f =
     let whole : RunFrom m (Dumped ∷ f.0) = rw f.1 at run in
     let at_once : EndsAtOnce m (Dumped ∷ f.0) = rw f.1 at all in
-    (f.0, f.1, follows_settled ls some.1 m g f.0 s whole.1 at_once.1 f.2)
-follows_settled (lines.Store counts ∷ ls) some m g es s run all f = absurd f
-follows_settled (lines.Sweep ∷ ls) some m g es s run all f = absurd f
-follows_settled (lines.Lose disk ∷ ls) some m g es s run all f = absurd f
+    (f.0, f.1, follows_settled ls some.1 m f.0 s whole.1 at_once.1 f.2)
+follows_settled (lines.Store counts ∷ ls) some m es s run all f = absurd f
+follows_settled (lines.Sweep ∷ ls) some m es s run all f = absurd f
+follows_settled (lines.Lose disk ∷ ls) some m es s run all f = absurd f
 
 -- ---- a script without steps
 
@@ -351,15 +350,15 @@ settled_aside n client a (acts.Begin c) next aside = tt
 settled_aside n client a acts.Run next aside = tt
 settled_aside n client a acts.Stop next aside = tt
 
-pub settled_without_steps : (ls : List Line) → NoneSteps ls → (m : WorldState) (g : Ghost) (es : List Event) → AllSound m g → RunFrom m es → FollowsFrom (busy_at m) ls es → Settles m ls es
-settled_without_steps [] aside m g es s run f = f
-settled_without_steps (lines.Client client a act ∷ ls) aside m g es s run f =
+pub settled_without_steps : (ls : List Line) → NoneSteps ls → (m : WorldState) (es : List Event) → AllWell m → RunFrom m es → FollowsFrom (busy_at m) ls es → Settles m ls es
+settled_without_steps [] aside m es s run f = f
+settled_without_steps (lines.Client client a act ∷ ls) aside m es s run f =
     let part : List Event = f.0 in
     let rest : List Event = f.1 in
     let whole : RunFrom m (part ++ rest) = rw f.3 at run in
     let mine : RunFrom m part = run-front m part rest whole in
     let n : WorldState = after_all m part in
-    let done : IsDone m n a act f.2 = line_does m g s a act part f.2 mine f.4 in
+    let done : IsDone m n a act f.2 = line_does m s a act part f.2 mine f.4 in
     let on : FollowsFrom (busy_at n) ls rest = subst (λ (b : Busy). FollowsFrom b ls rest) (busy_after m n a act f.2 done) f.5 in (
       part,
       rest,
@@ -367,11 +366,11 @@ settled_without_steps (lines.Client client a act ∷ ls) aside m g es s run f =
       f.3,
       f.4,
       settled_aside n client a act f.2 aside.0,
-      settled_without_steps ls aside.1 n (ghosts_after m g part) rest (run_keeps part m g s mine) (run-rest m part rest whole) on,
+      settled_without_steps ls aside.1 n rest (run_well part m s mine) (run-rest m part rest whole) on,
     )
-settled_without_steps (lines.Dump ∷ ls) aside m g es s run f =
+settled_without_steps (lines.Dump ∷ ls) aside m es s run f =
     let whole : RunFrom m (Dumped ∷ f.0) = rw f.1 at run in
-    (f.0, f.1, settled_without_steps ls aside.1 m g f.0 s whole.1 f.2)
-settled_without_steps (lines.Store counts ∷ ls) aside m g es s run f = absurd f
-settled_without_steps (lines.Sweep ∷ ls) aside m g es s run f = absurd f
-settled_without_steps (lines.Lose disk ∷ ls) aside m g es s run f = absurd f
+    (f.0, f.1, settled_without_steps ls aside.1 m f.0 s whole.1 f.2)
+settled_without_steps (lines.Store counts ∷ ls) aside m es s run f = absurd f
+settled_without_steps (lines.Sweep ∷ ls) aside m es s run f = absurd f
+settled_without_steps (lines.Lose disk ∷ ls) aside m es s run f = absurd f

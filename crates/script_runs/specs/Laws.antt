@@ -27,15 +27,6 @@ StandsByTurn =
     (counts : Counts) (lines : List Line) (history : List Event) → InTurn lines → IsWorldRun counts history → Follows lines history
     → (actor : ℕ) → Stands (turns_after all_idle lines actor) (length lines) ((moment counts history).actors actor)
 
--- A run that follows the front of a script in turn can go on to follow the whole, and no command fails or is refused, and each
--- ends at once from there on.
-abbrev pub EachScriptCanBeRunOn : Type 0
-EachScriptCanBeRunOn =
-    (counts : Counts) (front back : List Line) (history : List Event) → InTurn (front ++ back) → length (front ++ back) < 2 ^ 31
-    → IsWorldRun counts history → Follows front history
-    → (more : List Event) × IsWorldRun counts (history ++ more) × Follows (front ++ back) (history ++ more) × NoneFails more
-    × EndsAtOnce (moment counts history) more
-
 -- A run that follows the front of a script in turn can be brought to the script's end without a further transaction: each
 -- command that is still to end fails for want of memory, or ends with the answer that it has; and a begin is refused exactly
 -- where this test of the events so far and the actor says so.

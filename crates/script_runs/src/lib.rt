@@ -1,9 +1,16 @@
-//! Laws of scripts and runs of the world: how a run follows a script on, that each script in turn can be run on from any
-//! moment at which it stands, or brought to its end without a further transaction, and what a script fixes of its runs.
-//! Nothing here is called: each function's contract is a law.
+//! Laws of scripts and runs of the world: how a run follows a script on, that each script in turn can be brought to its end
+//! without a further transaction, and what a script fixes of its runs. They tell of the events alone, and not of what the store
+//! keeps. Nothing here is called: each function's contract is a law.
 #![tactic(auto)]
 
-ghost use Rattle.script_runs.specs.Laws.{RunFollowsOn, StandsByTurn, EachScriptCanBeRunOn, EachScriptCanBeRunOut, EachCutLineCanBeRunOut, ScriptFixesRun, ScriptWithoutStepsFixesRun};
+ghost use Rattle.script_runs.specs.Laws.{
+  RunFollowsOn,
+  StandsByTurn,
+  EachScriptCanBeRunOut,
+  EachCutLineCanBeRunOut,
+  ScriptFixesRun,
+  ScriptWithoutStepsFixesRun,
+};
 
 /// Where a run of the world follows some lines, and what comes after follows further lines from the ops that are then busy,
 /// the whole follows all lines.
@@ -16,12 +23,6 @@ pub fn run_follows_on()
 /// has lines.
 pub fn stands_by_turn()
     ensures { StandsByTurn }
-{}
-
-/// A run of the world that follows the front of a script in turn can go on to follow the whole script, and on the way
-/// no command fails or is refused, and each ends at once when it has come to its answer. So each script in turn can be run.
-pub fn each_script_can_be_run_on()
-    ensures { EachScriptCanBeRunOn }
 {}
 
 /// A run of the world that follows the front of a script in turn can be brought to the end of the whole script without a

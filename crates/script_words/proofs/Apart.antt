@@ -19,7 +19,8 @@ module _ (separator : ℕ) (test : ℕ → Bool) (apart : (b : ℕ) → test b �
       let p = both (test b) (list_all test bytes) is in
       rw (apart b p.0, parts_one bytes p.1) refl
 
-  pub parts_first : (at : splits separator separator ≡ true) (bytes more : List ℕ) → list_all test bytes ≡ true → parts separator (bytes ++ separator ∷ more) ≡ bytes ∷ parts separator more
+  pub parts_first : (at : splits separator separator ≡ true) (bytes more : List ℕ) → list_all test bytes ≡ true
+      → parts separator (bytes ++ separator ∷ more) ≡ bytes ∷ parts separator more
   parts_first at [] more is = rw at refl
   parts_first at (b ∷ bytes) more is =
       let p = both (test b) (list_all test bytes) is in

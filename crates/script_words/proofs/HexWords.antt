@@ -1,5 +1,6 @@
 -- Bytes and their words in hexadecimal.
-use Rattle.std.proofs.Common.{◌≡◌, ℕ, ◌+◌, ◌*◌, ◌/◌, ◌%◌, ◌-◌, ◌<◌, ◌≤◌, Bool, true, false, ◌&&◌, ◌||◌, nat_le, nat_lt, List, [], ◌∷◌, length, refl, sym, ap, ◌∙◌, arith, rules, tests, inl, inr}
+use Rattle.std.proofs.Common.{◌≡◌, ℕ, ◌+◌, ◌*◌, ◌/◌, ◌%◌, ◌-◌, ◌<◌, ◌≤◌, Bool, true, false, ◌&&◌, ◌||◌, nat_le, nat_lt, List, [], ◌∷◌,
+    length, refl, sym, ap, ◌∙◌, arith, rules, tests, inl, inr}
 use Rattle.std.specs.List.{AllByRecursion}
 use Rattle.script_words.specs.WordText.{hex_digit, hex_text}
 use Rattle.script_words.specs.WordForm.{is_hex_digit, hex_value, are_hex_pairs, hex_bytes}
@@ -42,7 +43,8 @@ hex_bytes_small (high ∷ low ∷ more) is =
     (small, hex_bytes_small more p.1)
 
 -- the bytes that a text has
-pub bytes_of_text : (bytes : List ℕ) → AllByRecursion (λ (b : ℕ). b < 256) bytes → (are_hex_pairs (hex_text bytes) ≡ true) × (hex_bytes (hex_text bytes) ≡ bytes)
+pub bytes_of_text : (bytes : List ℕ) → AllByRecursion (λ (b : ℕ). b < 256) bytes → (are_hex_pairs (hex_text bytes) ≡ true)
+    × (hex_bytes (hex_text bytes) ≡ bytes)
 bytes_of_text [] small = (refl, refl)
 bytes_of_text (byte ∷ bytes) small =
     let b : byte < 256 = small.0 in
@@ -50,7 +52,8 @@ bytes_of_text (byte ∷ bytes) small =
     let l : byte % 16 < 16 = omega arith in
     let back : byte / 16 * 16 + byte % 16 ≡ byte = omega arith in
     let rest = bytes_of_text bytes small.1 in
-    (rw (digit_is (byte / 16) h, digit_is (byte % 16) l, rest.0) refl, rw (value_back (byte / 16) h, value_back (byte % 16) l, back, rest.1) refl)
+    (rw (digit_is (byte / 16) h, digit_is (byte % 16) l, rest.0) refl, rw (value_back (byte / 16) h, value_back (byte % 16) l, back, rest.1)
+        refl)
 
 pub length-hex_text : (bytes : List ℕ) → length (hex_text bytes) ≡ 2 * length bytes
 length-hex_text [] = refl

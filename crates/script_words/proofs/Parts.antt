@@ -1,5 +1,6 @@
 -- The words of a line, one after another.
-use Rattle.std.proofs.Common.{◌≡◌, ℕ, ◌+◌, ◌<◌, ◌≤◌, Bool, List, [], ◌∷◌, ◌++◌, Option, Some, None, length, take, drop, map, refl, sym, ap, ◌∙◌, append_assoc, arith, inl, inr, ◌⊎◌, length-take, length-drop}
+use Rattle.std.proofs.Common.{◌≡◌, ℕ, ◌+◌, ◌<◌, ◌≤◌, Bool, List, [], ◌∷◌, ◌++◌, Option, Some, None, length, take, drop, map, refl, sym, ap,
+    ◌∙◌, append_assoc, arith, inl, inr, ◌⊎◌, length-take, length-drop}
 use Rattle.std.specs.List.{slice_split, onto_first, position, position_or_len}
 use Rattle.std.specs.Borrow.{Bor}
 use Rattle.std.proofs.lemmas.Bool.{cases_lt, lt-ltb, le-ltb, cases_Bool}
@@ -12,7 +13,9 @@ module _ (separator : ℕ) where
   split_none [] le = refl
   split_none (b ∷ line) le = grind (arith, split_none line)
 
-  position_cases : (line : List ℕ) (o : Option ℕ) → o ≡ position (splits separator) line → ((o ≡ None) × (length line ≤ position_or_len (splits separator) line)) ⊎ ((o ≡ Some (position_or_len (splits separator) line)) × (position_or_len (splits separator) line < length line))
+  position_cases : (line : List ℕ) (o : Option ℕ) → o ≡ position (splits separator) line
+      → ((o ≡ None) × (length line ≤ position_or_len (splits separator) line))
+      ⊎ ((o ≡ Some (position_or_len (splits separator) line)) × (position_or_len (splits separator) line < length line))
   position_cases line o is = elim (cases_lt (position_or_len (splits separator) line) (length line)) [
     | inl lt ↦ inr (is ∙ rw (lt-ltb (position_or_len (splits separator) line) (length line) lt) refl, lt)
     | inr le ↦ inl (is ∙ rw (le-ltb (position_or_len (splits separator) line) (length line) le) refl, le)
@@ -24,7 +27,8 @@ module _ (separator : ℕ) where
     | inr some ↦ absurd (let h = some.0 in cc)
   ]
 
-  pub part_some : (line word : List ℕ) (more : Bor (List ℕ)) (end : ℕ) → Some end ≡ position (splits separator) line → word ≡ take end line → more.now ≡ drop (end + 1) line → IsFirstPart separator line word (Some more)
+  pub part_some : (line word : List ℕ) (more : Bor (List ℕ)) (end : ℕ) → Some end ≡ position (splits separator) line → word ≡ take end line
+      → more.now ≡ drop (end + 1) line → IsFirstPart separator line word (Some more)
   part_some line word more end is word-is more-is = elim (position_cases line (Some end) is) [
     | inl none ↦ absurd (let h = none.0 in cc)
     | inr some ↦

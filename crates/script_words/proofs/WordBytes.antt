@@ -19,7 +19,8 @@ split_behind line = by (parts 32 line) (some line)
       | inr miss ↦ onto (parts 32 l) b miss l refl
     ]
       where
-        onto : (ps : List (List ℕ)) (b : ℕ) → splits 32 b ≡ false → (l : List ℕ) → parts 32 l ≡ ps → (y : List ℕ) × (ys : List (List ℕ)) × (parts 32 (b ∷ l) ≡ y ∷ ys)
+        onto : (ps : List (List ℕ)) (b : ℕ) → splits 32 b ≡ false → (l : List ℕ) → parts 32 l ≡ ps → (y : List ℕ) × (ys : List (List ℕ))
+            × (parts 32 (b ∷ l) ≡ y ∷ ys)
         onto [] b miss l is = (b ∷ [], [], rw (miss, is) refl)
         onto (p ∷ ps) b miss l is = (b ∷ p, ps, rw (miss, is) refl)
 

@@ -1,5 +1,6 @@
 -- The form of each kind of word, and what it says.
-use Rattle.std.specs.Prelude.{ℕ, ◌+◌, ◌-◌, ◌*◌, ◌==◌, nat_le, nat_lt, Bool, true, false, not, ◌&&◌, ◌||◌, List, [], ◌∷◌, length, take, if◌then◌else◌, codes, Option, Some, None, slice_index}
+use Rattle.std.specs.Prelude.{ℕ, ◌+◌, ◌-◌, ◌*◌, ◌==◌, nat_le, nat_lt, Bool, true, false, not, ◌&&◌, ◌||◌, List, [], ◌∷◌, length, take,
+    if◌then◌else◌, codes, Option, Some, None, slice_index}
 use Rattle.std.specs.List.{list_all}
 use Rattle.std.specs.Str.{bytes_eq}
 use Rattle.tect_ids.specs.declared.ids.Layer.{Layer}
@@ -45,7 +46,8 @@ folder_text word = take (folder_end 0 0 word) word
 -- the first limit that the names pass, from the left, behind so many others
 abbrev pub names_fit : ℕ → List (List ℕ) → Fit
 names_fit before [] = Fits
-names_fit before (name ∷ names) = if nat_le 256 before then Over limits.Depth else if nat_lt 255 (length name) then Over limits.Name else names_fit (before + 1) names
+names_fit before (name ∷ names) = if nat_le 256 before then Over limits.Depth else if nat_lt 255 (length name) then Over limits.Name else
+    names_fit (before + 1) names
 
 abbrev pub path_fit : List ℕ → Fit
 path_fit word = if is_path_form word then names_fit 0 (path_names word) else Unfit
@@ -74,7 +76,8 @@ hex_bytes (high ∷ []) = []
 hex_bytes (high ∷ low ∷ more) = (hex_value high * 16 + hex_value low) ∷ hex_bytes more
 
 abbrev pub hex_fit : List ℕ → Fit
-hex_fit word = if nat_lt 0 (length word) && are_hex_pairs word then (if nat_lt 65536 (length word) then Over limits.Block else Fits) else Unfit
+hex_fit word = if nat_lt 0 (length word) && are_hex_pairs word then (if nat_lt 65536 (length word) then Over limits.Block else Fits) else
+    Unfit
 
 -- ---- numbers
 
@@ -99,7 +102,8 @@ number_fit low high word = if is_numeral word && (nat_le low (number_of word) &&
 
 -- a number from 1 on, which may pass that limit
 abbrev pub count_fit : Limit → ℕ → List ℕ → Fit
-count_fit limit most word = if is_numeral word && nat_le 1 (number_of word) then (if nat_le (number_of word) most then Fits else Over limit) else Unfit
+count_fit limit most word = if is_numeral word && nat_le 1 (number_of word) then (if nat_le (number_of word) most then Fits else Over limit)
+    else Unfit
 
 -- ---- names
 
@@ -107,11 +111,13 @@ abbrev pub is_letter : ℕ → Bool
 is_letter b = nat_le 97 b && nat_le b 122
 
 abbrev pub is_world_word : List ℕ → Bool
-is_world_word word = (bytes_eq word (codes "store") || bytes_eq word (codes "sweep")) || (bytes_eq word (codes "lose") || bytes_eq word (codes "dump"))
+is_world_word word = (bytes_eq word (codes "store") || bytes_eq word (codes "sweep"))
+    || (bytes_eq word (codes "lose") || bytes_eq word (codes "dump"))
 
 -- 1 to 16 lower-case letters and digits, beginning with a letter, and no first word of another line
 abbrev pub is_client_name : List ℕ → Bool
-is_client_name word = ((nat_le (length word) 16 && is_letter (slice_index word 0)) && list_all (λ b. is_letter b || is_digit b) word) && not (is_world_word word)
+is_client_name word = ((nat_le (length word) 16 && is_letter (slice_index word 0)) && list_all (λ b. is_letter b || is_digit b) word) && not
+    (is_world_word word)
 
 abbrev pub layer_of : List ℕ → Option Layer
 layer_of word =

@@ -21,7 +21,8 @@ impl<'a> Words<'a> {
 
     /// The next word, which is taken.
     pub fn next(&mut self) -> Option<&'a [u8]>
-        ensures { MatchOption result ((words_left self.old ≡ []) × (words_left self.new ≡ [])) (λ word. words_left self.old ≡ word.now ∷ words_left self.new) }
+        ensures { MatchOption result ((words_left self.old ≡ []) × (words_left self.new ≡ []))
+            (λ word. words_left self.old ≡ word.now ∷ words_left self.new) }
     {
         match self.rest {
             None => None,

@@ -1,11 +1,10 @@
 -- each event keeps what is so at every moment
-use Rattle.std.proofs.Common.{◌≡◌, ℕ, ◌+◌, ◌<◌, ◌≤◌, ◌^◌, [], ◌∷◌, Bool, true, false, eqb, Option, Some, None, refl, arith, sym, subst, if◌then◌else◌}
+use Rattle.std.proofs.Common.{◌≡◌, ℕ, ◌+◌, ◌<◌, ◌≤◌, ◌^◌, [], ◌∷◌, Bool, true, false, eqb, Option, Some, None, refl, arith, subst, if◌then◌else◌}
 use Rattle.tect_ids.specs.declared.ids.Counts.{Counts}
 use Rattle.tect_ids.specs.declared.ids.Node.TheVariants.{Dir, File}
 use Rattle.tect_ids.specs.declared.ids.OpId.{OpId}
 use Rattle.tect_ids.specs.declared.command.Command.{Command}
 use Rattle.tect_ids.specs.declared.command.Command.TheVariants as commands
-use Rattle.tect_ids.specs.Keys.{op_eq}
 use Rattle.tect_ids.proofs.KeyTests.{keys}
 use Rattle.key_maps.proofs.Lookups.{maps}
 use Rattle.store_rules.specs.declared.any.AnyReq.{AnyReq}
@@ -20,12 +19,13 @@ use Rattle.world_runs.specs.declared.event.Event.{Event}
 use Rattle.world_runs.specs.declared.event.Event.TheVariants.{Began, Refused, Acted, Ended, Stopped, Failed, Dumped}
 use Rattle.world_runs.specs.Served.{IsServed}
 use Rattle.program_rules.specs.Lacks.{no_room}
-use Rattle.world_runs.specs.Moments.{Actor, WorldState, CanBegin, May, after, went_on, next_serial, running, asked, program_of, program_ask, opening, with_actor}
+use Rattle.world_runs.specs.Moments.{Actor, WorldState, CanBegin, May, after, went_on, next_serial, opening, with_actor}
 use Rattle.store_world.specs.Worlds.{World, Ghost, next, ghost_next, opening_ghost}
 use Rattle.store_world.specs.Later.{actor_of, Later, Within, by_actor}
 use Rattle.store_world.specs.Requests.{Needs, Kept, touched_by}
 use Rattle.store_world.proofs.Frames.{weaken}
 use Rattle.store_world.proofs.Rows.{row_kept, opening_sound}
+use Rattle.world_runs.proofs.Running.{Asks, asks_by}
 use Rattle.sound_runs.specs.Pasts.{ghost_after, world_of}
 use Rattle.sound_runs.specs.Known.{PhaseKnows, Knows, RunningKnows, IsFresh, ActorSound, AllSound}
 use Rattle.sound_runs.proofs.PhasesAsk.{IsFree, phase_needs, phase_own, phase_later, MakesNoLater}
@@ -219,42 +219,6 @@ module _ (m : WorldState) (g : Ghost) (s : AllSound m g) (a : ℕ) where
     root = s.root;
     actors = λ b. with_cases (λ z. ActorSound (world_of m g) b z) m.actors a _ b (λ e. rw e (rests stopped)) (λ apart. s.actors b);
   }
-
--- the program of an op is its actor's running one
-pub record RunsAs (o : Option Program) (op : OpId) (p : Program) : Type 0 where
-  pub is : o ≡ Some p
-  pub same : p.op ≡ op
-
--- the program that runs as an op is found at its actor
-pub runs_as : (o : Option Program) (op : OpId) (p : Program) → program_of o op ≡ Some p → RunsAs o op p
-runs_as None op p e = absurd (grind (arith, e))
-runs_as (Some r) op p e = at (op_eq r.op op) refl e
-  where
-    at : (b : Bool) → op_eq r.op op ≡ b → (if b then Some r else None) ≡ Some p → RunsAs (Some r) op p
-    at true t same = record { is = same; same = grind (arith, keys) }
-    at false t same = absurd (grind (arith, same))
-
--- where an op asks, a program runs as that op and asks it
-pub record Asks (m : WorldState) (op : OpId) (q : AnyReq) (p : Program) : Type 0 where
-  pub same : p.op ≡ op
-  pub is : (m.actors p.op.actor).running ≡ Some p
-  pub ask : phase_ask p.op (object_number p.op.actor (m.actors p.op.actor).serial) p.command p.phase ≡ Some q
-
-asks_as : (m : WorldState) (op : OpId) (q : AnyReq) (o : Option Program) → running m op ≡ o → program_ask (m.actors op.actor).serial o ≡ Some q → (p : Program) × Asks m op q p
-asks_as m op q None e asks = absurd (grind (arith, asks))
-asks_as m op q (Some p) e asks =
-    let r : RunsAs (m.actors op.actor).running op p = runs_as (m.actors op.actor).running op p e in (
-      p,
-      record {
-        same = r.same;
-        is = subst (λ (o : OpId). (m.actors o.actor).running ≡ Some p) (sym r.same) r.is;
-        ask = subst (λ (o : OpId). phase_ask p.op (object_number p.op.actor (m.actors o.actor).serial) p.command p.phase ≡ Some q) (sym r.same) asks;
-      },
-    )
-
--- what an op asks, its program asks
-pub asks_by : (m : WorldState) (op : OpId) (q : AnyReq) → asked m op ≡ Some q → (p : Program) × Asks m op q p
-asks_by m op q asks = asks_as m op q (running m op) refl asks
 
 acts_sound : (m : WorldState) (g : Ghost) (op : OpId) (q : AnyReq) (x : AnyReply) → AllSound m g → May m (Acted op q x) → AllSound (after m (Acted op q x)) (ghost_next m.store g q)
 acts_sound m g op q x s can =

@@ -1,28 +1,28 @@
 -- the laws of every run
-use Rattle.std.proofs.Common.{◌≡◌, ◌≤◌, ◌<◌, ◌+◌, ◌^◌, ℕ, zero, suc, List, [], ◌∷◌, Bool, true, false, ◌||◌, is_some, take, Option, Some, None, refl, arith, subst}
+use Rattle.std.proofs.Common.{◌≡◌, ◌≤◌, ◌<◌, ◌+◌, ◌^◌, ℕ, List, [], ◌∷◌, false, take, Option, Some, None, refl, arith, subst}
 use Rattle.tect_ids.specs.declared.ids.Counts.{Counts}
-use Rattle.tect_ids.specs.declared.ids.DirId.{DirId}
 use Rattle.tect_ids.specs.declared.ids.OpId.{OpId}
 use Rattle.tect_ids.specs.declared.command.Command.{Command}
-use Rattle.tect_ids.specs.declared.command.Command.TheVariants as commands
 use Rattle.tect_ids.specs.declared.answer.Answer.{Answer}
 use Rattle.tect_ids.specs.declared.answer.Answer.TheVariants as answers
 use Rattle.store_rules.specs.declared.any.AnyReq.{AnyReq}
 use Rattle.program_rules.specs.declared.program.Phase.{Phase}
 use Rattle.program_rules.specs.declared.program.Phase.TheVariants.{Walk, Bind, Grant, Swap, Release, End}
 use Rattle.program_rules.specs.declared.program.Program.{Program}
-use Rattle.program_rules.specs.Programs.{object_number, new_path, at_last, first_ask, phase_ask, phase_answer}
+use Rattle.program_rules.specs.Programs.{object_number, phase_answer}
 use Rattle.world_runs.specs.declared.event.Event.{Event}
-use Rattle.world_runs.specs.Moments.{WorldState, Actor, RunFrom, IsWorldRun, moment, after, after_all, opening, running, asked, answered, program_answer}
+use Rattle.world_runs.specs.Moments.{WorldState, Actor, RunFrom, IsWorldRun, moment, after, after_all, opening, running, asked, program_answer}
 use Rattle.world_runs.specs.Sound.{IsSound, IsSoundStore}
 use Rattle.store_world.specs.Worlds.{World, Ghost, opening_ghost}
 use Rattle.store_world.specs.Sound.{Sound}
 use Rattle.store_world.specs.Later.{Within, by_actor}
 use Rattle.store_world.specs.Requests.{Needs, touched_by}
 use Rattle.sound_runs.specs.Pasts.{ghost_after, ghosts_after, ghosts, world_of, world}
-use Rattle.sound_runs.specs.Known.{PhaseKnows, Knows, AllSound, is_odd, is_whole, has_name}
-use Rattle.sound_runs.specs.Laws.{EveryMomentIsSound, NoRunAnswersOdd, RunningGoesOn, HasSmallNumbers, NumbersStaySmall, RunningIsLastBegun}
-use Rattle.sound_runs.proofs.MomentsKeep.{event_sound, opening_all_sound, RunsAs, runs_as, Asks, asks_by, asks_what_it_needs, touches_its_own}
+use Rattle.sound_runs.specs.Known.{PhaseKnows, Knows, AllSound, is_odd}
+use Rattle.sound_runs.specs.Laws.{EveryMomentIsSound, NoRunAnswersOdd, HasSmallNumbers, NumbersStaySmall}
+use Rattle.world_runs.proofs.Histories.{front_runs}
+use Rattle.world_runs.proofs.Running.{RunsAs, Asks, asks_by, running_is_of}
+use Rattle.sound_runs.proofs.MomentsKeep.{event_sound, opening_all_sound, asks_what_it_needs, touches_its_own}
 
 -- a sound world's store is sound
 pub store_sound : (w : World) → Sound w → IsSoundStore w.store
@@ -36,12 +36,6 @@ store_sound w s = record {
 pub run_keeps : (events : List Event) (m : WorldState) (g : Ghost) → AllSound m g → RunFrom m events → AllSound (after_all m events) (ghosts_after m g events)
 run_keeps [] m g s run = s
 run_keeps (e ∷ es) m g s run = run_keeps es (after m e) (ghost_after m g e) (event_sound m g e s run.0) run.1
-
--- a front of a run is a run
-pub front_runs : (n : ℕ) (events : List Event) (m : WorldState) → RunFrom m events → RunFrom m (take n events)
-front_runs zero events m run = tt
-front_runs (suc n) [] m run = tt
-front_runs (suc n) (e ∷ es) m run = (run.0, front_runs n es (after m e) run.1)
 
 module _ (counts : Counts) (events : List Event) (run : IsWorldRun counts events) where
   -- what is so at every moment is so after the run
@@ -77,16 +71,6 @@ serial_fits actor small = omega (arith, small.serial_small, small.number_small)
 pub object_fits : (a : ℕ) (actor : Actor) → a ≤ 65 → HasSmallNumbers actor → object_number a actor.serial < 2 ^ 64
 object_fits a actor few small = omega (arith, few, small.serial_small, small.number_small)
 
--- the running program is the last that its actor began
-pub running_is_last_begun : RunningIsLastBegun
-running_is_last_begun counts events run a p is =
-    let k : Knows (world counts events) a ((moment counts events).actors a).serial ((moment counts events).actors a).number p = knows_of (moment counts events) (ghosts counts events) (run_all_sound counts events run) a p is in
-    record { own = k.own; last = k.last; is_actor = k.is_actor; served = k.served }
-
--- the op that runs is its actor's last
-pub running_is_of : (m : WorldState) (op : OpId) (p : Program) → running m op ≡ Some p → RunsAs (m.actors op.actor).running op p
-running_is_of m op p e = runs_as (m.actors op.actor).running op p e
-
 -- what is asked in a sound moment needs no more than is known
 pub asked_needs : (m : WorldState) (g : Ghost) → AllSound m g → (op : OpId) (q : AnyReq) → asked m op ≡ Some q → Needs (world_of m g) q
 asked_needs m g s op q e = let by : (p : Program) × Asks m op q p = asks_by m op q e in asks_what_it_needs m g s by.0 by.1.is q by.1.ask
@@ -119,46 +103,3 @@ pub no_run_answers_odd : NoRunAnswersOdd
 no_run_answers_odd counts events run op place e =
     let plain : is_odd (answers.Odd place) ≡ false = answered_plain (moment counts events) (ghosts counts events) (run_all_sound counts events run) op (running (moment counts events) op) refl (answers.Odd place) e in
     grind (arith, plain)
-
--- a running command asks or has its answer
-first_asks : (op : OpId) (number : ℕ) (d : DirId) (c : Command) → is_whole c ≡ true → is_some (first_ask op number d c) ≡ true
-first_asks op number d (commands.Look p) e = refl
-first_asks op number d (commands.List p) e = refl
-first_asks op number d (commands.Create []) e = e
-first_asks op number d (commands.Create (n ∷ p)) e = refl
-first_asks op number d (commands.Mkdir []) e = e
-first_asks op number d (commands.Mkdir (n ∷ p)) e = refl
-first_asks op number d (commands.Delete []) e = e
-first_asks op number d (commands.Delete (n ∷ p)) e = refl
-first_asks op number d (commands.Rename [] to) e = e
-first_asks op number d (commands.Rename (n ∷ p) to) e = refl
-first_asks op number d _ e = e
-
-last_asks : {X : Type 0} (p : List (List ℕ)) (f : List ℕ → X) → has_name p ≡ true → is_some (at_last p f) ≡ true
-last_asks [] f e = e
-last_asks (n ∷ ns) f e = refl
-
--- it has one of both
-one_of : (a b : Bool) → a ≡ true → (a || b) ≡ true
-one_of a b e = grind (arith, e)
-
-phase_does : (w : World) (op : OpId) (number serial : ℕ) (c : Command) (at : Phase) → PhaseKnows w op serial c at → (is_some (phase_ask op number c at) || is_some (phase_answer at)) ≡ true
-phase_does w op number serial c (Walk d []) k = one_of _ _ (first_asks op number d c k.3)
-phase_does w op number serial c (Walk d (n ∷ ns)) k = refl
-phase_does w op number serial c (Bind key n o) k = refl
-phase_does w op number serial c (Grant key n) k = one_of _ _ (last_asks (new_path c) _ k.3)
-phase_does w op number serial c (Swap key n) k = one_of _ _ (last_asks (new_path c) _ k.2)
-phase_does w op number serial c (Release n h old b) k = refl
-phase_does w op number serial c (End b) k = refl
-
--- the same of an op at a moment
-pub running_does : (m : WorldState) (g : Ghost) → AllSound m g → (op : OpId) (p : Program) → running m op ≡ Some p → (is_some (asked m op) || is_some (answered m op)) ≡ true
-running_does m g s op p e =
-    let r : RunsAs (m.actors op.actor).running op p = running_is_of m op p e in
-    let serial : ℕ = (m.actors op.actor).serial in
-    let k : Knows (world_of m g) op.actor serial (m.actors op.actor).number p = knows_of m g s op.actor p r.is in
-    rw e (phase_does (world_of m g) p.op (object_number p.op.actor serial) serial p.command p.phase k.phase)
-
--- the same of a run
-pub running_goes_on : RunningGoesOn
-running_goes_on counts events run op p e = running_does (moment counts events) (ghosts counts events) (run_all_sound counts events run) op p e

@@ -6,9 +6,9 @@ use Rattle.tect_ids.specs.declared.ids.Place.{Place}
 use Rattle.tect_ids.specs.declared.answer.Answer.TheVariants as answers
 use Rattle.program_rules.specs.declared.program.Program.{Program}
 use Rattle.world_runs.specs.declared.event.Event.{Event}
-use Rattle.world_runs.specs.Served.{IsServed}
 use Rattle.world_runs.specs.Moments.{Actor, IsWorldRun, moment, AtEachMoment, running, asked, answered}
 use Rattle.world_runs.specs.Sound.{IsSound}
+use Rattle.world_runs.specs.Standing.{IsLastBegun}
 
 -- at every moment of every run the store is sound
 abbrev pub EveryMomentIsSound : Type 0
@@ -32,13 +32,6 @@ pub record HasSmallNumbers (actor : Actor) : Type 0 where
 -- so it is of each actor after every run
 abbrev pub NumbersStaySmall : Type 0
 NumbersStaySmall = (counts : Counts) (events : List Event) → IsWorldRun counts events → (a : ℕ) → HasSmallNumbers ((moment counts events).actors a)
-
--- the program is the last that the actor began, the actor is one of 65, and the command is served
-pub record IsLastBegun (a : ℕ) (actor : Actor) (p : Program) : Type 0 where
-  pub own : p.op.actor ≡ a
-  pub last : p.op.number ≡ actor.number
-  pub is_actor : (1 ≤ a) × (a ≤ 65)
-  pub served : IsServed p.command
 
 -- so it is of each running program after every run
 abbrev pub RunningIsLastBegun : Type 0

@@ -2,7 +2,7 @@
 //! goes on, and the numbers of actors stay small. Nothing here is called: each function's contract is a law.
 #![tactic(auto)]
 
-ghost use Rattle.sound_runs.specs.Laws.{EveryMomentIsSound, NoRunAnswersOdd, RunningGoesOn, NumbersStaySmall, RunningIsLastBegun};
+ghost use Rattle.sound_runs.specs.Laws.{EveryMomentIsSound, NoRunAnswersOdd, NumbersStaySmall, RunningGoesOn, RunningIsLastBegun};
 
 /// At every moment of every run the store is sound.
 pub fn every_moment_is_sound()

@@ -24,7 +24,9 @@ use Rattle.store_rules.specs.declared.names.Replaced.{Replaced}
 use Rattle.store_rules.specs.declared.names.NameReq.{NameReq}
 use Rattle.store_rules.specs.declared.names.NameReq.TheVariants as req
 use Rattle.store_rules.specs.declared.names.NameReply.{NameReply}
-use Rattle.store_rules.specs.declared.names.NameReply.TheVariants.{DirIs, Found, Listing, Made, Bound, Swapped, Unbound, Granted, Released, NoDir, NoName, HasId, Sealed, Exists, IsDir, Full, Changed}
+use Rattle.store_rules.specs.declared.names.NameReply.TheVariants.{DirIs, Found, Listing, Made, Bound, Swapped, Unbound}
+use Rattle.store_rules.specs.declared.names.NameReply.TheVariants.{Granted, Released, NoDir, NoName, HasId, Sealed}
+use Rattle.store_rules.specs.declared.names.NameReply.TheVariants.{Exists, IsDir, Full, Changed}
 use Rattle.store_rules.specs.Outcomes.{Outcome, Leaves, Changes, changes, refuse, found}
 
 pub record Names : Type 0 where

@@ -1,4 +1,5 @@
-use tect_ids::{FileId, Hold, HoldList, Key, Token};
+use key_maps::HoldList;
+use tect_ids::{FileId, Hold, Key, Token};
 
 /// A file as its shard keeps it.
 #[derive(Drop)]
@@ -8,7 +9,7 @@ pub struct File {
 }
 
 /// A request to a shard of the File layer.
-#[derive(Debug, Drop)]
+#[derive(Clone, Debug, PartialEq, Eq, Drop)]
 pub enum FileReq {
     MakeFile {
         file: FileId,
@@ -28,7 +29,7 @@ pub enum FileReq {
 }
 
 /// What a shard of the File layer replies.
-#[derive(Debug, Drop)]
+#[derive(Clone, Copy, Debug, PartialEq, Eq)]
 pub enum FileReply {
     Made,
     Granted,

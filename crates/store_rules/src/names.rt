@@ -1,4 +1,5 @@
-use tect_ids::{DirId, FileId, Hold, HoldList, Items, Key, Listed, Name, Node, Over, Want};
+use key_maps::HoldList;
+use tect_ids::{DirId, FileId, Hold, Items, Key, Listed, Name, Node, Over, Want};
 
 /// A directory as its shard keeps it. Its entries stand beside it, each under its own key.
 #[derive(Drop)]
@@ -23,7 +24,7 @@ pub struct Replaced {
 }
 
 /// A request to a shard of the Name layer.
-#[derive(Debug, Drop)]
+#[derive(Clone, Debug, PartialEq, Eq, Drop)]
 pub enum NameReq {
     CheckDir {
         dir: DirId,
@@ -69,7 +70,7 @@ pub enum NameReq {
 }
 
 /// What a shard of the Name layer replies.
-#[derive(Debug, Drop)]
+#[derive(Clone, Debug, PartialEq, Eq, Drop)]
 pub enum NameReply {
     DirIs { parent: DirId, sealed: bool },
     Found { node: Node },

@@ -1,11 +1,12 @@
-ghost use Rattle.std.specs.Prelude.{◌≡◌};
-ghost use Rattle.std.specs.Option.{option_copied};
+ghost use Rattle.std.specs.Prelude.{◌≡◌, ◌<◌, ◌^◌};
+ghost use Rattle.std.specs.List.{sum_by};
+ghost use Rattle.store_rules.specs.ReplyBytes.{reply_bytes, item_bytes};
 ghost use Rattle.store_rules.specs.Views.{as_found, as_bound, as_unbound, as_swapped, is_made, is_granted};
 
 use crate::any::AnyReply;
 use crate::files::FileReply;
 use crate::names::{NameReply, Replaced};
-use tect_ids::{Hold, Node};
+use tect_ids::{Hold, Listed, Node};
 
 impl AnyReply {
     /// The node that a look found.
@@ -68,4 +69,25 @@ impl AnyReply {
                 | AnyReply::File(FileReply::Made | FileReply::Granted)
         )
     }
+    /// The bytes of names in the reply, and 32 for each item of a list. It takes no memory.
+    pub fn bytes(&self) -> u128
+        ensures bytes { result ≡ reply_bytes self.now }
+        ensures few { result < 2 ^ 100 }
+    {
+        match self {
+            AnyReply::Name(NameReply::Listing { items, .. }) => list_bytes(items.as_slice()),
+            _ => 0,
+        }
+    }
+}
+
+fn list_bytes(items: &[Listed]) -> u128
+    ensures bytes { result ≡ sum_by item_bytes items.now }
+    ensures few { result < 2 ^ 100 }
+{
+    let mut bytes: u128 = 0;
+    for item in items {
+        bytes += item.name.bytes().len() as u128 + 32;
+    }
+    bytes
 }

@@ -45,7 +45,8 @@ module _ (here : FileId → Bool) (s w : Files) (is : KeepsFiles here s w) where
   other_change (req.Release f h) other = other_set f _ other
 
   -- the same, refused or not
-  own_by : (r : FileReq) (b : Bool) → here (file_of r) ≡ true → KeepsFiles here (if b then file_change s r else s) (if b then file_change w r else w)
+  own_by : (r : FileReq) (b : Bool) → here (file_of r) ≡ true
+      → KeepsFiles here (if b then file_change s r else s) (if b then file_change w r else w)
   own_by r true own = own_change r own
   own_by r false own = is
 

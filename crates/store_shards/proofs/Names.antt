@@ -81,13 +81,15 @@ module _ (here : DirId → Bool) (s w : Names) (is : KeepsNames here s w) where
   other_change (req.List d) other = is
   other_change (req.MakeDir d p h k) other = other_dir_set here s w is d _ other
   other_change (req.Bind k n h o) other = other_entry_set here s w is k _ other
-  other_change (req.Swap d from to n h) other = other_entry_set here s _ (other_entry_set here s w is (key_in d from) None other) (key_in d to) _ other
+  other_change (req.Swap d from to n h) other =
+      other_entry_set here s _ (other_entry_set here s w is (key_in d from) None other) (key_in d to) _ other
   other_change (req.Unbind k want) other = other_entry_set here s w is k None other
   other_change (req.Grant d h k) other = other_dir_set here s w is d _ other
   other_change (req.Release d h) other = other_dir_set here s w is d _ other
 
   -- the same, refused or not
-  own_by : (r : NameReq) (b : Bool) → here (dir_of r) ≡ true → KeepsNames here (if b then name_change s r else s) (if b then name_change w r else w)
+  own_by : (r : NameReq) (b : Bool) → here (dir_of r) ≡ true
+      → KeepsNames here (if b then name_change s r else s) (if b then name_change w r else w)
   own_by r true own = own_change r own
   own_by r false own = is
 

@@ -19,7 +19,8 @@ use Rattle.store_rules.specs.Outcomes.{reply, changes}
 use Rattle.store_rules.specs.Places.{dir_of, file_of, request_place}
 use Rattle.store_rules.specs.Store.{Store, opening_store, store_reply, store_changes, store_step}
 use Rattle.store_shards.specs.Runs.{parts_after, parts_replies, store_after, store_replies}
-use Rattle.store_shards.specs.Shards.{AreWhole, IsShardOf, KeepsFiles, KeepsNames, Parts, dir_place, file_place, place_eq, opening_parts, parts_changes, parts_reply, parts_step, request_layer}
+use Rattle.store_shards.specs.Shards.{AreWhole, IsShardOf, KeepsFiles, KeepsNames, Parts, dir_place, file_place}
+use Rattle.store_shards.specs.Shards.{place_eq, opening_parts, parts_changes, parts_reply, parts_step, request_layer}
 use Rattle.store_shards.proofs.Files.{same_file_answer, files_kept, same_files}
 use Rattle.store_shards.proofs.Names.{same_name_answer, names_kept, same_names}
 
@@ -43,7 +44,8 @@ opening_whole c = record {
 
 -- the layers of a store that a request goes to, or not
 module _ (s : Store) where
-  names_changed : (r : NameReq) (b : Bool) → (if b then record s { names = name_change s.names r } else s).names ≡ (if b then name_change s.names r else s.names)
+  names_changed : (r : NameReq) (b : Bool) → (if b then record s { names = name_change s.names r } else s).names
+      ≡ (if b then name_change s.names r else s.names)
   names_changed r true = refl
   names_changed r false = refl
 
@@ -51,7 +53,8 @@ module _ (s : Store) where
   files_left r true = refl
   files_left r false = refl
 
-  files_changed : (r : FileReq) (b : Bool) → (if b then record s { files = file_change s.files r } else s).files ≡ (if b then file_change s.files r else s.files)
+  files_changed : (r : FileReq) (b : Bool) → (if b then record s { files = file_change s.files r } else s).files
+      ≡ (if b then file_change s.files r else s.files)
   files_changed r true = refl
   files_changed r false = refl
 
@@ -60,7 +63,8 @@ module _ (s : Store) where
   names_left r false = refl
 
   -- the same where the request is done or not
-  names_after_name : (r : NameReq) (b : Bool) → (if b then store_step s (any.Name r) else s).names ≡ (if b then name_step s.names r else s.names)
+  names_after_name : (r : NameReq) (b : Bool) → (if b then store_step s (any.Name r) else s).names
+      ≡ (if b then name_step s.names r else s.names)
   names_after_name r true = names_changed r (changes (name_answer s.names r))
   names_after_name r false = refl
 
@@ -68,7 +72,8 @@ module _ (s : Store) where
   files_after_name r true = files_left r (changes (name_answer s.names r))
   files_after_name r false = refl
 
-  files_after_file : (r : FileReq) (b : Bool) → (if b then store_step s (any.File r) else s).files ≡ (if b then file_step s.files r else s.files)
+  files_after_file : (r : FileReq) (b : Bool) → (if b then store_step s (any.File r) else s).files
+      ≡ (if b then file_step s.files r else s.files)
   files_after_file r true = files_changed r (changes (file_answer s.files r))
   files_after_file r false = refl
 
@@ -106,11 +111,13 @@ module _ (c : Counts) (parts : Parts) (whole : Store) (is : AreWhole c parts who
         names_along (λ d. place_eq p (dir_place c d)) _ _ _ _ (names_after_name (parts p) r b) (names_after_name whole r true)
         (names_kept (λ d. place_eq p (dir_place c d)) _ _ (is.names p) r b refl);
     files = λ p.
-        files_along (λ f. place_eq p (file_place c f)) _ _ _ _ (files_after_name (parts p) r (place_eq p (dir_place c (dir_of r)))) (files_after_name whole r true) (is.files p);
+        files_along (λ f. place_eq p (file_place c f)) _ _ _ _
+        (files_after_name (parts p) r (place_eq p (dir_place c (dir_of r)))) (files_after_name whole r true) (is.files p);
   }
   step_whole (any.File r) = record {
     names = λ p.
-        names_along (λ d. place_eq p (dir_place c d)) _ _ _ _ (names_after_file (parts p) r (place_eq p (file_place c (file_of r)))) (names_after_file whole r true) (is.names p);
+        names_along (λ d. place_eq p (dir_place c d)) _ _ _ _
+        (names_after_file (parts p) r (place_eq p (file_place c (file_of r)))) (names_after_file whole r true) (is.names p);
     files = λ p.
         let b = place_eq p (file_place c (file_of r)) in
         files_along (λ f. place_eq p (file_place c f)) _ _ _ _ (files_after_file (parts p) r b) (files_after_file whole r true)
@@ -118,11 +125,13 @@ module _ (c : Counts) (parts : Parts) (whole : Store) (is : AreWhole c parts who
   }
 
 -- any requests, one after another
-pub after_whole : (c : Counts) (parts : Parts) (whole : Store) (qs : List AnyReq) → AreWhole c parts whole → AreWhole c (parts_after c parts qs) (store_after whole qs)
+pub after_whole : (c : Counts) (parts : Parts) (whole : Store) (qs : List AnyReq) → AreWhole c parts whole
+    → AreWhole c (parts_after c parts qs) (store_after whole qs)
 after_whole c parts whole [] is = is
 after_whole c parts whole (q ∷ qs) is = after_whole c (parts_step c parts q) (store_step whole q) qs (step_whole c parts whole is q)
 
-pub same_replies : (c : Counts) (parts : Parts) (whole : Store) (qs : List AnyReq) → AreWhole c parts whole → parts_replies c parts qs ≡ store_replies whole qs
+pub same_replies : (c : Counts) (parts : Parts) (whole : Store) (qs : List AnyReq) → AreWhole c parts whole
+    → parts_replies c parts qs ≡ store_replies whole qs
 same_replies c parts whole [] is = refl
 same_replies c parts whole (q ∷ qs) is =
     let first = same_reply c parts whole is q in

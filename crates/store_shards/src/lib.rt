@@ -9,7 +9,8 @@ ghost use Rattle.store_rules.specs.Places.{request_place};
 ghost use Rattle.store_rules.specs.Store.{Store, opening_store, store_changes, store_reply, store_step};
 ghost use Rattle.store_rules.specs.declared.any.AnyReq.{AnyReq};
 ghost use Rattle.store_shards.specs.Runs.{parts_after, parts_replies, store_after, store_replies};
-ghost use Rattle.store_shards.specs.Shards.{AreWhole, IsShardOf, Parts, opening_parts, parts_changes, parts_reply, parts_step, request_layer};
+ghost use Rattle.store_shards.specs.Shards.{AreWhole, IsShardOf, Parts, opening_parts, parts_changes, parts_reply};
+ghost use Rattle.store_shards.specs.Shards.{parts_step, request_layer};
 
 /// Before anything was done the shards are the store with the root alone: the shard of the root's place has it.
 pub fn opening_shards_are_the_store()
@@ -18,7 +19,8 @@ pub fn opening_shards_are_the_store()
 
 /// Shards are the whole of one store alone.
 pub fn shards_are_one_store()
-    ensures { (counts : Counts) (parts : Parts) (one other : Store) → AreWhole counts parts one → AreWhole counts parts other → one ≡ other }
+    ensures { (counts : Counts) (parts : Parts) (one other : Store) → AreWhole counts parts one
+        → AreWhole counts parts other → one ≡ other }
 {}
 
 /// Every request has a shard: its place is one of its layer's.
@@ -28,24 +30,31 @@ pub fn each_request_has_a_shard()
 
 /// The shard at a request's place replies what the whole store would reply, and changes where the store would.
 pub fn shards_reply_as_the_store()
-    ensures reply { (counts : Counts) (parts : Parts) (whole : Store) (req : AnyReq) → AreWhole counts parts whole → parts_reply counts parts req ≡ store_reply whole req }
-    ensures changes { (counts : Counts) (parts : Parts) (whole : Store) (req : AnyReq) → AreWhole counts parts whole → parts_changes counts parts req ≡ store_changes whole req }
+    ensures reply { (counts : Counts) (parts : Parts) (whole : Store) (req : AnyReq) → AreWhole counts parts whole
+        → parts_reply counts parts req ≡ store_reply whole req }
+    ensures changes { (counts : Counts) (parts : Parts) (whole : Store) (req : AnyReq) → AreWhole counts parts whole
+        → parts_changes counts parts req ≡ store_changes whole req }
 {}
 
 /// After a request is done at the shard of its place, and on the whole store, the shards are still the whole store.
 pub fn shards_step_as_the_store()
-    ensures { (counts : Counts) (parts : Parts) (whole : Store) (req : AnyReq) → AreWhole counts parts whole → AreWhole counts (parts_step counts parts req) (store_step whole req) }
+    ensures { (counts : Counts) (parts : Parts) (whole : Store) (req : AnyReq) → AreWhole counts parts whole
+        → AreWhole counts (parts_step counts parts req) (store_step whole req) }
 {}
 
 /// After any requests, each done at the shard of its place, the shards are the whole store after them, and every reply was
 /// the store's.
 pub fn shards_stay_the_store()
-    ensures whole { (counts : Counts) (parts : Parts) (whole : Store) (reqs : List AnyReq) → AreWhole counts parts whole → AreWhole counts (parts_after counts parts reqs) (store_after whole reqs) }
-    ensures replies { (counts : Counts) (parts : Parts) (whole : Store) (reqs : List AnyReq) → AreWhole counts parts whole → parts_replies counts parts reqs ≡ store_replies whole reqs }
+    ensures whole { (counts : Counts) (parts : Parts) (whole : Store) (reqs : List AnyReq) → AreWhole counts parts whole
+        → AreWhole counts (parts_after counts parts reqs) (store_after whole reqs) }
+    ensures replies { (counts : Counts) (parts : Parts) (whole : Store) (reqs : List AnyReq) → AreWhole counts parts whole
+        → parts_replies counts parts reqs ≡ store_replies whole reqs }
 {}
 
 /// From the opening on, after any requests, the shards are the whole store, and every reply was the store's.
 pub fn opening_shards_stay_the_store()
-    ensures whole { (counts : Counts) (reqs : List AnyReq) → AreWhole counts (parts_after counts (opening_parts counts) reqs) (store_after opening_store reqs) }
-    ensures replies { (counts : Counts) (reqs : List AnyReq) → parts_replies counts (opening_parts counts) reqs ≡ store_replies opening_store reqs }
+    ensures whole { (counts : Counts) (reqs : List AnyReq)
+        → AreWhole counts (parts_after counts (opening_parts counts) reqs) (store_after opening_store reqs) }
+    ensures replies { (counts : Counts) (reqs : List AnyReq) → parts_replies counts (opening_parts counts) reqs
+        ≡ store_replies opening_store reqs }
 {}

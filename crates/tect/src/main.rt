@@ -2,16 +2,31 @@
 //! answers and dumps.
 #![tactic(auto)]
 
-ghost use Rattle.std.specs.Prelude.{◌≡◌, ◌⊎◌, IfErr, IfOk, drop};
+ghost use Rattle.std.specs.Prelude.{◌≡◌, ◌≢◌, ◌⊎◌, IfErr, IfOk, IsOk, drop, map, string_bytes};
+ghost use Rattle.std.specs.IoError.{error_kind};
 ghost use Rattle.std.specs.Vec.Iter.{into_iter_items};
+ghost use Rattle.tect_app.specs.Modes.{SpellsNone};
+ghost use Rattle.tect_app.specs.Headline.{InMode, IsReported};
 
 use std::alloc::Global;
 use std::env::Args;
+use std::io::ErrorKind;
 use std::process::ExitCode;
+use std::sync::Wait;
+use std::thread::Threads;
 use std::{env, io};
 use tect_app::{Status, run};
-use tect_edge::{OpenGate, StdSink, StdSource};
+use tect_edge::{OpenGate, Sink, Source, StdSink, StdSource};
 use tect_ids::NoMemory;
+
+/// Why the command line gives no words.
+#[derive(Clone, Copy, Debug, PartialEq, Eq)]
+enum WordsFault {
+    /// There was no memory for them.
+    NoMemory,
+    /// One of them is no text.
+    NoText,
+}
 
 /// The words behind the program's own name.
 fn behind_name(alloc: Global, args: Args) -> Result<Vec<String>, NoMemory>
@@ -26,28 +41,54 @@ fn behind_name(alloc: Global, args: Args) -> Result<Vec<String>, NoMemory>
     Ok(words)
 }
 
-/// The words of the command line. They fail as a whole: for want of memory, or as words that are no text.
-fn words(rt: &HostRuntime) -> Result<Vec<String>, Status>
-    ensures { IfErr result (λ status. (status ≡ Status.NoMemory) ⊎ (status ≡ Status.Usage)) }
+/// The words of the command line, all but the program's own name, or why there are none. Arguments that can't be had are no
+/// text, but where memory is wanting for them.
+fn words(alloc: Global, args: io::Result<Args>) -> Result<Vec<String>, WordsFault>
+    ensures words { IfOk args (λ args. IfOk result (λ words. words.items ≡ drop 1 (into_iter_items args))) }
+    ensures had { IsOk args → result ≢ Err WordsFault.NoText }
+    ensures starved { IfErr args (λ error. error_kind error ≡ ErrorKind.OutOfMemory → result ≡ Err WordsFault.NoMemory) }
+    ensures no_text { IfErr args (λ error. error_kind error ≢ ErrorKind.OutOfMemory → result ≡ Err WordsFault.NoText) }
 {
-    match env::args(rt) {
-        Ok(args) => match behind_name(rt.alloc(), args) {
+    match args {
+        Ok(args) => match behind_name(alloc, args) {
             Ok(words) => Ok(words),
-            Err(NoMemory) => Err(Status::NoMemory),
+            Err(NoMemory) => Err(WordsFault::NoMemory),
         },
-        Err(error) if error.kind() == io::ErrorKind::OutOfMemory => Err(Status::NoMemory),
-        Err(_) => Err(Status::Usage),
+        Err(error) => match error.kind() {
+            ErrorKind::OutOfMemory => Err(WordsFault::NoMemory),
+            _ => Err(WordsFault::NoText),
+        },
     }
 }
 
-/// Words that are no text are answered as no words are.
+/// Runs the program at its words. Want of memory for them ends it before anything is read or written, and words that are no
+/// text are answered as no words are.
+fn run_words<R: Threads + Wait + Sync, S: Source, K: Sink>(
+    rt: &R,
+    alloc: Global,
+    words: Result<Vec<String>, WordsFault>,
+    source: &mut S,
+    sink: &mut K,
+) -> Status
+    ensures starved { words ≡ Err WordsFault.NoMemory → (result ≡ Status.NoMemory) × (source.new ≡ source.old) × (sink.new ≡ sink.old) }
+    ensures no_text { words ≡ Err WordsFault.NoText → (result ≡ Status.Usage) ⊎ (result ≡ Status.WriteFault) }
+    ensures unread { words ≡ Err WordsFault.NoText → source.new ≡ source.old }
+    ensures no_mode { IfOk words (λ words. SpellsNone (map string_bytes words.items)
+        → (result ≡ Status.Usage) ⊎ (result ≡ Status.WriteFault)) }
+    ensures reported { IfOk words (λ words. result ≡ Status.Ok → InMode (map string_bytes words.items)
+        (λ mode. IsReported mode (S.left source.old) (S.left source.new) (K.written sink.old) (K.written sink.new))) }
+{
+    match words {
+        Ok(words) => run(rt, alloc, &words, source, sink, &OpenGate),
+        Err(WordsFault::NoText) => run(rt, alloc, &[], source, sink, &OpenGate),
+        Err(WordsFault::NoMemory) => Status::NoMemory,
+    }
+}
+
 fn main(rt: HostRuntime) -> ExitCode {
     let mut source = StdSource::new(rt.reader());
     let mut sink = StdSink::new(io::writer(&rt));
-    let status = match words(&rt) {
-        Ok(words) => run(&rt, rt.alloc(), &words, &mut source, &mut sink, &OpenGate),
-        Err(Status::Usage) => run(&rt, rt.alloc(), &[], &mut source, &mut sink, &OpenGate),
-        Err(status) => status,
-    };
+    let words = words(rt.alloc(), env::args(&rt));
+    let status = run_words(&rt, rt.alloc(), words, &mut source, &mut sink);
     ExitCode::from(status.number())
 }

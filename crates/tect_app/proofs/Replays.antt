@@ -22,8 +22,9 @@ use Rattle.world_runs.specs.Smooth.{EndsAtOnce, StepsOn, AllStepOn}
 use Rattle.run_claims.proofs.Claims.{every_run_is_claimed}
 use Rattle.script_runs.proofs.Fixed.{script_fixes_run}
 use Rattle.sound_runs.proofs.RunsKeep.{no_run_answers_odd}
-use Rattle.tree_runs.proofs.Histories.{after_all-append, run-append}
-use Rattle.tree_runs.proofs.Scripts.{session_reported}
+use Rattle.world_runs.proofs.Actors.{after_all-append}
+use Rattle.world_runs.proofs.Histories.{run-append}
+use Rattle.session_runs.proofs.Scripts.{session_reported}
 use Rattle.tect_replay.specs.Replays.{IsReplayed, IsCutReplay}
 use Rattle.tect_app.specs.Replays.{IsNotOdd, IsHistoryOf, IsReplayShown, IsReplayCut}
 

@@ -13,7 +13,7 @@ use Rattle.tree_model.specs.Tree.{opening_tree}
 use Rattle.world_runs.specs.declared.event.Event.{Event}
 use Rattle.world_runs.specs.Moments.{opening}
 use Rattle.world_runs.specs.Follows.{Follows, NoneFails}
-use Rattle.tree_runs.specs.Session.{IsPlayed, session_lines, session_script}
+use Rattle.session_runs.specs.Session.{IsPlayed, session_lines, session_script}
 use Rattle.run_claims.specs.Claims.{IsHistory}
 use Rattle.world_runs.specs.Smooth.{EndsAtOnce, IsSmoothRun}
 use Rattle.tect_replay.specs.Output.{plan_report, output_text}

@@ -62,23 +62,15 @@ pub fn name_bind(key: Key, node: Node, hold: Hold, over: Over, granted: &Granted
 }
 
 /// Gives a node another name in its directory, by a hold that was granted.
-pub fn name_swap(
-    dir: DirId,
-    from: Name,
-    to: Name,
-    node: Node,
-    hold: Hold,
-    granted: &Granted,
-) -> Asked
-    requires { granted.now ≡ hold }
-    ensures { result ≡ AnyReq.Name (NameReq.Swap dir from to node hold) }
+pub fn name_swap(dir: DirId, from: Name, to: Name, node: Node, granted: &Granted) -> Asked
+    ensures { result ≡ AnyReq.Name (NameReq.Swap dir from to node granted.now) }
 {
     name_asked(NameReq::Swap {
         dir,
         from,
         to,
         node,
-        hold,
+        hold: granted.hold,
     })
 }
 

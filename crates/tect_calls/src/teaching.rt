@@ -1,6 +1,8 @@
 ghost use Rattle.std.specs.Prelude.{◌≡◌, IfOk, is_some};
 ghost use Rattle.store_rules.specs.Views.{as_parent, is_made, is_granted, as_bound, as_unbound, as_swapped};
-ghost use Rattle.tect_calls.specs.Teaching.{exists_facts, checked, made_facts, granted_facts, replaced_facts, bound_facts, swapped_facts, unbound_facts, name_taught, file_taught, taught};
+ghost use Rattle.tect_calls.specs.Teaching.{exists_facts, checked, made_facts, granted_facts, replaced_facts};
+ghost use Rattle.tect_calls.specs.Teaching.{bound_facts, swapped_facts, unbound_facts, name_taught, file_taught};
+ghost use Rattle.tect_calls.specs.Teaching.{taught};
 
 use crate::tokens::{Fact, Granted, Made, Spent};
 use std::alloc::Global;

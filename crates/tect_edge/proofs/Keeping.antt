@@ -9,4 +9,5 @@ keeps_first room kept piece within =
     let spare = room - length kept in
     let order : min (length piece) spare ≡ min spare (length piece) = omega arith in
     let whole : length kept + spare ≡ room = omega arith in
-    ap (λ n. kept ++ take n piece) order ∙ ap (λ l. kept ++ l) (take_min spare piece) ∙ sym (take-append-add kept piece spare) ∙ ap (λ n. take n (kept ++ piece)) whole
+    ap (λ n. kept ++ take n piece) order ∙ ap (λ l. kept ++ l) (take_min spare piece) ∙ sym (take-append-add kept piece spare) ∙ ap
+        (λ n. take n (kept ++ piece)) whole

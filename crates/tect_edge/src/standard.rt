@@ -1,4 +1,7 @@
-ghost use Rattle.std.specs.Prelude.{◌≡◌};
+ghost use Rattle.std.specs.Prelude.{◌≡◌, ◌<◌, [], Ok, length, IfOk, OnErr};
+ghost use Rattle.std.specs.Io.{ReadsAtMost, WritesAtMost};
+ghost use Rattle.std.specs.Io.KnownBytes.{ReadConsumes, WriteAppends};
+ghost use Rattle.tect_edge.specs.Counts.{HasCause, next_count};
 
 use crate::sink::Sink;
 use crate::source::{Failed, Source};
@@ -41,7 +44,15 @@ impl<R: Read> Source for StdSource<R> {
 
     ghost calls = { λ s. s.calls };
 
-    fn take(&mut self, into: &mut [u8]) -> Result<usize, Failed> {
+    /// Fails where the reader does, and then counts one fault more, up to the count's last value.
+    fn take(&mut self, into: &mut [u8]) -> Result<usize, Failed>
+        ensures bound { ReadsAtMost result into.new }
+        ensures bytes { ReadConsumes (R.remaining self.old.inner) (R.remaining self.new.inner) result into.new }
+        ensures cause { HasCause self.old.faults self.new.faults result }
+        ensures call { self.new.calls ≡ next_count self.old.calls }
+
+        ensures counted { OnErr result (self.new.faults ≡ next_count self.old.faults) }
+    {
         self.calls = self.calls.saturating_add(1);
         match self.inner.read(into) {
             Ok(count) => Ok(count),
@@ -54,7 +65,7 @@ impl<R: Read> Source for StdSource<R> {
 }
 
 /// A writer of std with a count of its failures. It tells the bytes written where the writer does.
-/// A call that takes none of a nonempty piece is a failure.
+/// A call of it that takes nothing is a failure.
 #[derive(Drop)]
 pub struct StdSink<W: Write> {
     inner: W,
@@ -83,9 +94,22 @@ impl<W: Write> Sink for StdSink<W> {
 
     ghost faults = { λ s. s.faults };
 
-    fn put(&mut self, piece: &[u8]) -> Result<usize, Failed> {
+    /// Fails where the writer does or takes none of a nonempty piece, and then counts one fault more, up to the count's last
+    /// value. An empty piece is taken without a call of the writer.
+    fn put(&mut self, piece: &[u8]) -> Result<usize, Failed>
+        ensures bound { WritesAtMost result piece.now }
+        ensures some { 0 < length piece.now → IfOk result (λ n. 0 < n) }
+        ensures bytes { WriteAppends (W.contents self.old.inner) (W.contents self.new.inner) result piece.now }
+        ensures cause { HasCause self.old.faults self.new.faults result }
+
+        ensures counted { OnErr result (self.new.faults ≡ next_count self.old.faults) }
+        ensures empty { piece.now ≡ [] → result ≡ Ok 0 }
+    {
+        if piece.is_empty() {
+            return Ok(0);
+        }
         match self.inner.write(piece) {
-            Ok(count) if 0 < count || piece.is_empty() => Ok(count),
+            Ok(count) if 0 < count => Ok(count),
             _ => {
                 self.faults = self.faults.saturating_add(1);
                 Err(Failed)

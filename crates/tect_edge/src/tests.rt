@@ -1,6 +1,6 @@
 use crate::{
-    BytesSink, BytesSource, Failed, Gate, MeetGate, OpenGate, ReadFault, Sink, Source, StdSink,
-    StdSource, SureSink, SureSource, put_all, read_input,
+    BytesSink, BytesSource, Failed, Gate, MeetGate, OpenGate, ReadFault, StdSink, SureSink,
+    put_all, read_input,
 };
 use std::alloc::{AllocError, Global};
 use std::test::Fail;
@@ -15,23 +15,15 @@ fn sevens(alloc: Global, length: usize, failing: &[u64]) -> Result<BytesSource, 
 }
 
 #[test]
-fn input_at_the_limit_is_read_whole(rt: HostRuntime) -> Result<(), Fail> {
+fn ample_memory_is_enough(rt: HostRuntime) -> Result<(), Fail> {
     let mut source = sevens(rt.alloc(), 9000, &[])?;
     let found = read_input(rt.alloc(), 9000, &mut source);
     assert!(rt; matches!(&found, Ok(Some(bytes)) if bytes.len() == 9000));
     // 8192 bytes, 808 bytes, the end
     assert_eq!(rt; source.calls(), 3);
-    Ok(())
-}
-
-#[test]
-fn input_over_the_limit_is_refused(rt: HostRuntime) -> Result<(), Fail> {
-    let mut source = sevens(rt.alloc(), 9002, &[])?;
-    assert!(rt; matches!(read_input(rt.alloc(), 9000, &mut source), Ok(None)));
-    // 9001 bytes were taken, and the last is left
-    let mut rest = [0; 2];
-    assert_eq!(rt; source.take(&mut rest), Ok(1));
-    assert_eq!(rt; rest, [7, 0]);
+    let mut sink = SureSink::new(rt.alloc(), 5)?;
+    assert_eq!(rt; put_all(&mut sink, b"onetwo"), Ok(()));
+    assert_eq!(rt; sink.bytes(), b"onetw".as_slice());
     Ok(())
 }
 
@@ -50,19 +42,6 @@ fn failing_second_take_ends_the_reading(rt: HostRuntime) -> Result<(), Fail> {
 }
 
 #[test]
-fn sure_source_and_reader_are_read_whole(rt: HostRuntime) -> Result<(), Fail> {
-    let mut source = SureSource::new(Vec::from_slice(rt.alloc(), b"abc")?);
-    let found = read_input(rt.alloc(), 10, &mut source);
-    assert!(rt; matches!(&found, Ok(Some(bytes)) if bytes.as_slice() == b"abc".as_slice()));
-    let text: &[u8] = b"abc";
-    let mut source = StdSource::new(text);
-    let found = read_input(rt.alloc(), 3, &mut source);
-    assert!(rt; matches!(&found, Ok(Some(bytes)) if bytes.as_slice() == b"abc".as_slice()));
-    assert_eq!(rt; source.faults(), 0);
-    Ok(())
-}
-
-#[test]
 fn failing_second_put_keeps_the_first_piece(rt: HostRuntime) -> Result<(), Fail> {
     let failing = Vec::from_slice(rt.alloc(), &[2])?;
     let mut sink = BytesSink::new(rt.alloc(), failing);
@@ -71,15 +50,6 @@ fn failing_second_put_keeps_the_first_piece(rt: HostRuntime) -> Result<(), Fail>
     assert_eq!(rt; put_all(&mut sink, b"three"), Ok(()));
     assert_eq!(rt; sink.bytes(), b"onethree".as_slice());
     assert_eq!(rt; sink.faults(), 1);
-    Ok(())
-}
-
-#[test]
-fn sure_sink_keeps_what_it_has_room_for(rt: HostRuntime) -> Result<(), Fail> {
-    let mut sink = SureSink::new(rt.alloc(), 5)?;
-    assert_eq!(rt; sink.put(b"one"), Ok(3));
-    assert_eq!(rt; put_all(&mut sink, b"two"), Ok(()));
-    assert_eq!(rt; sink.bytes(), b"onetw".as_slice());
     Ok(())
 }
 
@@ -101,7 +71,7 @@ fn tell_commit<G: Gate>(gate: &G, worker: u32) {
 }
 
 #[test]
-fn workers_one_after_another_do_not_meet(rt: HostRuntime) {
+fn workers_meet_only_side_by_side(rt: HostRuntime) {
     tell_commit(&OpenGate, 0);
     for (first, second) in [(0, 1), (1, 0)] {
         let gate = MeetGate::start(10);
@@ -109,10 +79,6 @@ fn workers_one_after_another_do_not_meet(rt: HostRuntime) {
         tell_commit(&gate, second);
         assert!(rt; !gate.met(), "{first} before {second}");
     }
-}
-
-#[test]
-fn workers_side_by_side_meet(rt: HostRuntime) {
     let gate = MeetGate::start(200_000_000);
     assert!(rt; !gate.met());
     join(&rt, || tell_commit(&gate, 0), || tell_commit(&gate, 1));

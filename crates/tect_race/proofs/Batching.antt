@@ -1,4 +1,4 @@
--- What the crews of all batches came to.
+-- What the workers of all batches came to.
 use Rattle.std.proofs.Common.{◌≡◌, ℕ, ◌<◌, Result, Ok, Err, IsOk, IfOk, IfErr, List, Vec, [], ◌∷◌, ◌++◌, length, get_or, sym, subst}
 use Rattle.std.specs.declared.alloc.Global.{Global}
 use Rattle.std.specs.List.{All, AllZip, AllByRecursion, flat_map}
@@ -6,12 +6,12 @@ use Rattle.std.proofs.lemmas.List.Elements.{All-nil, All-cons, All-head, All-tai
 use Rattle.std.proofs.lemmas.Option.{slice_get_within, get_or_from_slice_get}
 use Rattle.tect_ids.specs.declared.ids.Counts.{Counts}
 use Rattle.tect_ids.specs.declared.script.Line.{Line}
-use Rattle.tect_race.specs.declared.crew.Crew.{Crew}
+use Rattle.tect_race.specs.declared.workers.Worker.{Worker}
 use Rattle.race_ends.specs.declared.fault.RaceFault.{RaceFault}
 use Rattle.race_ends.specs.Faults.{IsLossOf}
-use Rattle.tect_race.specs.Crews.{CrewEnds}
-use Rattle.tect_race.specs.Batches.{BatchCame, AreBatches, ended_crews}
-use Rattle.tect_race.proofs.Mustering.{zip_from}
+use Rattle.tect_race.specs.Workers.{WorkerEnds}
+use Rattle.tect_race.specs.Batches.{BatchCame, AreBatches, ended_workers}
+use Rattle.tect_race.proofs.Collecting.{zip_from}
 
 all_front : {A : Type 0} → (P : A → Type 0) (xs ys : List A) → All P (xs ++ ys) → All P xs
 all_front P [] ys all = All-nil P
@@ -21,11 +21,11 @@ all_back : {A : Type 0} → (P : A → Type 0) (xs ys : List A) → All P (xs ++
 all_back P [] ys all = all
 all_back P (x ∷ xs) ys all = all_back P xs ys (All-tail P x (xs ++ ys) all)
 
--- what all crews meet those of each batch meet
-pub each_batch : (P : Crew → Type 0) (bs : List (Vec Crew Global)) → All P (flat_map (λ (b : Vec Crew Global). b.items) bs) → All (λ b. All P b.items) bs
-each_batch P [] all = All-nil (λ (b : Vec Crew Global). All P b.items)
+-- what all workers meet those of each batch meet
+pub each_batch : (P : Worker → Type 0) (bs : List (Vec Worker Global)) → All P (flat_map (λ (b : Vec Worker Global). b.items) bs) → All (λ b. All P b.items) bs
+each_batch P [] all = All-nil (λ (b : Vec Worker Global). All P b.items)
 each_batch P (b ∷ bs) all =
-    All-cons (λ (b : Vec Crew Global). All P b.items) b bs (all_front P b.items (flat_map (λ (b : Vec Crew Global). b.items) bs) all) (each_batch P bs (all_back P b.items (flat_map (λ (b : Vec Crew Global). b.items) bs) all))
+    All-cons (λ (b : Vec Worker Global). All P b.items) b bs (all_front P b.items (flat_map (λ (b : Vec Worker Global). b.items) bs) all) (each_batch P bs (all_back P b.items (flat_map (λ (b : Vec Worker Global). b.items) bs) all))
 
 pub zip_append : {A B : Type 0} → (R : A → B → Type 0) (xs us : List A) (ys vs : List B) → AllZip R xs ys → AllZip R us vs → AllZip R (xs ++ us) (ys ++ vs)
 zip_append R [] us [] vs z w = w
@@ -38,44 +38,44 @@ if_both (Ok v) f h k = f v h k
 if_both (Err e) f h k = tt
 
 module _ (counts : Counts) (names : List (List ℕ)) (w : ℕ) (ls later : List Line) where
-  abbrev pub Came : Vec Crew Global → Result (Vec Crew Global) RaceFault → Type 0
+  abbrev pub Came : Vec Worker Global → Result (Vec Worker Global) RaceFault → Type 0
   Came batch r = BatchCame counts names w ls later batch.items r
 
-  pub all_came : (bs : List (Vec Crew Global)) (rs : List (Result (Vec Crew Global) RaceFault)) → length rs ≡ length bs
-      → ((i : ℕ) (b : Vec Crew Global) (r : Result (Vec Crew Global) RaceFault) → i < length bs → Came (get_or bs i b) (get_or rs i r)) → AllZip Came bs rs
+  pub all_came : (bs : List (Vec Worker Global)) (rs : List (Result (Vec Worker Global) RaceFault)) → length rs ≡ length bs
+      → ((i : ℕ) (b : Vec Worker Global) (r : Result (Vec Worker Global) RaceFault) → i < length bs → Came (get_or bs i b) (get_or rs i r)) → AllZip Came bs rs
   all_came bs rs l h =
       zip_from Came bs rs l (λ i b r e f.
-      subst (λ (x : Vec Crew Global). Came x r) (get_or_from_slice_get bs i b b e)
-      (subst (λ (y : Result (Vec Crew Global) RaceFault). Came (get_or bs i b) y) (get_or_from_slice_get rs i r r f) (h i b r (slice_get_within bs i b e))))
+      subst (λ (x : Vec Worker Global). Came x r) (get_or_from_slice_get bs i b b e)
+      (subst (λ (y : Result (Vec Worker Global) RaceFault). Came (get_or bs i b) y) (get_or_from_slice_get rs i r r f) (h i b r (slice_get_within bs i b e))))
 
-  stray_of : (b : Vec Crew Global) (r : Result (Vec Crew Global) RaceFault) → Came b r → IfErr r (IsLossOf counts)
+  stray_of : (b : Vec Worker Global) (r : Result (Vec Worker Global) RaceFault) → Came b r → IfErr r (IsLossOf counts)
   stray_of b (Ok d) came = tt
   stray_of b (Err e) came = came.so
 
-  came_strays : (bs : List (Vec Crew Global)) (rs : List (Result (Vec Crew Global) RaceFault)) → AllZip Came bs rs → AllByRecursion (λ r. IfErr r (IsLossOf counts)) rs
+  came_strays : (bs : List (Vec Worker Global)) (rs : List (Result (Vec Worker Global) RaceFault)) → AllZip Came bs rs → AllByRecursion (λ r. IfErr r (IsLossOf counts)) rs
   came_strays [] [] z = tt
   came_strays [] (r ∷ rs) z = absurd z
   came_strays (b ∷ bs) [] z = absurd z
   came_strays (b ∷ bs) (r ∷ rs) z = (stray_of b r z.0, came_strays bs rs z.1)
 
-  pub strays : (bs : List (Vec Crew Global)) (rs : List (Result (Vec Crew Global) RaceFault)) → AllZip Came bs rs → All (λ r. IfErr r (IsLossOf counts)) rs
+  pub strays : (bs : List (Vec Worker Global)) (rs : List (Result (Vec Worker Global) RaceFault)) → AllZip Came bs rs → All (λ r. IfErr r (IsLossOf counts)) rs
   strays bs rs z = All-from_recursion (λ r. IfErr r (IsLossOf counts)) rs (came_strays bs rs z)
 
-  ended_of : (b : Vec Crew Global) (r : Result (Vec Crew Global) RaceFault) → Came b r → IsOk r → AllZip (CrewEnds counts names w ls later) b.items (ended_crews r)
+  ended_of : (b : Vec Worker Global) (r : Result (Vec Worker Global) RaceFault) → Came b r → IsOk r → AllZip (WorkerEnds counts names w ls later) b.items (ended_workers r)
   ended_of b (Ok d) came ok = came.so
   ended_of b (Err e) came ok = absurd (cc)
 
-  all_ended : (bs : List (Vec Crew Global)) (rs : List (Result (Vec Crew Global) RaceFault)) → AllZip Came bs rs → All (λ r. IsOk r) rs
-      → AllZip (CrewEnds counts names w ls later) (flat_map (λ (b : Vec Crew Global). b.items) bs) (flat_map ended_crews rs)
+  all_ended : (bs : List (Vec Worker Global)) (rs : List (Result (Vec Worker Global) RaceFault)) → AllZip Came bs rs → All (λ r. IsOk r) rs
+      → AllZip (WorkerEnds counts names w ls later) (flat_map (λ (b : Vec Worker Global). b.items) bs) (flat_map ended_workers rs)
   all_ended [] [] z ok = tt
   all_ended [] (r ∷ rs) z ok = absurd z
   all_ended (b ∷ bs) [] z ok = absurd z
   all_ended (b ∷ bs) (r ∷ rs) z ok =
-      zip_append (CrewEnds counts names w ls later) b.items (flat_map (λ (b : Vec Crew Global). b.items) bs) (ended_crews r) (flat_map ended_crews rs)
-      (ended_of b r z.0 (All-head (λ (r : Result (Vec Crew Global) RaceFault). IsOk r) r rs ok)) (all_ended bs rs z.1 (All-tail (λ (r : Result (Vec Crew Global) RaceFault). IsOk r) r rs ok))
+      zip_append (WorkerEnds counts names w ls later) b.items (flat_map (λ (b : Vec Worker Global). b.items) bs) (ended_workers r) (flat_map ended_workers rs)
+      (ended_of b r z.0 (All-head (λ (r : Result (Vec Worker Global) RaceFault). IsOk r) r rs ok)) (all_ended bs rs z.1 (All-tail (λ (r : Result (Vec Worker Global) RaceFault). IsOk r) r rs ok))
 
-  pub crews_ended : (cs ds : List Crew) (bs : List (Vec Crew Global)) (rs : List (Result (Vec Crew Global) RaceFault)) → AreBatches w ls cs bs → AllZip Came bs rs → All (λ r. IsOk r) rs → ds ≡ flat_map ended_crews rs
-      → AllZip (CrewEnds counts names w ls later) cs ds
-  crews_ended cs ds bs rs are z ok is =
-      subst (λ (l : List Crew). AllZip (CrewEnds counts names w ls later) l ds) are.joined
-      (subst (λ (l : List Crew). AllZip (CrewEnds counts names w ls later) (flat_map (λ (b : Vec Crew Global). b.items) bs) l) (sym is) (all_ended bs rs z ok))
+  pub workers_ended : (cs ds : List Worker) (bs : List (Vec Worker Global)) (rs : List (Result (Vec Worker Global) RaceFault)) → AreBatches w ls cs bs → AllZip Came bs rs → All (λ r. IsOk r) rs → ds ≡ flat_map ended_workers rs
+      → AllZip (WorkerEnds counts names w ls later) cs ds
+  workers_ended cs ds bs rs are z ok is =
+      subst (λ (l : List Worker). AllZip (WorkerEnds counts names w ls later) l ds) are.joined
+      (subst (λ (l : List Worker). AllZip (WorkerEnds counts names w ls later) (flat_map (λ (b : Vec Worker Global). b.items) bs) l) (sym is) (all_ended bs rs z ok))

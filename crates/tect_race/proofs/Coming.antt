@@ -10,13 +10,15 @@ use Rattle.tect_ids.specs.declared.script.Line.{Line}
 use Rattle.tect_ids.specs.declared.script.Line.TheVariants as lines
 use Rattle.tect_ids.specs.declared.script.ReportLine.{ReportLine}
 use Rattle.race_runs.specs.Gathered.{IsLineOf}
+use Rattle.place_kit.specs.declared.pass.Pass.{Pass}
 use Rattle.players.specs.declared.racer.Racer.{Racer}
 use Rattle.race_ends.specs.declared.ended.EndedPart.{EndedPart}
 use Rattle.race_ends.specs.HaveRun.{HaveRun}
-use Rattle.tect_race.specs.Crews.{RacersRan, AllClosed}
+use Rattle.tect_race.specs.Workers.{RacersRan, AllClosed}
+use Rattle.tect_race.specs.Passes.{IsPassOf}
 use Rattle.tect_race.specs.Progress.{Stood, HasCome}
 use Rattle.tect_race.specs.Ready.{AreRacers, IsOfClient}
-use Rattle.tect_race.specs.declared.script.Progress.{Progress}
+use Rattle.tect_race.specs.declared.rounds.Progress.{Progress}
 use Rattle.tect_race.proofs.Looping.{stood_on, run_ended}
 use Rattle.tect_race.proofs.Parts.{lines_to, drop_more, all_more}
 
@@ -53,12 +55,12 @@ module _ (counts : Counts) (names : List (List ℕ)) (ls : List Line) (p : Progr
       subst (λ (l : List Line). Stood counts names l (drop (dump + 1) ls) e.clock us (p.ended.items ++ e ∷ [])) (sym (lines_to ls p.start dump lines.Dump come.low within read)) stood
 
   -- the script ends the last part
-  pub come_to_end : (ts us : List Racer) (k : ℕ) (last : List ReportLine) → HasPlaces counts → All (IsLineOf (length names)) ls → HasCome counts names ls (length ls) p → RacersRan names (slice_range ls p.start (length ls)) p.racers.items ts
-      → AreRacers counts (drop (length ls) ls) ts → AllClosed k ts us → last ≡ flat_map (λ r. r.answers.items) ts → HaveRun counts names ls us p.ended.items last
-  come_to_end ts us k last places asked come ran ready closed told =
+  pub come_to_end : (ts us : List Racer) (ps : List Pass) (k : ℕ) (last : List ReportLine) → HasPlaces counts → All (IsLineOf (length names)) ls → HasCome counts names ls (length ls) p → RacersRan names (slice_range ls p.start (length ls)) p.racers.items ts
+      → AreRacers counts (drop (length ls) ls) ts → k < 2 ^ 63 → All (λ r. r.client.clock ≤ k) ts → AllClosed k ts us → AllZip IsPassOf us ps → last ≡ flat_map (λ r. r.answers.items) ts → HaveRun counts names ls ps p.ended.items last
+  come_to_end ts us ps k last places asked come ran ready low high closed taken told =
       let part : List Line = slice_range ls p.start (length ls) in
       let all : part ≡ drop p.start ls = take_all (length ls - p.start) (drop p.start ls) (let d = length-drop p.start ls in omega arith) in
       let whole : take p.start ls ++ part ≡ ls = ap (λ l. take p.start ls ++ l) all ∙ take-append-drop p.start ls in
       let run = run_ended counts names (take p.start ls) (drop p.start ls) part p.clock p.racers.items ts us p.ended.items come.stood ran
-      (drop (length ls) ls) k last places (subst (All (IsLineOf (length names))) (sym whole) asked) ready (recursion_from_All (IsOfClient (length names)) part come.part) closed told in
-      subst (λ (l : List Line). HaveRun counts names l us p.ended.items last) whole run
+      (drop (length ls) ls) k ps last places (subst (All (IsLineOf (length names))) (sym whole) asked) ready (recursion_from_All (IsOfClient (length names)) part come.part) low high closed taken told in
+      subst (λ (l : List Line). HaveRun counts names l ps p.ended.items last) whole run

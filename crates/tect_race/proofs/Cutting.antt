@@ -1,10 +1,10 @@
--- Crews that are cut into batches, one after another.
+-- Workers that are cut into batches, one after another.
 use Rattle.std.proofs.Common.{◌≡◌, ℕ, ◌+◌, ◌≤◌, Bool, true, false, cond, ◌&&◌, ◌||◌, List, Vec, [], ◌∷◌, ◌++◌, length, filter, length-append, append_assoc, refl, sym, ap, ◌∙◌, arith, max, lit≤}
 use Rattle.std.specs.declared.alloc.Global.{Global}
 use Rattle.std.specs.List.{All, flat_map}
 use Rattle.std.proofs.lemmas.List.Elements.{All-push}
 use Rattle.tect_ids.specs.declared.script.Line.{Line}
-use Rattle.tect_race.specs.declared.crew.Crew.{Crew}
+use Rattle.tect_race.specs.declared.workers.Worker.{Worker}
 use Rattle.tect_race.specs.Batches.{has_line, busy_count, AreBatches}
 use Rattle.tect_race.proofs.Endings.{flat_map-snoc}
 
@@ -12,12 +12,12 @@ abbrev pub one_if : Bool → ℕ
 one_if true = 1
 one_if false = 0
 
--- These crews are cut so far: into the batches that are done, and one more, which has a crew with a line or is the first one.
-pub record IsCut (workers : ℕ) (ls : List Line) (cs : List Crew) (done : List (Vec Crew Global)) (batch : List Crew) (busy : Bool) : Type 0 where
-  pub joined : flat_map (λ (b : Vec Crew Global). b.items) done ++ batch ≡ cs
-  pub alone : All (λ b. busy_count workers ls b.items ≤ 1) done
-  pub last : busy_count workers ls batch ≡ one_if busy
-  pub count : length done + one_if busy ≡ busy_count workers ls cs
+-- These workers are cut so far: into the batches that are done, and one more, which has a worker with a line or is the first one.
+pub record IsCut (worker_count : ℕ) (ls : List Line) (cs : List Worker) (done : List (Vec Worker Global)) (batch : List Worker) (busy : Bool) : Type 0 where
+  pub joined : flat_map (λ (b : Vec Worker Global). b.items) done ++ batch ≡ cs
+  pub alone : All (λ b. busy_count worker_count ls b.items ≤ 1) done
+  pub last : busy_count worker_count ls batch ≡ one_if busy
+  pub count : length done + one_if busy ≡ busy_count worker_count ls cs
   pub first : busy ≡ false → length done ≡ 0
 
 tally : (busy b : Bool) → (b && busy) ≡ false → one_if busy + one_if b ≡ one_if (busy || b)
@@ -44,8 +44,8 @@ batches_are : (n m : ℕ) (busy : Bool) → (busy ≡ false → n ≡ 0) → n +
 batches_are n m true first count = omega arith
 batches_are n m false first count = let z : n ≡ 0 = first refl in omega arith
 
-pub cut_none : (workers : ℕ) (ls : List Line) → IsCut workers ls [] [] [] false
-cut_none workers ls = record {
+pub cut_none : (worker_count : ℕ) (ls : List Line) → IsCut worker_count ls [] [] [] false
+cut_none worker_count ls = record {
   joined = refl;
   alone = λ k d l. absurd (omega arith);
   last = refl;
@@ -53,46 +53,46 @@ cut_none workers ls = record {
   first = λ h. refl;
 }
 
-module _ (workers : ℕ) (ls : List Line) where
-  one_count : (c : Crew) → busy_count workers ls (c ∷ []) ≡ one_if (has_line workers ls c)
-  one_count c = elim (has_line workers ls c) as (λ b. length (cond b (c ∷ []) []) ≡ one_if b) [ true ↦ refl | false ↦ refl ]
+module _ (worker_count : ℕ) (ls : List Line) where
+  one_count : (c : Worker) → busy_count worker_count ls (c ∷ []) ≡ one_if (has_line worker_count ls c)
+  one_count c = elim (has_line worker_count ls c) as (λ b. length (cond b (c ∷ []) []) ≡ one_if b) [ true ↦ refl | false ↦ refl ]
 
-  count_on : (cs : List Crew) (c : Crew) → busy_count workers ls (cs ++ c ∷ []) ≡ busy_count workers ls cs + one_if (has_line workers ls c)
-  count_on [] c = let o : busy_count workers ls (c ∷ []) ≡ one_if (has_line workers ls c) = one_count c in omega arith
+  count_on : (cs : List Worker) (c : Worker) → busy_count worker_count ls (cs ++ c ∷ []) ≡ busy_count worker_count ls cs + one_if (has_line worker_count ls c)
+  count_on [] c = let o : busy_count worker_count ls (c ∷ []) ≡ one_if (has_line worker_count ls c) = one_count c in omega arith
   count_on (x ∷ xs) c =
-      let more : length (filter (has_line workers ls) (xs ++ c ∷ [])) ≡ length (filter (has_line workers ls) xs) + one_if (has_line workers ls c) = count_on xs c in
-      elim (has_line workers ls x) as (λ b. length (cond b (x ∷ filter (has_line workers ls) (xs ++ c ∷ [])) (filter (has_line workers ls) (xs ++ c ∷ []))) ≡ length (cond b (x ∷ filter (has_line workers ls) xs) (filter (has_line workers ls) xs)) + one_if (has_line workers ls c)) [
+      let more : length (filter (has_line worker_count ls) (xs ++ c ∷ [])) ≡ length (filter (has_line worker_count ls) xs) + one_if (has_line worker_count ls c) = count_on xs c in
+      elim (has_line worker_count ls x) as (λ b. length (cond b (x ∷ filter (has_line worker_count ls) (xs ++ c ∷ [])) (filter (has_line worker_count ls) (xs ++ c ∷ []))) ≡ length (cond b (x ∷ filter (has_line worker_count ls) xs) (filter (has_line worker_count ls) xs)) + one_if (has_line worker_count ls c)) [
         | true ↦ omega arith
         | false ↦ more
       ]
 
-  module _ (cs : List Crew) (done : List (Vec Crew Global)) (batch : Vec Crew Global) (busy : Bool) (is : IsCut workers ls cs done batch.items busy) where
-    few : busy_count workers ls batch.items ≤ 1
+  module _ (cs : List Worker) (done : List (Vec Worker Global)) (batch : Vec Worker Global) (busy : Bool) (is : IsCut worker_count ls cs done batch.items busy) where
+    few : busy_count worker_count ls batch.items ≤ 1
     few =
-        let l : busy_count workers ls batch.items ≡ one_if busy = is.last in
+        let l : busy_count worker_count ls batch.items ≡ one_if busy = is.last in
         let m : one_if busy ≤ 1 = at_most_one busy in
         omega arith
 
-    all_done : All (λ b. busy_count workers ls b.items ≤ 1) (done ++ batch ∷ [])
-    all_done = All-push (λ (b : Vec Crew Global). busy_count workers ls b.items ≤ 1) done batch is.alone few
+    all_done : All (λ b. busy_count worker_count ls b.items ≤ 1) (done ++ batch ∷ [])
+    all_done = All-push (λ (b : Vec Worker Global). busy_count worker_count ls b.items ≤ 1) done batch is.alone few
 
-    whole : flat_map (λ (b : Vec Crew Global). b.items) (done ++ batch ∷ []) ≡ cs
-    whole = flat_map-snoc (λ (b : Vec Crew Global). b.items) done batch ∙ is.joined
+    whole : flat_map (λ (b : Vec Worker Global). b.items) (done ++ batch ∷ []) ≡ cs
+    whole = flat_map-snoc (λ (b : Vec Worker Global). b.items) done batch ∙ is.joined
 
     longer : length (done ++ batch ∷ []) ≡ length done + 1
     longer = length-append done (batch ∷ [])
 
-    -- a crew goes into the batch
-    pub cut_in : (c : Crew) (items : List Crew) (b : Bool) → b ≡ has_line workers ls c → items ≡ batch.items ++ c ∷ [] → (b && busy) ≡ false → IsCut workers ls (cs ++ c ∷ []) done items (busy || b)
+    -- a worker goes into the batch
+    pub cut_in : (c : Worker) (items : List Worker) (b : Bool) → b ≡ has_line worker_count ls c → items ≡ batch.items ++ c ∷ [] → (b && busy) ≡ false → IsCut worker_count ls (cs ++ c ∷ []) done items (busy || b)
     cut_in c items b e i apart =
         let t : one_if busy + one_if b ≡ one_if (busy || b) = tally busy b apart in
-        let q : one_if b ≡ one_if (has_line workers ls c) = ap one_if e in
-        let here : busy_count workers ls items ≡ busy_count workers ls batch.items + one_if (has_line workers ls c) = ap (busy_count workers ls) i ∙ count_on batch.items c in
-        let all : busy_count workers ls (cs ++ c ∷ []) ≡ busy_count workers ls cs + one_if (has_line workers ls c) = count_on cs c in
-        let l : busy_count workers ls batch.items ≡ one_if busy = is.last in
-        let n : length done + one_if busy ≡ busy_count workers ls cs = is.count in
+        let q : one_if b ≡ one_if (has_line worker_count ls c) = ap one_if e in
+        let here : busy_count worker_count ls items ≡ busy_count worker_count ls batch.items + one_if (has_line worker_count ls c) = ap (busy_count worker_count ls) i ∙ count_on batch.items c in
+        let all : busy_count worker_count ls (cs ++ c ∷ []) ≡ busy_count worker_count ls cs + one_if (has_line worker_count ls c) = count_on cs c in
+        let l : busy_count worker_count ls batch.items ≡ one_if busy = is.last in
+        let n : length done + one_if busy ≡ busy_count worker_count ls cs = is.count in
         record {
-          joined = ap (λ l. flat_map (λ (b : Vec Crew Global). b.items) done ++ l) i ∙ sym (append_assoc (flat_map (λ (b : Vec Crew Global). b.items) done) batch.items (c ∷ [])) ∙ ap (λ l. l ++ c ∷ []) is.joined;
+          joined = ap (λ l. flat_map (λ (b : Vec Worker Global). b.items) done ++ l) i ∙ sym (append_assoc (flat_map (λ (b : Vec Worker Global). b.items) done) batch.items (c ∷ [])) ∙ ap (λ l. l ++ c ∷ []) is.joined;
           alone = is.alone;
           last = omega arith;
           count = omega arith;
@@ -100,19 +100,19 @@ module _ (workers : ℕ) (ls : List Line) where
         }
 
     -- or into a new one
-    pub cut_off : (c : Crew) (items : List Crew) (b : Bool) → b ≡ has_line workers ls c → items ≡ c ∷ [] → (b && busy) ≡ true → IsCut workers ls (cs ++ c ∷ []) (done ++ batch ∷ []) items (busy || b)
+    pub cut_off : (c : Worker) (items : List Worker) (b : Bool) → b ≡ has_line worker_count ls c → items ≡ c ∷ [] → (b && busy) ≡ true → IsCut worker_count ls (cs ++ c ∷ []) (done ++ batch ∷ []) items (busy || b)
     cut_off c items b e i twice =
         let two = both busy b twice in
-        let q : one_if b ≡ one_if (has_line workers ls c) = ap one_if e in
+        let q : one_if b ≡ one_if (has_line worker_count ls c) = ap one_if e in
         let p : one_if b ≡ 1 = ap one_if two.1 in
         let r : one_if busy ≡ 1 = ap one_if two.0 in
         let s : one_if (busy || b) ≡ 1 = ap (λ v. one_if (v || b)) two.0 in
-        let here : busy_count workers ls items ≡ one_if (has_line workers ls c) = ap (busy_count workers ls) i ∙ one_count c in
-        let all : busy_count workers ls (cs ++ c ∷ []) ≡ busy_count workers ls cs + one_if (has_line workers ls c) = count_on cs c in
+        let here : busy_count worker_count ls items ≡ one_if (has_line worker_count ls c) = ap (busy_count worker_count ls) i ∙ one_count c in
+        let all : busy_count worker_count ls (cs ++ c ∷ []) ≡ busy_count worker_count ls cs + one_if (has_line worker_count ls c) = count_on cs c in
         let l : length (done ++ batch ∷ []) ≡ length done + 1 = longer in
-        let n : length done + one_if busy ≡ busy_count workers ls cs = is.count in
+        let n : length done + one_if busy ≡ busy_count worker_count ls cs = is.count in
         record {
-          joined = ap (λ l. flat_map (λ (b : Vec Crew Global). b.items) (done ++ batch ∷ []) ++ l) i ∙ ap (λ l. l ++ c ∷ []) whole;
+          joined = ap (λ l. flat_map (λ (b : Vec Worker Global). b.items) (done ++ batch ∷ []) ++ l) i ∙ ap (λ l. l ++ c ∷ []) whole;
           alone = all_done;
           last = omega arith;
           count = omega arith;
@@ -120,9 +120,9 @@ module _ (workers : ℕ) (ls : List Line) where
         }
 
     -- the last batch is done too
-    pub cut_all : AreBatches workers ls cs (done ++ batch ∷ [])
+    pub cut_all : AreBatches worker_count ls cs (done ++ batch ∷ [])
     cut_all = record {
       joined = whole;
       alone = all_done;
-      count = longer ∙ batches_are (length done) (busy_count workers ls cs) busy is.first is.count;
+      count = longer ∙ batches_are (length done) (busy_count worker_count ls cs) busy is.first is.count;
     }

@@ -16,7 +16,7 @@ use Rattle.race_runs.proofs.Growing.{no_part, dumped, moments_dumped, events_dum
 use Rattle.players.specs.declared.racer.Racer.{Racer}
 use Rattle.players.specs.Lives.{busy_in}
 use Rattle.race_ends.specs.declared.ended.EndedPart.{EndedPart}
-use Rattle.tect_race.specs.Crews.{Closed, AllClosed, RacersRan}
+use Rattle.tect_race.specs.Workers.{Closed, AllClosed, RacersRan}
 use Rattle.tect_race.specs.Standing.{Stands, AllStand, last_clock, first_answers, later_parts, HaveEnded}
 use Rattle.tect_race.proofs.Events.{filter-append, does_lines-append}
 use Rattle.tect_race.proofs.Stories.{silent_dumped, grown_story, stands_grown, same_ended, weaker}

@@ -1,54 +1,25 @@
 -- What a client's story is when it is finished.
-use Rattle.std.proofs.Common.{◌≡◌, ℕ, ◌<◌, ◌^◌, ◌==◌, true, List, [], ◌∷◌, ◌++◌, sym, ap, subst, ◌∙◌, arith}
+use Rattle.std.proofs.Common.{◌≡◌, ℕ, ◌<◌, ◌≤◌, ◌^◌, List, [], ◌∷◌, ◌++◌, sym, ap, subst, ◌∙◌, arith}
 use Rattle.std.specs.List.{All, AllByRecursion}
-use Rattle.std.proofs.lemmas.Grind.{common_steps}
 use Rattle.std.proofs.lemmas.List.Elements.{All-from_recursion, recursion_from_All}
 use Rattle.tect_ids.specs.declared.ids.Counts.{Counts}
 use Rattle.tect_ids.specs.declared.script.Line.{Line}
-use Rattle.tect_ids.proofs.KeyTests.{num_eq_cases}
 use Rattle.entry_words.specs.declared.entry.Moment.{Moment}
-use Rattle.entry_words.specs.declared.entry.Moment.TheVariants.{Act, Local}
-use Rattle.entry_words.specs.declared.entry.Note.TheVariants as notes
-use Rattle.entry_words.specs.Moments.{all_of_actor, all_notes_of}
 use Rattle.world_runs.specs.Moments.{idle_actor}
 use Rattle.world_runs.specs.Events.{IsPlaced, IsOwnNote}
 use Rattle.world_runs.specs.Woven.{IsSilent}
 use Rattle.world_runs.specs.Limits.{OwnLimits}
 use Rattle.world_runs.specs.OwnRuns.{OwnRun}
 use Rattle.clients.specs.Lives.{ClientLife, events_in, IsLife}
+use Rattle.noted_runs.proofs.Rooms.{own_notes}
+use Rattle.place_kit.specs.declared.pass.Pass.{Pass}
 use Rattle.race_runs.specs.Stories.{Part, Story, AllSilent, all_moments, all_events}
 use Rattle.players.specs.declared.racer.Racer.{Racer}
 use Rattle.players.specs.Lives.{busy_in}
-use Rattle.tect_race.specs.Crews.{Closed}
+use Rattle.tect_race.specs.Passes.{IsPassOf}
+use Rattle.tect_race.specs.Workers.{Closed}
 use Rattle.tect_race.specs.Standing.{Stands, all_silent}
 use Rattle.race_ends.specs.HaveRun.{HasStory}
-
-same_numbers : (a b c : ℕ) → (a == c) ≡ true → (b == c) ≡ true → a ≡ b
-same_numbers a b c e f = grind (arith, num_eq_cases a c, num_eq_cases b c, e, f)
-
-own_notes : (actor : ℕ) (ms : List Moment) → all_of_actor actor ms ≡ true → all_notes_of actor ms ≡ true → AllByRecursion IsOwnNote ms
-own_notes actor [] a n = tt
-own_notes actor (Act e ∷ ms) a n =
-    let more : all_of_actor actor ms ≡ true = grind (arith, common_steps, a) in
-    (tt, own_notes actor ms more n)
-own_notes actor (Local stamp by (notes.Began op c) ∷ ms) a n =
-    let here : (by == actor) ≡ true = grind (arith, common_steps, a) in
-    let more : all_of_actor actor ms ≡ true = grind (arith, common_steps, a) in
-    let note : (op.actor == actor) ≡ true = grind (arith, common_steps, n) in
-    let notes_more : all_notes_of actor ms ≡ true = grind (arith, common_steps, n) in
-    (same_numbers op.actor by actor note here, own_notes actor ms more notes_more)
-own_notes actor (Local stamp by (notes.Ended op c) ∷ ms) a n =
-    let here : (by == actor) ≡ true = grind (arith, common_steps, a) in
-    let more : all_of_actor actor ms ≡ true = grind (arith, common_steps, a) in
-    let note : (op.actor == actor) ≡ true = grind (arith, common_steps, n) in
-    let notes_more : all_notes_of actor ms ≡ true = grind (arith, common_steps, n) in
-    (same_numbers op.actor by actor note here, own_notes actor ms more notes_more)
-own_notes actor (Local stamp by (notes.Stopped op) ∷ ms) a n =
-    let here : (by == actor) ≡ true = grind (arith, common_steps, a) in
-    let more : all_of_actor actor ms ≡ true = grind (arith, common_steps, a) in
-    let note : (op.actor == actor) ≡ true = grind (arith, common_steps, n) in
-    let notes_more : all_notes_of actor ms ≡ true = grind (arith, common_steps, n) in
-    (same_numbers op.actor by actor note here, own_notes actor ms more notes_more)
 
 split_all : {A : Type 0} → (P : A → Type 0) (xs ys : List A) → AllByRecursion P (xs ++ ys) → AllByRecursion P xs × AllByRecursion P ys
 split_all P [] ys h = (tt, h)
@@ -61,7 +32,8 @@ silent_parts (x ∷ xs) p h =
     let r = silent_parts xs p s.1 in
     ((All-from_recursion IsSilent x.silent s.0, r.0), r.1)
 
-module _ (counts : Counts) (names : List (List ℕ)) (ls : List Line) (clocks : List ℕ) (k : ℕ) (r t : Racer) (s : Story) (is : Stands counts names ls clocks r s) (closed : Closed k r t) where
+module _ (counts : Counts) (names : List (List ℕ)) (ls : List Line) (clocks : List ℕ) (k : ℕ) (r t : Racer) (s : Story) (is : Stands counts names ls clocks r s) (closed : Closed k r t) (high : r.client.clock ≤ k) (low : k < 2 ^ 63)
+    (p : Pass) (of : IsPassOf t p) where
   abbrev life : IsLife t.client
   life = closed.life
 
@@ -80,21 +52,24 @@ module _ (counts : Counts) (names : List (List ℕ)) (ls : List Line) (clocks : 
   own_now : OwnRun counts idle_actor (all_events s.ended s.last)
   own_now = subst (λ (c : Counts). OwnRun c idle_actor (all_events s.ended s.last)) counts_now (subst (OwnRun t.client.counts idle_actor) events_now life.run)
 
-  limits_now : t.client.clock < 2 ^ 63 → OwnLimits counts [] idle_actor (all_events s.ended s.last)
-  limits_now l = subst (λ (c : Counts). OwnLimits c [] idle_actor (all_events s.ended s.last)) counts_now (subst (OwnLimits t.client.counts [] idle_actor) events_now (life.limits l))
+  early : t.client.clock < 2 ^ 63
+  early = let at = ap (λ (w : ClientLife). w.clock) closed.client in omega (arith, at, high, low)
+
+  limits_now : OwnLimits counts [] idle_actor (all_events s.ended s.last)
+  limits_now = subst (λ (c : Counts). OwnLimits c [] idle_actor (all_events s.ended s.last)) counts_now (subst (OwnLimits t.client.counts [] idle_actor) events_now (life.limits early))
 
   placed_now : All (IsPlaced counts) (all_moments s.ended s.last)
   placed_now = subst (λ (c : Counts). All (IsPlaced c) (all_moments s.ended s.last)) counts_now (subst (All (IsPlaced t.client.counts)) moments_now life.placed)
 
-  pub finished : HasStory counts names ls clocks t s
+  pub finished : HasStory counts names ls clocks p s
   finished =
       let silent = silent_parts s.ended s.last (recursion_from_All IsSilent (all_silent s.ended s.last) (subst (All IsSilent) silent_now life.silent)) in
       record {
-        actor = is.actor ∙ sym (ap (λ (w : ClientLife). w.actor) closed.client);
-        moments = moments_now;
-        story = λ l. record {
+        actor = is.actor ∙ sym (ap (λ (w : ClientLife). w.actor) closed.client) ∙ sym of.actor;
+        moments = of.moments ∙ moments_now;
+        story = record {
           own = own_now;
-          limits = limits_now l;
+          limits = limits_now;
           busy = busy_in r.client;
           does = is.does;
           timely = is.timely;

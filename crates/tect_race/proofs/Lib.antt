@@ -1,11 +1,11 @@
 pub mod Events
 pub mod Slots
 pub mod RacerLines
-pub mod CrewLines
+pub mod WorkerLines
 pub mod Losses
-pub mod Dealing
+pub mod Assigning
 pub mod Parts
-pub mod Mustering
+pub mod Collecting
 pub mod Batching
 pub mod Endings
 pub mod Cutting

@@ -1,5 +1,5 @@
 -- How far the loop over the parts of a script has come.
-use Rattle.std.proofs.Common.{◌≡◌, ℕ, suc, ◌+◌, ◌<◌, ◌≤◌, Some, List, [], ◌∷◌, ◌++◌, length, length-append, map, count_by, if◌then◌else◌, refl, sym, ap, subst, ◌∙◌, arith, slice_get}
+use Rattle.std.proofs.Common.{◌≡◌, ℕ, suc, ◌+◌, ◌<◌, ◌≤◌, ◌^◌, Some, List, [], ◌∷◌, ◌++◌, length, length-append, map, count_by, if◌then◌else◌, refl, sym, ap, subst, ◌∙◌, arith, slice_get}
 use Rattle.std.specs.List.{All, AllZip, AllByRecursion, flat_map}
 use Rattle.std.proofs.lemmas.List.Sums.{sum_by-cons}
 use Rattle.std.proofs.lemmas.List.Elements.{All-nil, recursion_from_All}
@@ -10,6 +10,7 @@ use Rattle.tect_ids.specs.declared.script.ReportLine.{ReportLine}
 use Rattle.entry_words.specs.Moments.{stamp_of}
 use Rattle.world_runs.specs.Turns.{all_idle}
 use Rattle.clients.specs.Lives.{ClientLife, idle_life, events_in, state_in}
+use Rattle.place_kit.specs.declared.pass.Pass.{Pass}
 use Rattle.race_runs.specs.Stories.{Story, Part}
 use Rattle.race_runs.specs.Gathered.{IsLineOf, is_dump, answers_now, part_of, rest_of}
 use Rattle.race_runs.proofs.Growing.{no_story, dumped}
@@ -20,13 +21,14 @@ use Rattle.race_ends.specs.HaveRun.{clocks_of, HasStory, HaveAnswers, HaveRun}
 use Rattle.world_runs.specs.Standing.{AtTurn}
 use Rattle.tect_ids.specs.Places.{HasPlaces}
 use Rattle.tect_race.specs.Lines.{Ran}
-use Rattle.tect_race.specs.Crews.{RacersRan, AllClosed, Closed}
+use Rattle.tect_race.specs.Workers.{RacersRan, AllClosed, Closed}
 use Rattle.tect_race.specs.Done.{AreNew, IsScript}
 use Rattle.tect_race.specs.Ready.{AreRacers, IsReady, IsOfClient}
+use Rattle.tect_race.specs.Passes.{IsPassOf}
 use Rattle.tect_race.specs.Progress.{Stood}
 use Rattle.tect_race.specs.Standing.{Stands, AllStand, HaveEnded, last_clock, first_answers, later_parts}
 use Rattle.tect_race.proofs.Dumps.{all_grown, all_dumped, all_told, all_parts, ended_on, last_is}
-use Rattle.tect_race.proofs.Mustering.{zip_length, zip_at}
+use Rattle.tect_race.proofs.Collecting.{zip_length, zip_at}
 use Rattle.tect_race.proofs.Finished.{finished}
 use Rattle.tect_race.proofs.Slots.{also_at}
 
@@ -137,14 +139,18 @@ length_clocks : (es : List EndedPart) → length (clocks_of es) ≡ length es
 length_clocks [] = refl
 length_clocks (x ∷ xs) = ap suc (length_clocks xs)
 
-all_finished : (counts : Counts) (names : List (List ℕ)) (ls : List Line) (clocks : List ℕ) (k : ℕ) (rs ts : List Racer) (ss : List Story) → AllStand counts names ls clocks rs ss → AllClosed k rs ts
-    → AllZip (HasStory counts names ls clocks) ts ss
-all_finished counts names ls clocks k [] [] [] a r = tt
-all_finished counts names ls clocks k [] (t ∷ ts) ss a r = absurd r
-all_finished counts names ls clocks k (x ∷ rs) [] ss a r = absurd r
-all_finished counts names ls clocks k [] [] (s ∷ ss) a r = absurd a
-all_finished counts names ls clocks k (x ∷ rs) (t ∷ ts) [] a r = absurd a
-all_finished counts names ls clocks k (x ∷ rs) (t ∷ ts) (s ∷ ss) a r = (finished counts names ls clocks k x t s a.0 r.0, all_finished counts names ls clocks k rs ts ss a.1 r.1)
+module _ (counts : Counts) (names : List (List ℕ)) (ls : List Line) (clocks : List ℕ) (k : ℕ) (low : k < 2 ^ 63) where
+  all_finished : (rs ts : List Racer) (ps : List Pass) (ss : List Story) → AllStand counts names ls clocks rs ss → AllClosed k rs ts → AllByRecursion (λ r. r.client.clock ≤ k) rs → AllZip IsPassOf ts ps
+      → AllZip (HasStory counts names ls clocks) ps ss
+  all_finished [] [] [] [] a r high of = tt
+  all_finished [] (t ∷ ts) ps ss a r high of = absurd r
+  all_finished (x ∷ rs) [] ps ss a r high of = absurd r
+  all_finished rs [] (p ∷ ps) ss a r high of = absurd of
+  all_finished rs (t ∷ ts) [] ss a r high of = absurd of
+  all_finished [] ts ps (s ∷ ss) a r high of = absurd a
+  all_finished (x ∷ rs) ts ps [] a r high of = absurd a
+  all_finished (x ∷ rs) (t ∷ ts) (p ∷ ps) (s ∷ ss) a r high of =
+      (finished counts names ls clocks k x t s a.0 r.0 high.0 low p of.0, all_finished rs ts ps ss a.1 r.1 high.1 of.1)
 
 later_is : (ps : List Part) → later_parts ps ≡ elim ps [ [] ↦ [] | p ∷ qs ↦ qs ]
 later_is [] = refl
@@ -214,17 +220,18 @@ module _ (counts : Counts) (names : List (List ℕ)) (done left part : List Line
     clock_is = ap (last_clock 0) (clocks-append es e) ∙ last_is 0 e.clock (clocks_of es);
   }
 
-  pub run_ended : (later : List Line) (k : ℕ) (last : List ReportLine) → HasPlaces counts → All (IsLineOf (length names)) (done ++ part) → AreRacers counts later ts → AllByRecursion (IsOfClient (length names)) part → AllClosed k ts us
-      → last ≡ flat_map (λ r. r.answers.items) ts → HaveRun counts names (done ++ part) us es last
-  run_ended later k last places asked ready own closed told = record {
+  pub run_ended : (later : List Line) (k : ℕ) (ps : List Pass) (last : List ReportLine) → HasPlaces counts → All (IsLineOf (length names)) (done ++ part) → AreRacers counts later ts → AllByRecursion (IsOfClient (length names)) part
+      → k < 2 ^ 63 → All (λ r. r.client.clock ≤ k) ts → AllClosed k ts us → AllZip IsPassOf us ps → last ≡ flat_map (λ r. r.answers.items) ts → HaveRun counts names (done ++ part) ps es last
+  run_ended later k ps last places asked ready own low high closed taken told = record {
     places = places;
     asked = asked;
     dumps = (let b = count-append done part in let n = no_dumps (length names) part own in let d = stood.dumps in omega arith);
-    number = zip_length (Closed k) ts us closed ∙ as_many;
-    numbered = λ i t e.
-        let r = also_at us ts i t e (sym (zip_length (Closed k) ts us closed)) in
-        ap (λ (w : ClientLife). w.actor) (zip_at (Closed k) ts us i r.0 t closed r.1 e).client ∙ ready.own i r.0 r.1;
+    number = zip_length IsPassOf us ps taken ∙ zip_length (Closed k) ts us closed ∙ as_many;
+    numbered = λ i p e.
+        let u = also_at ps us i p e (sym (zip_length IsPassOf us ps taken)) in
+        let r = also_at us ts i u.0 u.1 (sym (zip_length (Closed k) ts us closed)) in
+        (zip_at IsPassOf us ps i u.0 p taken u.1 e).actor ∙ ap (λ (w : ClientLife). w.actor) (zip_at (Closed k) ts us i r.0 u.0 closed r.1 u.1).client ∙ ready.own i r.0 r.1;
     stories = grown.0;
-    each = all_finished counts names (done ++ part) (clocks_of es) k ts us grown.0 grown.1 closed;
+    each = all_finished counts names (done ++ part) (clocks_of es) k low ts us ps grown.0 grown.1 closed (recursion_from_All (λ r. r.client.clock ≤ k) ts high) taken;
     answers = have_answers es last grown.0 lengths ended_still (told ∙ all_told counts names (done ++ part) (clocks_of es) ts grown.0 grown.1);
   }

@@ -39,12 +39,12 @@ at_front [] v n l = absurd (omega arith)
 at_front (x ∷ xs) v zero l = refl
 at_front (x ∷ xs) v (suc n) l = at_front xs v n (omega arith)
 
--- the client x has its place at x / w in the crew x % w, and no other client has it
+-- the client x has its place at x / w in the worker x % w, and no other client has it
 pub stands : (w x : ℕ) → x / w * w + x % w ≡ x
 stands w x = let e = mod-add-div' x w in omega arith
 
-pub place_crew : (w k s : ℕ) → k < w → (s * w + k) % w ≡ k
-place_crew w k s l = digits_mod s l
+pub place_worker : (w k s : ℕ) → k < w → (s * w + k) % w ≡ k
+place_worker w k s l = digits_mod s l
 
 pub place_slot : (w k s : ℕ) → k < w → (s * w + k) / w ≡ s
 place_slot w k s l = digits_div s l

@@ -1,5 +1,5 @@
 pub mod Lines
-pub mod Crews
+pub mod Workers
 pub mod Ready
 pub mod Faults
 pub mod Standing

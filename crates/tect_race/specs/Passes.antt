@@ -1,10 +1,9 @@
 -- The passes of the clients of a race.
-use Rattle.std.specs.Prelude.{◌≡◌, ◌<◌, ◌^◌}
+use Rattle.std.specs.Prelude.{◌≡◌}
 use Rattle.place_kit.specs.declared.pass.Pass.{Pass}
 use Rattle.players.specs.declared.racer.Racer.{Racer}
 
--- it is what the client noted, and its clock has not come to the limit
+-- it is what the client noted
 pub record IsPassOf (r : Racer) (p : Pass) : Type 0 where
   pub actor : p.actor ≡ r.client.actor
   pub moments : p.moments.items ≡ r.client.moments
-  pub early : r.client.clock < 2 ^ 63

@@ -10,7 +10,7 @@ use Rattle.race_ends.specs.HaveRun.{clocks_of}
 use Rattle.race_ends.specs.declared.ended.EndedPart.{EndedPart}
 use Rattle.tect_race.specs.Ready.{AreRacers, IsOfClient}
 use Rattle.tect_race.specs.Standing.{AllStand, HaveEnded, last_clock}
-use Rattle.tect_race.specs.declared.script.Progress.{Progress}
+use Rattle.tect_race.specs.declared.rounds.Progress.{Progress}
 
 -- These lines are done, and ended parts at their dumps, the last one at that clock. All clients are ready for the lines that are left.
 pub record Stood (counts : Counts) (names : List (List ℕ)) (done left : List Line) (clock : ℕ) (rs : List Racer) (es : List EndedPart) : Type 0 where

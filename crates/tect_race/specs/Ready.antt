@@ -8,7 +8,7 @@ use Rattle.world_runs.specs.Turns.{Turns, InTurnFrom}
 use Rattle.world_runs.specs.Standing.{AtTurn}
 use Rattle.clients.specs.Lives.{state_in}
 use Rattle.players.specs.declared.racer.Racer.{Racer}
-use Rattle.tect_race.specs.declared.crew.Crew.{Crew}
+use Rattle.tect_race.specs.declared.workers.Worker.{Worker}
 
 -- the line is of one of so many clients
 abbrev pub IsOfClient : ℕ → Line → Type 0
@@ -23,12 +23,12 @@ pub record IsReady (counts : Counts) (ls : List Line) (r : Racer) : Type 0 where
   pub turn : AtTurn (turns r.client.actor) (state_in r.client)
   pub few : (state_in r.client).number + length ls < 2 ^ 31
 
--- Of so many clients the crew of a worker has those whose number, from 0, leaves the worker's number when it is divided by that
+-- Of so many clients the worker of a worker has those whose number, from 0, leaves the worker's number when it is divided by that
 -- of all workers, in order; each is ready for these lines.
-pub record IsCrew (counts : Counts) (clients workers : ℕ) (ls : List Line) (c : Crew) : Type 0 where
-  pub number : c.number < workers
-  pub filled : (slot : ℕ) → (slot < length c.racers.items) ↔ (slot * workers + c.number < clients)
-  pub own : (slot : ℕ) (r : Racer) → slice_get c.racers.items slot ≡ Some r → r.client.actor ≡ slot * workers + c.number + 1
+pub record IsWorker (counts : Counts) (clients worker_count : ℕ) (ls : List Line) (c : Worker) : Type 0 where
+  pub number : c.number < worker_count
+  pub filled : (slot : ℕ) → (slot < length c.racers.items) ↔ (slot * worker_count + c.number < clients)
+  pub own : (slot : ℕ) (r : Racer) → slice_get c.racers.items slot ≡ Some r → r.client.actor ≡ slot * worker_count + c.number + 1
   pub ready : (slot : ℕ) (r : Racer) → slice_get c.racers.items slot ≡ Some r → IsReady counts ls r
 
 -- all clients, in order, each ready for these lines
@@ -36,24 +36,24 @@ pub record AreRacers (counts : Counts) (ls : List Line) (rs : List Racer) : Type
   pub own : (i : ℕ) (r : Racer) → slice_get rs i ≡ Some r → r.client.actor ≡ i + 1
   pub ready : (i : ℕ) (r : Racer) → slice_get rs i ≡ Some r → IsReady counts ls r
 
--- the crews of so many workers
-pub record AreCrews (counts : Counts) (clients workers : ℕ) (ls : List Line) (cs : List Crew) : Type 0 where
-  pub count : length cs ≡ workers
-  pub numbers : (k : ℕ) (c : Crew) → slice_get cs k ≡ Some c → c.number ≡ k
-  pub crews : All (IsCrew counts clients workers ls) cs
+-- the workers of so many workers
+pub record AreWorkers (counts : Counts) (clients worker_count : ℕ) (ls : List Line) (cs : List Worker) : Type 0 where
+  pub count : length cs ≡ worker_count
+  pub numbers : (k : ℕ) (c : Worker) → slice_get cs k ≡ Some c → c.number ≡ k
+  pub workers : All (IsWorker counts clients worker_count ls) cs
 
--- client number i is of the crew i % workers, and stands at i / workers
-pub record AreDealt (workers : ℕ) (rs : List Racer) (cs : List Crew) : Type 0 where
-  pub count : length cs ≡ workers
-  pub numbers : (k : ℕ) (c : Crew) → slice_get cs k ≡ Some c → c.number ≡ k
-  pub filled : (k : ℕ) (c : Crew) → slice_get cs k ≡ Some c → (slot : ℕ) → (slot < length c.racers.items) ↔ (slot * workers + k < length rs)
-  pub each : (k : ℕ) (c : Crew) → slice_get cs k ≡ Some c → (slot : ℕ) (r : Racer) → slice_get c.racers.items slot ≡ Some r → slice_get rs (slot * workers + k) ≡ Some r
+-- client number i is of the worker i % workers, and stands at i / workers
+pub record AreAssigned (worker_count : ℕ) (rs : List Racer) (cs : List Worker) : Type 0 where
+  pub count : length cs ≡ worker_count
+  pub numbers : (k : ℕ) (c : Worker) → slice_get cs k ≡ Some c → c.number ≡ k
+  pub filled : (k : ℕ) (c : Worker) → slice_get cs k ≡ Some c → (slot : ℕ) → (slot < length c.racers.items) ↔ (slot * worker_count + k < length rs)
+  pub each : (k : ℕ) (c : Worker) → slice_get cs k ≡ Some c → (slot : ℕ) (r : Racer) → slice_get c.racers.items slot ≡ Some r → slice_get rs (slot * worker_count + k) ≡ Some r
 
--- Of all clients those before have still to be taken from the crews, and those behind were, the last one first.
-pub record IsMustered (workers : ℕ) (left : ℕ) (all : List Racer) (cs : List Crew) (rs : List Racer) : Type 0 where
+-- Of all clients those before have still to be taken from the workers, and those behind were, the last one first.
+pub record AreCollected (worker_count : ℕ) (left : ℕ) (all : List Racer) (cs : List Worker) (rs : List Racer) : Type 0 where
   pub before : List Racer
   pub behind : List Racer
   pub whole : all ≡ before ++ behind
   pub left_are : length before ≡ left
-  pub dealt : AreDealt workers before cs
+  pub assigned : AreAssigned worker_count before cs
   pub taken : rs ≡ reverse behind

@@ -2,15 +2,11 @@
 //! shards. What they did is one run of the world.
 #![tactic(auto)]
 
-mod batches;
-mod closing;
-mod course;
-mod crew;
-mod crews;
-mod lines;
-mod part;
+mod part_ends;
 mod racing;
-mod script;
+mod rounds;
+mod threads;
+mod workers;
 #[cfg(test)]
 mod tests;
 

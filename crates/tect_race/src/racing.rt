@@ -3,8 +3,8 @@ ghost use Rattle.race_ends.specs.Raced.{IsRaced};
 ghost use Rattle.race_ends.specs.Faults.{IsRaceFault};
 ghost use Rattle.world_runs.specs.Playable.{IsPlayable};
 
-use crate::course::Course;
-use crate::script::{Run, run_script};
+use crate::rounds::{Run, run_script};
+use crate::workers::Shared;
 use place_locks::Places;
 use race_ends::{RaceFault, Raced, finish};
 use std::alloc::Global;
@@ -43,21 +43,21 @@ pub fn race<R: Threads + Wait + Sync, G: Gate + Sync>(
 {
     let places = Places::start(alloc, plan.counts)?;
     let run = {
-        let course = Course {
+        let shared = Shared {
             rt,
             alloc,
             places: &places,
             clients: plan.clients.as_slice(),
             lines: plan.lines.as_slice(),
-            workers,
+            worker_count: workers,
             gate,
         };
-        run_script(&course, plan.counts)?
+        run_script(&shared, plan.counts)?
     };
     let Run {
-        racers,
+        passes,
         ended,
         last,
     } = run;
-    finish(alloc, plan, places, racers, ended, last)
+    finish(alloc, plan, places, passes, ended, last)
 }

@@ -19,6 +19,7 @@ house_text steps (answers.LostDisk disk) = answer_text (answers.LostDisk disk)
 house_text steps answer = counted_text steps answer
 
 abbrev pub report_text : ReportLine → List ℕ
-report_text (lines.Client client op steps answer) = client ++ codes " " ++ decimal op ++ codes " " ++ decimal steps ++ codes " " ++ answer_text answer
+report_text (lines.Client client op steps answer) = client ++ codes " " ++ decimal op ++ codes " " ++ decimal steps ++ codes " " ++
+    answer_text answer
 report_text (lines.House steps answer) = house_text steps answer
 report_text (lines.Dump line) = dump_text line

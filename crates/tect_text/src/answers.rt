@@ -30,30 +30,107 @@ fn bare_word(answer: &Answer) -> &'static str
     }
 }
 
-/// What a sweep removed.
+/// What a sweep removed: directories, files, blocks and chunks.
 #[derive(Clone, Copy)]
-struct Removed {
-    dirs: u32,
-    files: u32,
-    blocks: u32,
-    chunks: u32,
-}
+struct Removed(u32, u32, u32, u32);
 
 impl fmt::Display for Removed {
     ghost use Rattle.std.specs.Prelude.{Some};
     ghost use Rattle.tect_text.specs.AnswerText.{removed_text};
 
-    ghost output = { λ removed. Some (removed_text removed.dirs removed.files removed.blocks removed.chunks) };
+    ghost output = { λ removed. Some (removed_text removed.0 removed.1 removed.2 removed.3) };
 
     fn fmt<W: fmt::Write>(&self, f: &mut fmt::Formatter<W>) -> fmt::Result {
-        let dirs = self.dirs;
-        let files = self.files;
-        let blocks = self.blocks;
-        let chunks = self.chunks;
+        let Removed(dirs, files, blocks, chunks) = *self;
         write!(
             f,
             "dirs {dirs} files {files} blocks {blocks} chunks {chunks}"
         )
+    }
+}
+
+/// A refusal that tells numbers, or one of a bare word.
+#[derive(Clone, Copy)]
+struct NumberRefusal<'a>(&'a Answer);
+
+impl fmt::Display for NumberRefusal<'_> {
+    ghost use Rattle.std.specs.Prelude.{Some};
+    ghost use Rattle.tect_text.specs.AnswerText.{number_refusal_text};
+
+    ghost output = { λ text. Some (number_refusal_text text.0.now) };
+
+    fn fmt<W: fmt::Write>(&self, f: &mut fmt::Formatter<W>) -> fmt::Result {
+        match self.0 {
+            Answer::Below { dir } => write!(f, "below {}", dir.0),
+            Answer::Deep { dir } => write!(f, "deep {}", dir.0),
+            Answer::Full { id } => write!(f, "full {id}"),
+            Answer::FewDisks { have, need } => write!(f, "few-disks {have} {need}"),
+            Answer::DiskLost { disk } => write!(f, "disk-lost {}", disk.0),
+            Answer::Lost { blk } => write!(f, "lost {}", blk.0),
+            Answer::Moving { blk, first, last } => write!(f, "moving {} {first} {last}", blk.0),
+            Answer::Gone { blk } => write!(f, "gone {}", blk.0),
+            Answer::HistoryFull { place } => write!(f, "history-full {}", place.0),
+            Answer::Odd { place } => write!(f, "odd {}", place.0),
+            _ => f.write_str(bare_word(self.0)),
+        }
+    }
+}
+
+/// A refusal that tells an op, or another one.
+#[derive(Clone, Copy)]
+struct OpRefusal<'a>(&'a Answer);
+
+impl fmt::Display for OpRefusal<'_> {
+    ghost use Rattle.std.specs.Prelude.{Some};
+    ghost use Rattle.tect_text.specs.AnswerText.{op_refusal_text};
+
+    ghost output = { λ text. Some (op_refusal_text text.0.now) };
+
+    fn fmt<W: fmt::Write>(&self, f: &mut fmt::Formatter<W>) -> fmt::Result {
+        match self.0 {
+            Answer::Pending { op } => write!(f, "pending {}", OpText(*op)),
+            Answer::Closing { op } => write!(f, "closing {}", OpText(*op)),
+            Answer::Frozen { op } => write!(f, "frozen {}", OpText(*op)),
+            Answer::Turn { op } => write!(f, "turn {}", OpText(*op)),
+            Answer::TokenChanged { now } => write!(f, "token-changed {}", OpText(*now)),
+            Answer::Cancelled { op } => write!(f, "cancelled {}", OpText(*op)),
+            _ => write!(f, "{}", NumberRefusal(self.0)),
+        }
+    }
+}
+
+/// What was swept or lost, or a refusal.
+#[derive(Clone, Copy)]
+struct Swept<'a>(&'a Answer);
+
+impl fmt::Display for Swept<'_> {
+    ghost use Rattle.std.specs.Prelude.{Some};
+    ghost use Rattle.tect_text.specs.AnswerText.{swept_text};
+
+    ghost output = { λ text. Some (swept_text text.0.now) };
+
+    fn fmt<W: fmt::Write>(&self, f: &mut fmt::Formatter<W>) -> fmt::Result {
+        match self.0 {
+            Answer::Swept {
+                dirs,
+                files,
+                blocks,
+                chunks,
+            } => write!(f, "ok {}", Removed(*dirs, *files, *blocks, *chunks)),
+            Answer::SweptAll {
+                rounds,
+                dirs,
+                files,
+                blocks,
+                chunks,
+            } => write!(
+                f,
+                "sweep {rounds} {}",
+                Removed(*dirs, *files, *blocks, *chunks)
+            ),
+            Answer::LostDisk { disk } => write!(f, "lost {}", disk.0),
+            _ => write!(f, "{}", OpRefusal(self.0)),
+        }
     }
 }
 
@@ -78,69 +155,8 @@ impl fmt::Display for Short<'_> {
                 OpText(*token)
             ),
             Answer::Appended { blk, index } => write!(f, "ok block {} at {index}", blk.0),
-            Answer::Swept {
-                dirs,
-                files,
-                blocks,
-                chunks,
-            } => {
-                let removed = Removed {
-                    dirs: *dirs,
-                    files: *files,
-                    blocks: *blocks,
-                    chunks: *chunks,
-                };
-                write!(f, "ok {removed}")
-            }
-            Answer::SweptAll {
-                rounds,
-                dirs,
-                files,
-                blocks,
-                chunks,
-            } => {
-                let removed = Removed {
-                    dirs: *dirs,
-                    files: *files,
-                    blocks: *blocks,
-                    chunks: *chunks,
-                };
-                write!(f, "sweep {rounds} {removed}")
-            }
             Answer::Repaired { moved, left } => write!(f, "ok moved {moved} left {left}"),
-            Answer::LostDisk { disk } => write!(f, "lost {}", disk.0),
-            Answer::Pending { op } => write!(f, "pending {}", OpText(*op)),
-            Answer::Closing { op } => write!(f, "closing {}", OpText(*op)),
-            Answer::Frozen { op } => write!(f, "frozen {}", OpText(*op)),
-            Answer::Turn { op } => write!(f, "turn {}", OpText(*op)),
-            Answer::TokenChanged { now } => write!(f, "token-changed {}", OpText(*now)),
-            Answer::Cancelled { op } => write!(f, "cancelled {}", OpText(*op)),
-            Answer::Below { dir } => write!(f, "below {}", dir.0),
-            Answer::Deep { dir } => write!(f, "deep {}", dir.0),
-            Answer::Full { id } => write!(f, "full {id}"),
-            Answer::FewDisks { have, need } => write!(f, "few-disks {have} {need}"),
-            Answer::DiskLost { disk } => write!(f, "disk-lost {}", disk.0),
-            Answer::Lost { blk } => write!(f, "lost {}", blk.0),
-            Answer::Moving { blk, first, last } => write!(f, "moving {} {first} {last}", blk.0),
-            Answer::Gone { blk } => write!(f, "gone {}", blk.0),
-            Answer::HistoryFull { place } => write!(f, "history-full {}", place.0),
-            Answer::Odd { place } => write!(f, "odd {}", place.0),
-            Answer::NoDir
-            | Answer::NoName
-            | Answer::NoFile
-            | Answer::Exists
-            | Answer::IsDir
-            | Answer::NotDir
-            | Answer::NotEmpty
-            | Answer::Sealed
-            | Answer::NotSealed
-            | Answer::NotOpen
-            | Answer::NoMemory
-            | Answer::Stopped => f.write_str(bare_word(self.0)),
-            Answer::Entries { .. }
-            | Answer::Blocks { .. }
-            | Answer::Read { .. }
-            | Answer::Changed { .. } => Ok(()),
+            _ => write!(f, "{}", Swept(self.0)),
         }
     }
 }

@@ -80,6 +80,73 @@ impl fmt::Display for TokenOrNone {
     }
 }
 
+/// A line of the layers of blocks and disks; nothing for another one.
+#[derive(Clone, Copy)]
+struct BlockLine<'a>(&'a DumpLine);
+
+impl fmt::Display for BlockLine<'_> {
+    ghost use Rattle.std.specs.Prelude.{Some};
+    ghost use Rattle.tect_text.specs.DumpText.{block_line_text};
+
+    ghost output = { λ text. Some (block_line_text text.0.now) };
+
+    fn fmt<W: fmt::Write>(&self, f: &mut fmt::Formatter<W>) -> fmt::Result {
+        match self.0 {
+            DumpLine::Block {
+                blk,
+                len,
+                version,
+                rows,
+                holds,
+            } => write!(
+                f,
+                "block {} len {len} version {version} rows {rows} holds {holds}",
+                blk.0
+            ),
+            DumpLine::Chunk {
+                disk,
+                blk,
+                tag,
+                len,
+            } => write!(f, "chunk {} {} {} {len}", disk.0, blk.0, TagText(*tag)),
+            DumpLine::Lost { disk } => write!(f, "lost {}", disk.0),
+            _ => Ok(()),
+        }
+    }
+}
+
+/// A line of the layer of files, or of those below.
+#[derive(Clone, Copy)]
+struct FileLine<'a>(&'a DumpLine);
+
+impl fmt::Display for FileLine<'_> {
+    ghost use Rattle.std.specs.Prelude.{Some};
+    ghost use Rattle.tect_text.specs.DumpText.{file_line_text};
+
+    ghost output = { λ text. Some (file_line_text text.0.now) };
+
+    fn fmt<W: fmt::Write>(&self, f: &mut fmt::Formatter<W>) -> fmt::Result {
+        match self.0 {
+            DumpLine::File {
+                file,
+                state,
+                token,
+                blocks,
+                holds,
+            } => {
+                let state = file_state(*state);
+                let token = TokenOrNone(*token);
+                write!(
+                    f,
+                    "file {} {state} token {token} blocks {blocks} holds {holds}",
+                    file.0
+                )
+            }
+            _ => write!(f, "{}", BlockLine(self.0)),
+        }
+    }
+}
+
 /// A dump line whose words are numbers and states; nothing for an entry, which has a name.
 #[derive(Clone, Copy)]
 struct Numbers<'a>(&'a DumpLine);
@@ -108,46 +175,8 @@ impl fmt::Display for Numbers<'_> {
                     dir.0, parent.0
                 )
             }
-            DumpLine::Entry { .. } => Ok(()),
             DumpLine::Turn { op, child } => write!(f, "turn {} {}", OpText(*op), child.0),
-            DumpLine::File {
-                file,
-                state,
-                token,
-                blocks,
-                holds,
-            } => {
-                let state = file_state(*state);
-                let token = TokenOrNone(*token);
-                write!(
-                    f,
-                    "file {} {state} token {token} blocks {blocks} holds {holds}",
-                    file.0
-                )
-            }
-            DumpLine::Block {
-                blk,
-                len,
-                version,
-                rows,
-                holds,
-            } => {
-                write!(
-                    f,
-                    "block {} len {len} version {version} rows {rows} holds {holds}",
-                    blk.0
-                )
-            }
-            DumpLine::Chunk {
-                disk,
-                blk,
-                tag,
-                len,
-            } => {
-                let tag = TagText(*tag);
-                write!(f, "chunk {} {} {tag} {len}", disk.0, blk.0)
-            }
-            DumpLine::Lost { disk } => write!(f, "lost {}", disk.0),
+            _ => write!(f, "{}", FileLine(self.0)),
         }
     }
 }

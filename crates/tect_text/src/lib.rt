@@ -1,21 +1,14 @@
 //! Scripts, answers and dump lines as text.
 #![tactic(auto)]
 
-#[cfg(test)]
-mod answer_tests;
 mod answers;
 mod dump;
 mod ids;
-#[cfg(test)]
-mod limit_tests;
-#[cfg(test)]
-mod line_tests;
-#[cfg(test)]
-mod reading_tests;
 mod report;
+#[cfg(test)]
+mod tests;
 
 pub use report::{write_answer, write_dump};
 pub use script_forms::ScriptFault;
-pub use script_lines::write_line;
-pub use script_reader::read_script;
+pub use script_reader::{read_script, write_line};
 pub use script_words::Limit;

@@ -14,7 +14,11 @@ use Rattle.tree_model.specs.declared.step.TreeFile.{TreeFile}
 use Rattle.tree_model.specs.Tree.{Tree}
 
 abbrev pub tree_dir_code : Coded TreeDir
-tree_dir_code = code_by (DirId × Bool) (coded× dir_code coded_bool) (λ d. (d.parent, d.sealed)) (λ p. record { parent = p.0; sealed = p.1 }) (λ _. refl)
+tree_dir_code = code_by (DirId × Bool) (coded× dir_code coded_bool) (λ d. (d.parent, d.sealed)) (λ p. record {
+  parent =
+      p.0;
+  sealed = p.1;
+}) (λ _. refl)
 
 abbrev pub tree_file_code : Coded TreeFile
 tree_file_code = code_by (Option OpId) (coded_option op_code) (λ f. f.token) (λ o. record { token = o }) (λ _. refl)
@@ -22,5 +26,12 @@ tree_file_code = code_by (Option OpId) (coded_option op_code) (λ f. f.token) (�
 abbrev pub tree_code : Coded Tree
 tree_code =
     code_by (FinMap dir_cmp TreeDir × (FinMap key_cmp Node × (FinMap file_cmp TreeFile × FinMap node_cmp (Unit {0}))))
-    (coded× (map.code dir_code tree_dir_code) (coded× (map.code key_code node_code) (coded× (map.code file_code tree_file_code) (map.code node_code coded_unit))))
-    (λ t. (t.dirs, (t.entries, (t.files, t.made)))) (λ p. record { dirs = p.0; entries = p.1.0; files = p.1.1.0; made = p.1.1.1 }) (λ _. refl)
+    (coded× (map.code dir_code tree_dir_code) (coded× (map.code key_code node_code)
+    (coded× (map.code file_code tree_file_code) (map.code node_code coded_unit))))
+    (λ t. (t.dirs, (t.entries, (t.files, t.made)))) (λ p. record {
+      dirs = p.0;
+      entries = p.1.0;
+      files = p.1.1.0;
+      made =
+          p.1.1.1;
+    }) (λ _. refl)

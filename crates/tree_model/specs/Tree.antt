@@ -105,8 +105,15 @@ abbrev pub tree_change : Tree → TreeStep → Tree
 tree_change t (step.Check d) = t
 tree_change t (step.Look k) = t
 tree_change t (step.List d) = t
-tree_change t (step.MakeDir d p) = record t { dirs = set_at t.dirs d (Some record { parent = p; sealed = false }); made = set_at t.made (Dir d) (Some tt) }
-tree_change t (step.MakeFile f token) = record t { files = set_at t.files f (Some record { token = token }); made = set_at t.made (File f) (Some tt) }
+tree_change t (step.MakeDir d p) = record t {
+  dirs = set_at t.dirs d (Some record { parent = p; sealed = false });
+  made = set_at t.made (Dir d) (Some tt);
+}
+tree_change t (step.MakeFile f token) = record t {
+  files = set_at t.files f (Some record { token = token });
+  made =
+      set_at t.made (File f) (Some tt);
+}
 tree_change t (step.Bind k n o) = set_name t k (Some n)
 tree_change t (step.Swap d from to n) = set_name (set_name t (at_name d from) None) (at_name d to) (Some n)
 tree_change t (step.Unbind k w) = set_name t k None

@@ -2,7 +2,8 @@ ghost use Rattle.std.specs.Prelude.{◌≡◌, Some, None, IfOk, OnOk, OnErr, is
 ghost use Rattle.std.specs.FinMap.{get, entries};
 ghost use Rattle.key_maps.specs.Maps.{within};
 ghost use Rattle.tect_ids.specs.Keys.{name_eq};
-ghost use Rattle.tree_model.specs.Tree.{opening_tree, tree_reply, tree_change, tree_next, is_ok, unless, swap_reply, unbind_reply, at_name, as_listed, set_name};
+ghost use Rattle.tree_model.specs.Tree.{opening_tree, tree_reply, tree_change, tree_next, is_ok, unless, swap_reply};
+ghost use Rattle.tree_model.specs.Tree.{unbind_reply, at_name, as_listed, set_name};
 ghost use Rattle.tect_ids.specs.declared.ids.Node.{Node as AnyNode};
 
 use crate::step::{Refusal, Shown, TreeDir, TreeFile, TreeReply, TreeStep};
@@ -140,7 +141,7 @@ impl Tree {
         let mut items = Items::new(self.alloc);
         for (key, node) in self.entries.within(dir) {
             items.push(Listed {
-                name: key.name.copy(self.alloc)?,
+                name: key.name.clone()?,
                 node: *node,
             })?;
         }
@@ -201,7 +202,7 @@ impl Tree {
     {
         Ok(Key {
             dir,
-            name: name.copy(self.alloc)?,
+            name: name.clone()?,
         })
     }
 

@@ -18,7 +18,7 @@ use Rattle.program_rules.specs.declared.program.Phase.{Phase}
 use Rattle.program_rules.specs.declared.program.Phase.TheVariants.{Walk, Bind, Grant, Swap, Release, End}
 use Rattle.program_rules.specs.declared.program.Program.{Program}
 use Rattle.program_rules.specs.Paths.{but_last}
-use Rattle.program_rules.specs.Programs.{root, way, object_number, phase_ask, phase_hear, phase_answer, first_phase, from_root}
+use Rattle.program_rules.specs.Programs.{root, way, object_number, phase_hear, phase_answer, first_phase, from_root}
 use Rattle.world_runs.specs.Served.{IsServed}
 use Rattle.world_runs.specs.declared.event.Event.{Event}
 use Rattle.world_runs.specs.declared.event.Event.TheVariants.{Began, Refused, Acted, Ended, Stopped, Failed, Dumped}
@@ -27,8 +27,9 @@ use Rattle.world_runs.specs.Moments.{Actor, WorldState, opening, May, CanBegin, 
 use Rattle.world_runs.specs.TreeSteps.{Told, told_of, tree_steps, tree_step, says, tree_after, IsTreeRun}
 use Rattle.world_runs.specs.Points.{of_op, Walked, LacksName}
 use Rattle.world_runs.specs.Headline.{begun_by, or_later, command_of, refuses, was_refused, Explains, HadNoRoom, Headline}
+use Rattle.world_runs.proofs.Actors.{changed}
 use Rattle.tree_runs.specs.View.{view, AllMade, MakesNew}
-use Rattle.tree_runs.proofs.Tracks.{Tracks, Knows, actor_cases, opening_tracks}
+use Rattle.tree_runs.proofs.Tracks.{Tracks, Knows, opening_tracks}
 use Rattle.tree_runs.proofs.Runs.{Asks, asks_of, acts, made_all, event_tracked, world_tracked, tree_after-append}
 use Rattle.tree_runs.proofs.Histories.{tree_steps-append, acts_last}
 use Rattle.tree_runs.proofs.Walks.{of_op-append, other_step}
@@ -100,11 +101,11 @@ module _ (h : List Event) (m : WorldState) (t : AllTold h m) (e : Event) (no_ste
       → AllTold (h ++ e ∷ []) (with_actor m a state)
   rests a state number idle no_begin tracks = record {
     tracks = tracks;
-    tells = λ b. actor_cases (λ st. Tells (h ++ e ∷ []) st.running) m.actors a state b (λ p. rw idle tt) (λ p. quiet_tells b);
-    unbegun = λ op. actor_cases (λ st. st.number < op.number → command_of (h ++ e ∷ []) op ≡ None) m.actors a state op.actor
+    tells = λ b. changed (λ st. Tells (h ++ e ∷ []) st.running) m.actors a state b (λ p. rw idle tt) (λ p. quiet_tells b);
+    unbegun = λ op. changed (λ st. st.number < op.number → command_of (h ++ e ∷ []) op ≡ None) m.actors a state op.actor
         (λ p late. command_more h e op ∙ rw (t.unbegun op (old op p late)) (no_begin op))
         (λ p late. command_more h e op ∙ rw (t.unbegun op late) (no_begin op));
-    unasked = λ op. actor_cases (λ st. st.number < op.number → of_op op (tree_steps (h ++ e ∷ [])) ≡ []) m.actors a state op.actor
+    unasked = λ op. changed (λ st. st.number < op.number → of_op op (tree_steps (h ++ e ∷ [])) ≡ []) m.actors a state op.actor
         (λ p late. quiet_unasked op (old op p late))
         (λ p late. quiet_unasked op late);
   }
@@ -169,11 +170,11 @@ module _ (h : List Event) (m : WorldState) (t : AllTold h m) (op : OpId) (c : Co
   begun_told : AllTold (h ++ began ∷ []) (after m began)
   begun_told = record {
     tracks = tracked_more h m began t.tracks (can, served);
-    tells = λ b. actor_cases (λ st. Tells (h ++ began ∷ []) st.running) m.actors op.actor _ b (λ p. inl (begun_here, first_phase_tells c served)) (λ p. quiet_tells h m t began refl b);
-    unbegun = λ o. actor_cases (λ st. st.number < o.number → command_of (h ++ began ∷ []) o ≡ None) m.actors op.actor _ o.actor
+    tells = λ b. changed (λ st. Tells (h ++ began ∷ []) st.running) m.actors op.actor _ b (λ p. inl (begun_here, first_phase_tells c served)) (λ p. quiet_tells h m t began refl b);
+    unbegun = λ o. changed (λ st. st.number < o.number → command_of (h ++ began ∷ []) o ≡ None) m.actors op.actor _ o.actor
         (λ p u. command_more h began o ∙ rw (t.unbegun o (earlier o p u)) (not_later o (earlier o p u) (inr u)))
         (λ p u. command_more h began o ∙ rw (t.unbegun o u) (not_later o u (inl p)));
-    unasked = λ o. actor_cases (λ st. st.number < o.number → of_op o told_then ≡ []) m.actors op.actor _ o.actor
+    unasked = λ o. changed (λ st. st.number < o.number → of_op o told_then ≡ []) m.actors op.actor _ o.actor
         (λ p u. quiet_unasked h m t began refl o (earlier o p u))
         (λ p u. quiet_unasked h m t began refl o u);
   }
@@ -191,11 +192,11 @@ module _ (h : List Event) (m : WorldState) (t : AllTold h m) (op : OpId) (c : Co
   refused_told : AllTold (h ++ refusal ∷ []) (after m refusal)
   refused_told = record {
     tracks = tracked_more h m refusal t.tracks (can, served);
-    tells = λ b. actor_cases (λ st. Tells (h ++ refusal ∷ []) st.running) m.actors op.actor _ b (λ p. inr (refused_now h op c, refl)) (λ p. quiet_tells h m t refusal refl b);
-    unbegun = λ o. actor_cases (λ st. st.number < o.number → command_of (h ++ refusal ∷ []) o ≡ None) m.actors op.actor _ o.actor
+    tells = λ b. changed (λ st. Tells (h ++ refusal ∷ []) st.running) m.actors op.actor _ b (λ p. inr (refused_now h op c, refl)) (λ p. quiet_tells h m t refusal refl b);
+    unbegun = λ o. changed (λ st. st.number < o.number → command_of (h ++ refusal ∷ []) o ≡ None) m.actors op.actor _ o.actor
         (λ p u. command_more h refusal o ∙ rw (t.unbegun o (before_it o p u)) refl)
         (λ p u. command_more h refusal o ∙ rw (t.unbegun o u) refl);
-    unasked = λ o. actor_cases (λ st. st.number < o.number → of_op o (tree_steps (h ++ refusal ∷ [])) ≡ []) m.actors op.actor _ o.actor
+    unasked = λ o. changed (λ st. st.number < o.number → of_op o (tree_steps (h ++ refusal ∷ [])) ≡ []) m.actors op.actor _ o.actor
         (λ p u. quiet_unasked h m t refusal refl o (before_it o p u))
         (λ p u. quiet_unasked h m t refusal refl o u);
   }
@@ -286,10 +287,10 @@ module _ (h : List Event) (m : WorldState) (t : AllTold h m) (op : OpId) (q : An
   acted_told : AllTold (h ++ did ∷ []) (after m did)
   acted_told = record {
     tracks = tracked_more h m did t.tracks (asks, refl);
-    tells = λ b. actor_cases (λ st. Tells (h ++ did ∷ []) st.running) m.actors op.actor _ b (λ e. own_tells) (λ d. other_tells b d);
-    unbegun = λ o. actor_cases (λ st. st.number < o.number → command_of (h ++ did ∷ []) o ≡ None) m.actors op.actor _ o.actor
+    tells = λ b. changed (λ st. Tells (h ++ did ∷ []) st.running) m.actors op.actor _ b (λ e. own_tells) (λ d. other_tells b d);
+    unbegun = λ o. changed (λ st. st.number < o.number → command_of (h ++ did ∷ []) o ≡ None) m.actors op.actor _ o.actor
         (λ e late. did_unbegun o (rw e late)) (λ d late. did_unbegun o late);
-    unasked = λ o. actor_cases (λ st. st.number < o.number → of_op o (tree_steps (h ++ did ∷ [])) ≡ []) m.actors op.actor _ o.actor
+    unasked = λ o. changed (λ st. st.number < o.number → of_op o (tree_steps (h ++ did ∷ [])) ≡ []) m.actors op.actor _ o.actor
         (λ e late. did_unasked o (rw e late)) (λ d late. did_unasked o late);
   }
 

@@ -5,11 +5,7 @@ pub mod Phases
 pub mod Runs
 pub mod Replies
 pub mod Histories
-pub mod Comes
-pub mod Scripts
 pub mod Walks
 pub mod Tells
 pub mod PhasesTell
 pub mod Headlines
-pub mod Ends
-pub mod CanFollow

@@ -20,9 +20,10 @@ use Rattle.world_runs.specs.declared.event.Event.{Event}
 use Rattle.world_runs.specs.declared.event.Event.TheVariants.{Began, Refused, Acted, Ended, Stopped, Failed, Dumped}
 use Rattle.world_runs.specs.Moments.{Actor, WorldState, opening, May, CanBegin, after, after_all, RunFrom, IsWorldRun, moment, asked, program_ask, program_of, next_serial, heard, with_actor}
 use Rattle.world_runs.specs.TreeSteps.{Told, told_as, told_of, tree_steps, tree_step, says, tree_after, IsTreeRun}
+use Rattle.world_runs.proofs.Actors.{changed}
 use Rattle.tree_runs.specs.View.{Made, view, Shows, AllMade, TreeFollows, StepShows}
 use Rattle.tree_runs.proofs.RequestsShow.{request_shows}
-use Rattle.tree_runs.proofs.Tracks.{Tracks, TreeMade, Fresh, PhaseKnows, Knows, dir_at, file_at, actor_cases, all_made, next_made, opening_tracks}
+use Rattle.tree_runs.proofs.Tracks.{Tracks, TreeMade, Fresh, PhaseKnows, Knows, dir_at, file_at, all_made, next_made, opening_tracks}
 use Rattle.tree_runs.proofs.Phases.{Acts, Makes, MakesNoOther, made_next, phase_acts}
 
 -- ---- steps of the tree, one after another
@@ -139,10 +140,10 @@ module _ (m : WorldState) (made : Made) (tracks : Tracks m (view m.store made)) 
   acted_tracks = record {
     shown = follows_shown (view m.store made) _ op (tree_step q x) (says x) shows;
     made = told_made (view m.store made) op (tree_step q x) (says x) tracks.made;
-    fresh = λ b one. actor_cases (λ st. Fresh made2 b st.serial) m.actors op.actor _ b (λ e. rw e (own_fresh acts.makes)) (λ d. others_fresh acts.makes b d one);
-    serials = λ b. actor_cases (λ st. st.serial ≤ st.number + 1) m.actors op.actor _ b (λ e. acts.serial) (λ d. tracks.serials b);
-    numbers = λ b. actor_cases (λ st. st.number < 2 ^ 31) m.actors op.actor _ b (λ e. tracks.numbers op.actor) (λ d. tracks.numbers b);
-    knows = λ b. actor_cases (λ st. Knows b st.number st.serial st.running) m.actors op.actor _ b (λ e. rw e knows_after) (λ d. tracks.knows b);
+    fresh = λ b one. changed (λ st. Fresh made2 b st.serial) m.actors op.actor _ b (λ e. rw e (own_fresh acts.makes)) (λ d. others_fresh acts.makes b d one);
+    serials = λ b. changed (λ st. st.serial ≤ st.number + 1) m.actors op.actor _ b (λ e. acts.serial) (λ d. tracks.serials b);
+    numbers = λ b. changed (λ st. st.number < 2 ^ 31) m.actors op.actor _ b (λ e. tracks.numbers op.actor) (λ d. tracks.numbers b);
+    knows = λ b. changed (λ st. Knows b st.number st.serial st.running) m.actors op.actor _ b (λ e. rw e knows_after) (λ d. tracks.knows b);
   }
 
   acted_run : IsTreeRun (view m.store made) told
@@ -167,10 +168,10 @@ restarted : (m : WorldState) (t : Tree) → Tracks m t → (a : ℕ) (state : Ac
 restarted m t tracks a state same more few knows = record {
   shown = tracks.shown;
   made = tracks.made;
-  fresh = λ b one. actor_cases (λ st. Fresh t.made b st.serial) m.actors a state b (λ e. rw (e, same) (tracks.fresh a (rw e at one))) (λ d. tracks.fresh b one);
-  serials = λ b. actor_cases (λ st. st.serial ≤ st.number + 1) m.actors a state b (λ e. omega (arith, tracks.serials a)) (λ d. tracks.serials b);
-  numbers = λ b. actor_cases (λ st. st.number < 2 ^ 31) m.actors a state b (λ e. few) (λ d. tracks.numbers b);
-  knows = λ b. actor_cases (λ st. Knows b st.number st.serial st.running) m.actors a state b (λ e. rw e knows) (λ d. tracks.knows b);
+  fresh = λ b one. changed (λ st. Fresh t.made b st.serial) m.actors a state b (λ e. rw (e, same) (tracks.fresh a (rw e at one))) (λ d. tracks.fresh b one);
+  serials = λ b. changed (λ st. st.serial ≤ st.number + 1) m.actors a state b (λ e. omega (arith, tracks.serials a)) (λ d. tracks.serials b);
+  numbers = λ b. changed (λ st. st.number < 2 ^ 31) m.actors a state b (λ e. few) (λ d. tracks.numbers b);
+  knows = λ b. changed (λ st. Knows b st.number st.serial st.running) m.actors a state b (λ e. rw e knows) (λ d. tracks.knows b);
 }
 
 root_knows : (number serial : ℕ) (c : Command) (p ns : List (List ℕ)) → serial ≤ number → PhaseKnows number serial c (from_root p ns)

@@ -1,5 +1,5 @@
 -- what each moment keeps, beside that its store shows the tree
-use Rattle.std.proofs.Common.{◌≡◌, ◌≢◌, ◌<◌, ◌≤◌, ◌+◌, ◌^◌, ℕ, true, false, is_some, if◌then◌else◌, Option, Some, None, List, refl, arith, eqb}
+use Rattle.std.proofs.Common.{◌≡◌, ◌<◌, ◌≤◌, ◌+◌, ◌^◌, ℕ, true, false, is_some, Option, Some, None, List, refl, arith}
 use Rattle.std.specs.FinMap.{get, empty, same_map}
 use Rattle.tect_ids.specs.declared.ids.DirId.{DirId}
 use Rattle.tect_ids.specs.declared.ids.FileId.{FileId}
@@ -8,7 +8,7 @@ use Rattle.tect_ids.specs.declared.ids.Node.{Node}
 use Rattle.tect_ids.specs.declared.ids.Node.TheVariants as nodes
 use Rattle.tect_ids.specs.declared.command.Command.{Command}
 use Rattle.tect_ids.specs.Keys.{name_eq, dir_cmp, file_cmp, key_cmp}
-use Rattle.tect_ids.proofs.KeyTests.{dir_cmp_total, file_cmp_total, key_cmp_total, dir_antisymmetric, file_antisymmetric, key_antisymmetric, num_eq_cases}
+use Rattle.tect_ids.proofs.KeyTests.{dir_cmp_total, file_cmp_total, key_cmp_total, dir_antisymmetric, file_antisymmetric, key_antisymmetric}
 use Rattle.key_maps.proofs.Lookups.{maps}
 use Rattle.store_rules.specs.Store.{Store, opening_store}
 use Rattle.tree_model.specs.declared.step.TreeStep.{TreeStep}
@@ -21,7 +21,7 @@ use Rattle.program_rules.specs.declared.program.Phase.TheVariants.{Walk, Bind, G
 use Rattle.program_rules.specs.declared.program.Program.{Program}
 use Rattle.program_rules.specs.Paths.{last_name}
 use Rattle.program_rules.specs.Programs.{object_number, new_path}
-use Rattle.world_runs.specs.Moments.{Actor, WorldState, opening}
+use Rattle.world_runs.specs.Moments.{WorldState, opening}
 use Rattle.tree_runs.specs.MapValues.{map_values}
 use Rattle.tree_runs.specs.View.{Made, view, Shows, AllMade, shown_dir, shown_file, shown_entry}
 use Rattle.tree_runs.proofs.ValuesSeen.{get-map_values, dir_put}
@@ -69,14 +69,6 @@ pub record Tracks (m : WorldState) (t : Tree) : Type 0 where
   pub serials : (a : ℕ) → (m.actors a).serial ≤ (m.actors a).number + 1
   pub numbers : (a : ℕ) → (m.actors a).number < 2 ^ 31
   pub knows : (a : ℕ) → Knows a (m.actors a).number (m.actors a).serial (m.actors a).running
-
--- the actor itself, or another
-pub actor_cases : (P : Actor → Type 0) (actors : ℕ → Actor) (a : ℕ) (state : Actor) (b : ℕ) → (b ≡ a → P state) → (b ≢ a → P (actors b)) → P (if eqb b a then state else actors b)
-actor_cases P actors a state b here there =
-    elim (eqb b a) as (λ t. eqb b a ≡ t → P (if t then state else actors b)) [
-      | true ↦ λ e. here (grind (arith, num_eq_cases))
-      | false ↦ λ e. there (grind (arith, num_eq_cases))
-    ] refl
 
 -- what stands in the store was made
 pub all_made : (s : Store) (made : Made) → TreeMade (view s made) → AllMade s made

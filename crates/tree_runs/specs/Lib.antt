@@ -1,3 +1,2 @@
 pub mod MapValues
 pub mod View
-pub mod Session

@@ -24,6 +24,18 @@ one_number a b e = grind (arith, num_eq_cases)
 pub flipped : (a b : ℕ) → eqb a b ≡ eqb b a
 flipped a b = grind (arith, num_eq_cases)
 
+-- one value has changed
+pub changed : {X : Type 0} (P : X → Type 0) (others : ℕ → X) (a : ℕ) (x : X) (b : ℕ) → (b ≡ a → P x) → (b ≢ a → P (others b)) → P (if eqb b a then x else others b)
+changed P others a x b here there =
+    elim (eqb b a) as (λ t. eqb b a ≡ t → P (if t then x else others b)) [
+      | true ↦ λ e. here (one_number b a e)
+      | false ↦ λ e. there (grind (arith, num_eq_cases))
+    ] refl
+
+-- and this is it
+pub changed_there : {X : Type 0} (P : X → Type 0) (others : ℕ → X) (a : ℕ) (x : X) → P x → P (if eqb a a then x else others a)
+changed_there P others a x h = changed P others a x a (λ e. h) (λ d. absurd (d refl))
+
 -- by whether the event is the actor's own
 pub own_cases : (P : List Event → Type 0) (a : ℕ) (e : Event) (es : List Event) → (is_own a e ≡ true → P (e ∷ own a es)) → (is_own a e ≡ false → P (own a es)) → P (own a (e ∷ es))
 own_cases P a e es here there =

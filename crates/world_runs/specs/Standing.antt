@@ -1,8 +1,9 @@
 -- How the actors stand at a moment: the op that each is busy with, and what its turn tells of it.
-use Rattle.std.specs.Prelude.{◌≡◌, false, Option, Some, None}
+use Rattle.std.specs.Prelude.{◌≡◌, ℕ, ◌≤◌, false, Option, Some, None}
 use Rattle.tect_ids.specs.declared.ids.OpId.{OpId}
 use Rattle.program_rules.specs.declared.program.Program.{Program}
 use Rattle.world_runs.specs.Moments.{Actor, WorldState}
+use Rattle.world_runs.specs.Served.{IsServed}
 use Rattle.world_runs.specs.Follows.{Busy}
 use Rattle.world_runs.specs.Turns.{ClientTurn}
 use Rattle.world_runs.specs.Turns as turns
@@ -21,3 +22,10 @@ abbrev pub AtTurn : ClientTurn → Actor → Type 0
 AtTurn turns.Idle a = (a.running ≡ None) × (a.stopped ≡ false)
 AtTurn turns.Busy a = a.stopped ≡ false
 AtTurn turns.Gone a = a.running ≡ None
+
+-- the program is the last that the actor began, the actor is one of 65, and the command is served
+pub record IsLastBegun (a : ℕ) (actor : Actor) (p : Program) : Type 0 where
+  pub own : p.op.actor ≡ a
+  pub last : p.op.number ≡ actor.number
+  pub is_actor : (1 ≤ a) × (a ≤ 65)
+  pub served : IsServed p.command

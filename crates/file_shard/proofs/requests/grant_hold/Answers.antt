@@ -6,4 +6,10 @@ pub returns-in-None-clause-listed : goal.returns-in-None-clause-listed
 returns-in-None-clause-listed c = grind (arith, c.get_mut.follows, c.in-None.is, same_files c.args.files.now c.args.file None)
 
 pub returns-in-Some-clause-unchanged : goal.returns-in-Some-clause-unchanged
-returns-in-Some-clause-unchanged c = grind (arith, c.get_mut.follows, c.in-Some.is, c.grant.ensures.err, same_files c.args.files.now c.args.file (Some c.in-Some.row.now))
+returns-in-Some-clause-unchanged c = grind (
+  arith,
+  c.get_mut.follows,
+  c.in-Some.is,
+  c.grant.ensures.err,
+  same_files c.args.files.now c.args.file (Some c.in-Some.row.now),
+)

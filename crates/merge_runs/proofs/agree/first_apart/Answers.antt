@@ -22,5 +22,6 @@ returns-in-Some c =
 
 pub returns-in-Some-first_missing : goal.returns-in-Some-first_missing
 returns-in-Some-first_missing c =
-    apart_missing c.args.kepts.now c.args.passes.now c.loop-pass.pass-index c.pass-item.result c.moments.result.now c.in-Some-first_missing.entry.now
+    apart_missing c.args.kepts.now c.args.passes.now c.loop-pass.pass-index c.pass-item.result c.moments.result.now
+    c.in-Some-first_missing.entry.now
     c.loop-pass-test.true c.pass-item.is c.moments.ensures c.in-Some-first_missing.ensures

@@ -7,5 +7,6 @@ use Rattle.merge_runs.proofs.agree.first_unknown.Goals as goal
 pub loop-entry-preserved : goal.loop-entry-preserved
 loop-entry-preserved c =
     AllWithin-more (Contains (trails c.args.passes.now)) c.args.history.now 0 c.loop-entry.entry-index c.loop-entry.invariant
-    (at_read c.args.history.now (Contains (trails c.args.passes.now)) c.loop-entry.entry-index c.entry-item.result c.loop-entry-test.true c.entry-item.is
+    (at_read c.args.history.now (Contains (trails c.args.passes.now)) c.loop-entry.entry-index c.entry-item.result
+    c.loop-entry-test.true c.entry-item.is
     (c.if-not-is_known.ensures.0 (search rules)))

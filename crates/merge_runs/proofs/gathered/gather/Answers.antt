@@ -7,16 +7,19 @@ pub returns-in-Some-clause-memory : goal.returns-in-Some-clause-memory
 returns-in-Some-clause-memory c = λ a. absurd (apart_disagrees c.args.kepts.now c.args.passes.now c.in-Some.apart.now c.in-Some.ensures a)
 
 pub returns-in-Ok-clause-agree : goal.returns-in-Ok-clause-agree
-returns-in-Ok-clause-agree c = agreement c.args.kepts.now c.args.passes.now c.requires.places c.requires.actors c.in_default.ensures.0 c.in_default.ensures.1
+returns-in-Ok-clause-agree c = agreement c.args.kepts.now c.args.passes.now c.requires.places c.requires.actors
+    c.in_default.ensures.0 c.in_default.ensures.1
 
 pub returns-in-Ok-clause-trails : goal.returns-in-Ok-clause-trails
 returns-in-Ok-clause-trails c =
-    restricts_to_trails c.args.kepts.now c.args.passes.now (map (λ m. m.now) c.in-Ok.entries.items) c.requires.places c.requires.actors c.in-Ok.ensures.all c.in-Ok.ensures.order
+    restricts_to_trails c.args.kepts.now c.args.passes.now (map (λ m. m.now) c.in-Ok.entries.items) c.requires.places
+    c.requires.actors c.in-Ok.ensures.all c.in-Ok.ensures.order
     c.in_default.ensures.0 c.in_default.ensures.1
 
 pub returns-in-Ok-clause-histories : goal.returns-in-Ok-clause-histories
 returns-in-Ok-clause-histories c =
-    restricts_to_histories c.args.kepts.now c.args.passes.now (map (λ m. m.now) c.in-Ok.entries.items) c.requires.places c.requires.actors c.in-Ok.ensures.all c.in-Ok.ensures.order
+    restricts_to_histories c.args.kepts.now c.args.passes.now (map (λ m. m.now) c.in-Ok.entries.items) c.requires.places
+    c.requires.actors c.in-Ok.ensures.all c.in-Ok.ensures.order
     c.in_default.ensures.0 c.in_default.ensures.1
 
 pub returns-in-Ok-clause-stored : goal.returns-in-Ok-clause-stored

@@ -14,4 +14,5 @@ returns-in-Some c = (
 pub returns : goal.returns
 returns c =
     not_at c.args.step c.args.pass.now
-    (λ k d l. c.loop-moment.invariant k d (omega arith) (let n = ap (λ (ms : List Moment). length ms) c.moments-moment-items.ensures in omega arith))
+    (λ k d l. c.loop-moment.invariant k d (omega arith) (let n =
+    ap (λ (ms : List Moment). length ms) c.moments-moment-items.ensures in omega arith))

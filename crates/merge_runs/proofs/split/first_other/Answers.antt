@@ -8,7 +8,8 @@ use Rattle.merge_runs.proofs.split.first_other.Goals as goal
 pub returns-in-Some : goal.returns-in-Some
 returns-in-Some c =
     let P : Entry → Type 0 = IsOther c.args.actor c.args.step c.args.in_pass.now in
-    first_flat P history_of c.args.kepts.now c.loop-kept.kept-index c.kept-item.result c.in-Some.entry.now c.loop-kept-test.true c.kept-item.is
+    first_flat P history_of c.args.kepts.now c.loop-kept.kept-index c.kept-item.result c.in-Some.entry.now
+    c.loop-kept-test.true c.kept-item.is
     (subst (λ (es : List Entry). IsFirst P es c.in-Some.entry.now) c.history.ensures c.in-Some.ensures) c.loop-kept.invariant
 
 pub returns : goal.returns

@@ -11,7 +11,8 @@ returns-in-Some c =
     let p = c.in-Some.pass.now in
     match_weaker c.entry_at.result
     (All (λ e. e.step ≢ c.args.step) (entries_of p)) (IsInPass c.args.passes.now c.args.actor c.args.step None)
-    (λ e. Contains (entries_of p) e.now × (e.now.step ≡ c.args.step)) (λ e. IsInPass c.args.passes.now c.args.actor c.args.step (Some e.now))
+    (λ e. Contains (entries_of p) e.now × (e.now.step ≡ c.args.step))
+    (λ e. IsInPass c.args.passes.now c.args.actor c.args.step (Some e.now))
     c.entry_at.ensures
     (λ a. none_in_pass c.args.passes.now p c.args.actor c.args.step c.requires c.in-Some.ensures.0 c.in-Some.ensures.1 a)
     (λ e w. (p, c.in-Some.ensures.0, c.in-Some.ensures.1, w.0, w.1))

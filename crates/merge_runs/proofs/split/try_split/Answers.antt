@@ -10,8 +10,11 @@ returns c =
     let e : Entry = c.args.apart.now in
     let ip : Option Entry = c.in_ok-in_pass.in_pass in
     let il : Option Entry = c.in_ok-in_place.in_place in
-    let here : IsInPass c.args.passes.now e.actor e.step ip = match_copied c.in_pass.result ip (λ p. IsInPass c.args.passes.now e.actor e.step p) c.in_pass.ensures c.in_ok-in_pass.ensures in
-    let there : IsInPlace c.args.kepts.now e.actor e.step ip il = match_copied c.in_place.result il (λ p. IsInPlace c.args.kepts.now e.actor e.step ip p) c.in_place.ensures c.in_ok-in_place.ensures in
+    let here : IsInPass c.args.passes.now e.actor e.step ip =
+    match_copied c.in_pass.result ip (λ p. IsInPass c.args.passes.now e.actor e.step p) c.in_pass.ensures c.in_ok-in_pass.ensures in
+    let there : IsInPlace c.args.kepts.now e.actor e.step ip il =
+    match_copied c.in_place.result il (λ p. IsInPlace c.args.kepts.now e.actor e.step ip p) c.in_place.ensures
+    c.in_ok-in_place.ensures in
     record {
       passes = here;
       places = there;

@@ -8,6 +8,7 @@ loop-digit-preserved c =
     let word = c.args.word.now in
     let i = c.loop-digit.digit-index in
     record {
-      so_far = rw (take_more word i 0 c.loop-digit-test.true, number_more 0 (take i word) (get_or word i 0)) (omega (arith, c.loop-digit.invariant.so_far, c.min-number.ensures, c.from.ensures));
+      so_far = rw (take_more word i 0 c.loop-digit-test.true, number_more 0 (take i word) (get_or word i 0))
+          (omega (arith, c.loop-digit.invariant.so_far, c.min-number.ensures, c.from.ensures));
       small = omega (arith, c.min-number.ensures);
     }

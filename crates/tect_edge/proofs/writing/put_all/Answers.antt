@@ -10,6 +10,8 @@ puts-preserved g c =
     let at = c.puts.at in
     record {
       within = search rules;
-      appended = rw take-add (Appends-trans _ _ _ _ _ c.puts.invariant.appended (rw (take_all (length piece - at) (drop at piece) (omega (arith, length-drop at piece))) at c.in_ok-at.ensures.bytes));
+      appended = rw take-add
+          (Appends-trans _ _ _ _ _ c.puts.invariant.appended
+          (rw (take_all (length piece - at) (drop at piece) (omega (arith, length-drop at piece))) at c.in_ok-at.ensures.bytes));
       kept = search rules;
     }

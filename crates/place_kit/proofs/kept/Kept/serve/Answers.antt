@@ -10,7 +10,8 @@ returns-in_default-clause-err g c = same_kept g.row.M.coded _ c.args.self.now re
 pub returns-in_default-change-clause-err : goal.returns-in_default-change-clause-err
 returns-in_default-change-clause-err g c =
     let h = c.args.self.now.history in
-    same_kept g.row.M.coded _ c.args.self.now refl c.in_default-change.ensures.err refl (same_log _ h c.reserve.new.self.items c.spare-room.result c.lower.ensures c.in-Ok.ensures.items c.spare-room.ensures) refl refl
+    same_kept g.row.M.coded _ c.args.self.now refl c.in_default-change.ensures.err refl
+    (same_log _ h c.reserve.new.self.items c.spare-room.result c.lower.ensures c.in-Ok.ensures.items c.spare-room.ensures) refl refl
 
 pub invariant_of-self-2 : goal.invariant_of-self-2
 invariant_of-self-2 g c = record {
@@ -23,7 +24,19 @@ invariant_of-self-2 g c = record {
       let r = c.in_ok-our_reply.ensures.same ∙ c.in_ok-reply.ensures.ok in
       let s = c.in-Ok-change.ensures.ok in
       let p = c.args.pass.now in
-      let e : Entry = record { stamp = c.max-stamp.result + 1; place = k.label.place; actor = p.actor; number = op_number p.running; step = p.steps; req = c.own-our_req.result; reply = c.in_ok-our_reply.our_reply } in
-      rw (c.push.ensures, c.in-Ok.ensures.items, c.entry-ours.ensures) (IsKept-push m.after m.answer m.opening k.label k.machine c.change.new.machine k.base.value k.history.items k.clock k.count e k.kept
-      (s ∙ ap (λ q. m.after k.machine q) (sym w)) (r ∙ ap (λ q. m.answer k.machine q) (sym w)) refl (omega (arith, max)) (omega (arith, max, c.requires.early, bounded)));
+      let e : Entry = record {
+        stamp = c.max-stamp.result + 1;
+        place = k.label.place;
+        actor = p.actor;
+        number =
+            op_number p.running;
+        step = p.steps;
+        req = c.own-our_req.result;
+        reply = c.in_ok-our_reply.our_reply;
+      } in
+      rw (c.push.ensures, c.in-Ok.ensures.items, c.entry-ours.ensures)
+      (IsKept-push m.after m.answer m.opening k.label k.machine c.change.new.machine k.base.value k.history.items
+      k.clock k.count e k.kept
+      (s ∙ ap (λ q. m.after k.machine q) (sym w)) (r ∙ ap (λ q. m.answer k.machine q) (sym w)) refl (omega (arith, max))
+      (omega (arith, max, c.requires.early, bounded)));
 }

@@ -7,5 +7,6 @@ invariant_of-self c = record {
   known =
       let p = c.args.self.now in
       let max = c.max-self.ensures in
-      IsPass-raised p.actor p.clock c.max-self.result p.steps p.bytes p.running p.moments p.known (omega (arith, max)) (omega (arith, max, c.requires, p.known.early, aside-le p.running));
+      IsPass-raised p.actor p.clock c.max-self.result p.steps p.bytes p.running p.moments p.known (omega (arith, max))
+      (omega (arith, max, c.requires, p.known.early, aside-le p.running));
 }

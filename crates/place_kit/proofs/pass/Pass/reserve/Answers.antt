@@ -6,7 +6,8 @@ pub invariant_of-self : goal.invariant_of-self
 invariant_of-self c = record {
   known =
       let p = c.args.self.now in
-      IsPass-room p.actor p.clock p.steps p.bytes p.running p.moments _ p.known c.reserve.ensures.items (omega (arith, c.reserve.ensures.keeps, p.known.room));
+      IsPass-room p.actor p.clock p.steps p.bytes p.running p.moments _ p.known c.reserve.ensures.items
+      (omega (arith, c.reserve.ensures.keeps, p.known.room));
 }
 
 pub returns-in-Err-clause-err : goal.returns-in-Err-clause-err

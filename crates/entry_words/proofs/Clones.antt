@@ -1,0 +1,43 @@
+-- A clone of an entry, of a note or of a moment is the same one.
+use Rattle.std.proofs.Common.{◌≡◌, arith, rules}
+use Rattle.tect_ids.specs.declared.answer.Answer.{Answer}
+use Rattle.tect_ids.specs.declared.command.Command.{Command}
+use Rattle.tect_ids.specs.declared.ids.OpId.{OpId}
+use Rattle.tect_ids.proofs.Clones.{same_answer, same_command}
+use Rattle.store_rules.proofs.Clones.{same_req, same_reply}
+use Rattle.entry_words.specs.contracts.entry.EntryClone.TheImpl as entry_clone
+use Rattle.entry_words.specs.contracts.entry.MomentClone.TheImpl as moment_clone
+use Rattle.entry_words.specs.contracts.entry.NoteClone.TheImpl as note_clone
+use Rattle.entry_words.specs.declared.entry.Entry.{Entry}
+use Rattle.entry_words.specs.declared.entry.Moment.{Moment}
+use Rattle.entry_words.specs.declared.entry.Moment.TheVariants.{Act, Local}
+use Rattle.entry_words.specs.declared.entry.Note.{Note}
+use Rattle.entry_words.specs.declared.entry.Note.TheVariants.{Began, Ended, Stopped}
+
+pub same_entry : (a b : Entry) → (entry_clone.ghosts).is_clone a b → b ≡ a
+same_entry a b h = search (rules, same_req, same_reply)
+
+tie_began : (o p : OpId) (c d : Command) → o ≡ p → c ≡ d → Began o c ≡ Began p d
+tie_began o p c d e f = cc
+
+same_began : (p : OpId) (d : Command) (b : Note) → (note_clone.ghosts).is_clone (Began p d) b → b ≡ Began p d
+same_began p d (Began o c) h = tie_began o p c d h.0 (same_command d c h.1)
+same_began p d (Ended o a) h = elim h [ ]
+same_began p d (Stopped o) h = elim h [ ]
+
+tie_ended : (o p : OpId) (a b : Answer) → o ≡ p → a ≡ b → Ended o a ≡ Ended p b
+tie_ended o p a b e f = cc
+
+same_ended : (p : OpId) (a : Answer) (b : Note) → (note_clone.ghosts).is_clone (Ended p a) b → b ≡ Ended p a
+same_ended p a (Began o c) h = elim h [ ]
+same_ended p a (Ended o b) h = tie_ended o p b a h.0 (same_answer a b h.1)
+same_ended p a (Stopped o) h = elim h [ ]
+
+same_note : (a b : Note) → (note_clone.ghosts).is_clone a b → b ≡ a
+same_note (Began op command) b h = same_began op command b h
+same_note (Ended op answer) b h = same_ended op answer b h
+same_note (Stopped op) b h = grind arith
+
+pub same_moment : (a b : Moment) → (moment_clone.ghosts).is_clone a b → b ≡ a
+same_moment (Act a) b h = search (rules, same_entry)
+same_moment (Local stamp actor note) b h = search (rules, same_note)

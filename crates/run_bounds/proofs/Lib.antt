@@ -1,3 +1,0 @@
-pub mod PhasesLeft
-pub mod Steps
-pub mod RunsShort

@@ -1,5 +1,0 @@
-use Rattle.run_bounds.proofs.RunsShort.{each_is_short, idle_has_none}
-use Rattle.run_bounds.proofs.each_command_is_short.Goals as goal
-
-pub returns : goal.returns
-returns c = record { short = each_is_short; idle = idle_has_none }

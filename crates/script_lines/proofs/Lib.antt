@@ -1,2 +1,0 @@
-pub mod FormReads
-pub mod ClientNames

@@ -1,5 +1,0 @@
-use Rattle.script_runs.proofs.RunOn.{each_script_can_be_run_on as law}
-use Rattle.script_runs.proofs.each_script_can_be_run_on.Goals as goal
-
-pub returns : goal.returns
-returns c = law

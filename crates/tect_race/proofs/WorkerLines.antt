@@ -1,0 +1,172 @@
+-- What a worker does in some lines, and then in one more.
+use Rattle.std.proofs.Common.{◌≡◌, ◌≢◌, ℕ, ◌+◌, ◌-◌, ◌*◌, ◌/◌, ◌%◌, ◌^◌, ◌<◌, ◌≤◌, Some, Result, Ok, Err, OnOk, IsOk, List, [], ◌∷◌, ◌++◌, length, set, refl, sym, ap, subst, ◌∙◌, arith, ◌⊎◌, inl, inr, slice_get, slice_index_or, length-set}
+use Rattle.std.proofs.lemmas.Option.{slice_get_read}
+use Rattle.tect_ids.specs.declared.ids.Counts.{Counts}
+use Rattle.tect_ids.specs.declared.script.Act.{Act}
+use Rattle.tect_ids.specs.declared.script.Line.{Line}
+use Rattle.tect_ids.specs.declared.script.Line.TheVariants as lines
+use Rattle.world_runs.specs.Turns.{ClientTurn, TakesAct}
+use Rattle.world_runs.specs.Standing.{AtTurn}
+use Rattle.clients.specs.Lives.{state_in}
+use Rattle.players.specs.declared.racer.Racer.{Racer}
+use Rattle.tect_race.specs.declared.workers.Worker.{Worker}
+use Rattle.players.specs.Lines.{Plays}
+use Rattle.tect_race.specs.Lines.{Ran, PlaysOrRests}
+use Rattle.tect_race.specs.Workers.{WorkerPlays, WorkerRan}
+use Rattle.tect_race.specs.Ready.{IsReady, IsWorker, IsOfClient}
+use Rattle.tect_race.proofs.RacerLines.{adds_actor, ran_none, ran_on, ready_on}
+use Rattle.tect_race.proofs.Slots.{also_at, same_at, set_here, set_there, stands, place_worker, place_slot, decide}
+
+pub worker_ran_none : (names : List (List ℕ)) (c : Worker) → WorkerRan names [] c c
+worker_ran_none names c = record {
+  number = refl;
+  count = refl;
+  each = λ slot r t e f. subst (λ (x : Racer). Ran names [] r x) (same_at c.racers.items slot r t e f) (ran_none names r);
+}
+
+pub worker_ran_on : (names : List (List ℕ)) (ls : List Line) (line : Line) (a b c : Worker) → WorkerRan names ls a b → WorkerPlays names line b c → WorkerRan names (ls ++ line ∷ []) a c
+worker_ran_on names ls line a b c ran plays = record {
+  number = plays.number ∙ ran.number;
+  count = plays.count ∙ ran.count;
+  each = λ slot r t e f.
+      let s = also_at a.racers.items b.racers.items slot r e ran.count in
+      ran_on names ls line r s.0 t (ran.each slot r s.0 e s.1) (plays.each slot s.0 t s.1 f);
+}
+
+plays_actor : (names : List (List ℕ)) (line : Line) (r t : Racer) → PlaysOrRests names line r t → t.client.actor ≡ r.client.actor
+plays_actor names (lines.Client client actor act) r t (inl w) = ap (λ (x : Racer). x.client.actor) w.1
+plays_actor names (lines.Client client actor act) r t (inr w) = adds_actor names r t (w.1).news (w.1).more (w.1).adds
+plays_actor names lines.Dump r t w = absurd w
+plays_actor names (lines.Store counts) r t w = absurd w
+plays_actor names lines.Sweep r t w = absurd w
+plays_actor names (lines.Lose disk) r t w = absurd w
+
+pub worker_ready_on : (counts : Counts) (names : List (List ℕ)) (clients worker_count : ℕ) (line : Line) (later : List Line) (c d : Worker)
+    → IsWorker counts clients worker_count (line ∷ later) c → WorkerPlays names line c d → IsWorker counts clients worker_count later d
+worker_ready_on counts names clients worker_count line later c d is plays = record {
+  number = subst (λ k. k < worker_count) (sym plays.number) is.number;
+  filled = λ slot. (
+    λ l. subst (λ k. slot * worker_count + k < clients) (sym plays.number) ((is.filled slot).0 (let e = plays.count in omega arith)),
+    λ l. (let h = (is.filled slot).1 (subst (λ k. slot * worker_count + k < clients) plays.number l) in let e = plays.count in omega arith),
+  );
+  own = λ slot t f.
+      let r = also_at d.racers.items c.racers.items slot t f (sym plays.count) in
+      plays_actor names line r.0 t (plays.each slot r.0 t r.1 f) ∙ is.own slot r.0 r.1 ∙ ap (λ k. slot * worker_count + k + 1) (sym plays.number);
+  ready = λ slot t f.
+      let r = also_at d.racers.items c.racers.items slot t f (sym plays.count) in
+      ready_on names counts line later r.0 t (is.ready slot r.0 r.1) (plays.each slot r.0 t r.1 f);
+}
+
+-- ---- a line of a client of another worker
+
+module _ (counts : Counts) (names : List (List ℕ)) (clients worker_count : ℕ) (client : List ℕ) (actor : ℕ) (act : Act) (later : List Line) (c : Worker)
+    (is : IsWorker counts clients worker_count (lines.Client client actor act ∷ later) c) (low : 1 ≤ actor) where
+  not_own : (actor - 1) % worker_count ≢ c.number → (slot : ℕ) (r : Racer) → slice_get c.racers.items slot ≡ Some r → actor ≢ r.client.actor
+  not_own ne slot r e same =
+      let own = is.own slot r e in
+      let x : actor - 1 ≡ slot * worker_count + c.number = omega arith in
+      ne (ap (λ k. k % worker_count) x ∙ place_worker worker_count c.number slot is.number)
+
+  pub worker_rests : (actor - 1) % worker_count ≢ c.number → WorkerPlays names (lines.Client client actor act) c c
+  worker_rests ne = record {
+    number = refl;
+    count = refl;
+    each = λ slot r t e f. inl (not_own ne slot r e, sym (same_at c.racers.items slot r t e f));
+  }
+
+  -- ---- a line of one of the worker
+
+  module _ (mine : (actor - 1) % worker_count ≡ c.number) (high : actor ≤ clients) where
+    abbrev at : ℕ
+    at = (actor - 1) / worker_count
+
+    whole : at * worker_count + c.number ≡ actor - 1
+    whole = ap (λ k. at * worker_count + k) (sym mine) ∙ stands worker_count (actor - 1)
+
+    pub own_slot : at < length c.racers.items
+    own_slot = (is.filled at).1 (let e = whole in omega arith)
+
+    pub own_actor : (r : Racer) → slice_get c.racers.items at ≡ Some r → r.client.actor ≡ actor
+    own_actor r e = let o = is.own at r e in let w = whole in omega arith
+
+    other : (slot : ℕ) → slot ≢ at → (r : Racer) → slice_get c.racers.items slot ≡ Some r → actor ≢ r.client.actor
+    other slot ne r e same =
+        let own = is.own slot r e in
+        let x : actor - 1 ≡ slot * worker_count + c.number = omega arith in
+        ne (sym (ap (λ k. k / worker_count) x ∙ place_slot worker_count c.number slot is.number))
+
+    own_or_other : (r t : Racer) (d : Worker) → slice_get c.racers.items at ≡ Some r → d.racers.items ≡ set c.racers.items at t → Plays names act r t
+        → (slot : ℕ) (x y : Racer) → (slot ≡ at) ⊎ (slot ≢ at) → slice_get c.racers.items slot ≡ Some x → slice_get d.racers.items slot ≡ Some y
+        → PlaysOrRests names (lines.Client client actor act) x y
+    own_or_other r t d e items plays slot x y (inl here) f g =
+        let xr : x ≡ r = same_at c.racers.items at x r (subst (λ k. slice_get c.racers.items k ≡ Some x) here f) e in
+        let yt : y ≡ t = same_at d.racers.items at y t (subst (λ k. slice_get d.racers.items k ≡ Some y) here g)
+        (subst (λ (l : List Racer). slice_get l at ≡ Some t) (sym items) (set_here c.racers.items at t own_slot)) in
+        inr (sym (own_actor r e) ∙ ap (λ (w : Racer). w.client.actor) (sym xr), subst (λ (w : Racer). Plays names act w y) (sym xr) (subst (λ (w : Racer). Plays names act r w) (sym yt) plays))
+    own_or_other r t d e items plays slot x y (inr there) f g =
+        let same : slice_get d.racers.items slot ≡ slice_get c.racers.items slot =
+        ap (λ (l : List Racer). slice_get l slot) items ∙ set_there c.racers.items at slot t there in
+        inl (other slot there x f, same_at c.racers.items slot y x (sym same ∙ g) f)
+
+    pub worker_plays : (r t : Racer) (d : Worker) → slice_get c.racers.items at ≡ Some r → d.number ≡ c.number → d.racers.items ≡ set c.racers.items at t → Plays names act r t
+        → WorkerPlays names (lines.Client client actor act) c d
+    worker_plays r t d e number items plays = record {
+      number = number;
+      count = ap (λ (l : List Racer). length l) items ∙ length-set c.racers.items at t;
+      each = λ slot x y f g. own_or_other r t d e items plays slot x y (decide slot at) f g;
+    }
+
+-- ---- the line as the code has it
+
+on_ok : {A B E F : Type 0} → {P Q : Type 0} → (o : Result A E) (q : Result B F) → (IsOk q → IsOk o) → (P → Q) → OnOk o P → OnOk q Q
+on_ok (Ok x) (Ok y) k f h = f h
+on_ok (Ok x) (Err e) k f h = tt
+on_ok (Err e) (Ok y) k f h = let w = k refl in cc
+on_ok (Err e) (Err d) k f h = tt
+
+module _ (counts : Counts) (names : List (List ℕ)) (clients worker_count : ℕ) (line : Line) (client : List ℕ) (actor : ℕ) (act : Act) (c : Worker)
+    (is : line ≡ lines.Client client actor act) (of : IsOfClient clients line) (ready : (later : List Line) × IsWorker counts clients worker_count (line ∷ later) c) where
+  abbrev own_line : Line
+  own_line = lines.Client client actor act
+
+  abbrev bounds : IsOfClient clients own_line
+  bounds = subst (IsOfClient clients) is of
+
+  worker_is : IsWorker counts clients worker_count (own_line ∷ ready.0) c
+  worker_is = subst (λ (l : Line). IsWorker counts clients worker_count (l ∷ ready.0) c) is ready.1
+
+  pub line_rests : ((actor - 1) % worker_count ≡ c.number → ⊥) → WorkerPlays names line c c
+  line_rests ne = subst (λ (l : Line). WorkerPlays names l c c) (sym is) (worker_rests counts names clients worker_count client actor act ready.0 c worker_is bounds.0 ne)
+
+  module _ (mine : (actor - 1) % worker_count ≡ c.number) where
+    pub line_slot : (actor - 1) / worker_count < length c.racers.items
+    line_slot = own_slot counts names clients worker_count client actor act ready.0 c worker_is bounds.0 mine bounds.1
+
+    module _ (r : Racer) (value : r ≡ slice_index_or c.racers.items ((actor - 1) / worker_count) r) where
+      here : slice_get c.racers.items ((actor - 1) / worker_count) ≡ Some r
+      here = slice_get_read c.racers.items (length c.racers.items) ((actor - 1) / worker_count) r refl line_slot value
+
+      racer_ready : IsReady counts (own_line ∷ ready.0) r
+      racer_ready = worker_is.ready ((actor - 1) / worker_count) r here
+
+      actor_is : r.client.actor ≡ actor
+      actor_is = own_actor counts names clients worker_count client actor act ready.0 c worker_is bounds.0 mine bounds.1 r here
+
+      pub line_counts : r.client.counts ≡ counts
+      line_counts = racer_ready.counts_are
+
+      pub line_client : (1 ≤ r.client.actor) × (r.client.actor ≤ clients)
+      line_client = let e = actor_is in let b = bounds in (omega arith, omega arith)
+
+      pub line_few : (state_in r.client).number + 1 < 2 ^ 31
+      line_few = let f = racer_ready.few in omega arith
+
+      pub line_takes : (turn : ClientTurn) × AtTurn turn (state_in r.client) × TakesAct turn act
+      line_takes =
+          let turns = racer_ready.turns in
+          (turns actor, subst (λ k. AtTurn (turns k) (state_in r.client)) actor_is racer_ready.turn, racer_ready.in_turn.2)
+
+      pub line_plays : {E F : Type 0} → (o : Result (Unit {0}) E) (q : Result (Unit {0}) F) → (IsOk q → IsOk o) → (t : Racer) (d : Worker) → d.number ≡ c.number → d.racers.items ≡ set c.racers.items ((actor - 1) / worker_count) t
+          → OnOk o (Plays names act r t) → OnOk q (WorkerPlays names line c d)
+      line_plays o q k t d number items =
+          on_ok o q k (λ plays. subst (λ (l : Line). WorkerPlays names l c d) (sym is) (worker_plays counts names clients worker_count client actor act ready.0 c worker_is bounds.0 mine bounds.1 r t d here number items plays))

@@ -1,7 +1,0 @@
-use Rattle.std.proofs.Common.{◌≡◌, false, take}
-use Rattle.std.specs.List.{list_any}
-use Rattle.tect_race.specs.Batches.{is_of_worker}
-use Rattle.tect_race.proofs.batches.is_busy.Given as goal
-
-abbrev pub invariant-lines : goal.invariant-lines
-invariant-lines l = list_any (is_of_worker l.workers l.crew.number) (take l.line-index l.part) ≡ false

@@ -1,0 +1,6 @@
+use Rattle.std.specs.List.{AllZip}
+use Rattle.tect_race.specs.Passes.{IsPassOf}
+use Rattle.tect_race.proofs.rounds.take_passes.Given as goal
+
+abbrev pub invariant-racers : goal.invariant-racers
+invariant-racers l = AllZip IsPassOf l.yielded l.passes.items

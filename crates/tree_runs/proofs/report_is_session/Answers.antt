@@ -1,5 +1,0 @@
-use Rattle.tree_runs.proofs.Scripts.{session_reported}
-use Rattle.tree_runs.proofs.report_is_session.Goals as goal
-
-pub returns : goal.returns
-returns c = session_reported
