@@ -6,8 +6,7 @@ ghost use Rattle.tect_world.specs.Clients.{AreIdle};
 ghost use Rattle.tect_world.specs.ClientSteps.{StepsOnce, BeginsOnce, StopsOnce, StaysSo, act_marks, end_marks};
 
 use crate::marks::{Mark, push_mark};
-use clients::Turned;
-use clients::Client;
+use clients::{Client, Turned};
 use kept_shards::KeptShards;
 use std::alloc::Global;
 use tect_ids::{Command, Counts, NoMemory};

@@ -1,4 +1,5 @@
-ghost use Rattle.std.specs.Prelude.{◌≡◌, ℕ, ◌+◌, ◌^◌, ◌<◌, ◌≤◌, [], ◌∷◌, ◌++◌, List, OnOk, OnErr, IfOk, IsSome, IsNone, IsTrue, is_some, false};
+ghost use Rattle.std.specs.Prelude.{◌≡◌, ℕ, ◌+◌, ◌^◌, ◌<◌, ◌≤◌, [], ◌∷◌, ◌++◌, List, OnOk, OnErr, IfOk, IsSome, IsNone, IsTrue, is_some};
+ghost use Rattle.std.specs.Prelude.{false};
 ghost use Rattle.tect_ids.specs.Places.{HasPlaces};
 ghost use Rattle.store_rules.specs.Dumps.{store_dump};
 ghost use Rattle.world_runs.specs.Limits.{KeepsLimits};
@@ -13,8 +14,7 @@ ghost use Rattle.tect_world.specs.Told.{IsGathered};
 use crate::acting::{begin_client, idle_clients, step_client, stop_client};
 use crate::history::{WorldHistory, gather_all, take_passes};
 use crate::marks::{Mark, is_short, push_mark};
-use clients::Turned;
-use clients::Client;
+use clients::{Client, Turned};
 use kept_shards::KeptShards;
 use std::alloc::Global;
 use std::marker::Model;
