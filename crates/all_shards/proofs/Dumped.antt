@@ -1,5 +1,6 @@
 -- what the dumps of the shards are together
-use Rattle.std.proofs.Common.{◌-◌, ◌≡◌, ◌≢◌, ℕ, ◌+◌, ◌<◌, ◌≤◌, ◌%◌, Bool, true, false, ◌&&◌, T, cond, if◌then◌else◌, Option, Some, None, is_some, List, [], ◌∷◌, ◌++◌, map, length, get_or, refl, sym, ap, ◌∙◌, subst, arith}
+use Rattle.std.proofs.Common.{◌-◌, ◌≡◌, ◌≢◌, ℕ, ◌+◌, ◌<◌, ◌≤◌, ◌%◌, Bool, true, false, ◌&&◌, T, cond, if◌then◌else◌, Option, Some, None}
+use Rattle.std.proofs.Common.{is_some, List, [], ◌∷◌, ◌++◌, map, length, get_or, refl, sym, ap, ◌∙◌, subst, arith}
 use Rattle.std.specs.Prelude.{option_map}
 use Rattle.std.specs.List.{flat_map, AllByRecursion}
 use Rattle.std.specs.List.Sorted.{IsPermutation, IsSorted}
@@ -41,28 +42,40 @@ not_tied Equal s e p = absurd p
 not_tied Greater s e p = absurd p
 
 module _ {K X : Type 0} {R : K → K → Ordering} (o : IsTotalOrder R) where
-  found_behind : (first : K × X) (es fs : List (K × X)) → T (below_all R first.0 fs) → AllByRecursion (λ e. find R e.0 es ≡ Some e.1) fs → AllByRecursion (λ e. find R e.0 (first ∷ es) ≡ Some e.1) fs
+  found_behind : (first : K × X) (es fs : List (K × X)) → T (below_all R first.0 fs) → AllByRecursion (λ e. find R e.0 es ≡ Some e.1) fs
+      → AllByRecursion (λ e. find R e.0 (first ∷ es) ≡ Some e.1) fs
   found_behind first es [] below all = tt
   found_behind first es (f ∷ fs) below (here, rest) =
-      let parts = both _ _ below in
-      (ap (λ (b : Bool). cond b (Some first.1) (find R f.0 es)) (not_tied (R first.0 f.0) (R f.0 first.0) (o.antisymm f.0 first.0) parts.0) ∙ here, found_behind first es fs parts.1 rest)
+      let parts = both _ _ below in (
+        ap (λ (b : Bool). cond b (Some first.1) (find R f.0 es)) (not_tied (R first.0 f.0) (R f.0 first.0) (o.antisymm f.0 first.0) parts.0)
+            ∙ here,
+        found_behind first es fs parts.1 rest,
+      )
 
   -- each entry is found by its key
   found_each : (es : List (K × X)) → T (is_sorted R es) → AllByRecursion (λ e. find R e.0 es ≡ Some e.1) es
   found_each [] sorted = tt
   found_each (e ∷ es) sorted =
-      let parts = both _ _ sorted in
-      (ap (λ (r : Ordering). cond (is_eq r) (Some e.1) (find R e.0 es)) (tied_itself o e.0), found_behind e es es parts.0 (found_each es parts.1))
+      let parts = both _ _ sorted in (
+        ap (λ (r : Ordering). cond (is_eq r) (Some e.1) (find R e.0 es)) (tied_itself o e.0),
+        found_behind e es es parts.0
+            (found_each es parts.1),
+      )
 
-  by_keys : {A : Type 0} (look : K → Option X) (g : K → Option X → List A) (h : K × X → List A) → ((k : K) (x : X) → g k (Some x) ≡ h (k, x)) → (es : List (K × X)) → AllByRecursion (λ e. look e.0 ≡ Some e.1) es
+  by_keys : {A : Type 0} (look : K → Option X) (g : K → Option X → List A) (h : K × X → List A)
+      → ((k : K) (x : X) → g k (Some x) ≡ h (k, x)) → (es : List (K × X)) → AllByRecursion (λ e. look e.0 ≡ Some e.1) es
       → flat_map (λ k. g k (look k)) (map (λ e. e.0) es) ≡ flat_map h es
   by_keys look g h is [] all = refl
   by_keys {A = A} look g h is (e ∷ es) (first, rest) =
-      ap (λ (xs : List A). xs ++ flat_map (λ k. g k (look k)) (map (λ d. d.0) es)) (ap (g e.0) first ∙ is e.0 e.1) ∙ ap (λ (xs : List A). h e ++ xs) (by_keys look g h is es rest)
+      ap (λ (xs : List A). xs ++ flat_map (λ k. g k (look k)) (map (λ d. d.0) es)) (ap (g e.0) first ∙ is e.0 e.1) ∙ ap
+      (λ (xs : List A). h e ++ xs) (by_keys look g h is es rest)
 
   -- to go over the keys and look each up is to go over the entries
-  pub over_keys : {A : Type 0} (m : FinMap R X) (g : K → Option X → List A) (h : K × X → List A) → ((k : K) (x : X) → g k (Some x) ≡ h (k, x)) → flat_map (λ k. g k (get m k)) (keys m) ≡ flat_map h (entries m)
-  over_keys m g h is = by_keys (get m) g h is (entries m) (subst (λ (f : K → Option X). AllByRecursion (λ e. f e.0 ≡ Some e.1) (entries m)) (λ i k. sym (get-entries m k) i) (found_each (entries m) (entries_sorted m)))
+  pub over_keys : {A : Type 0} (m : FinMap R X) (g : K → Option X → List A) (h : K × X → List A)
+      → ((k : K) (x : X) → g k (Some x) ≡ h (k, x)) → flat_map (λ k. g k (get m k)) (keys m) ≡ flat_map h (entries m)
+  over_keys m g h is = by_keys (get m) g h is (entries m)
+      (subst (λ (f : K → Option X). AllByRecursion (λ e. f e.0 ≡ Some e.1) (entries m)) (λ i k. sym (get-entries m k) i)
+      (found_each (entries m) (entries_sorted m)))
 
 -- ---- the lines of each directory and of each file
 
@@ -80,7 +93,8 @@ file_dump s f = maybe_line (option_map (λ row. file_line (f, row)) (get s f))
 pub each_file_dump : (s : Files) (fs : List FileId) → fs ≡ keys s → flat_map (file_dump s) fs ≡ files_dump s
 each_file_dump s fs is =
     ap (flat_map (file_dump s)) is
-    ∙ over_keys file_cmp_total s (λ (f : FileId) (x : Option File). maybe_line (option_map (λ row. file_line (f, row)) x)) (λ e. file_line e ∷ []) (λ f x. refl)
+    ∙ over_keys file_cmp_total s (λ (f : FileId) (x : Option File). maybe_line (option_map (λ row. file_line (f, row)) x))
+    (λ e. file_line e ∷ []) (λ f x. refl)
     ∙ flat_map_single file_line (entries s)
 
 -- ---- the shards
@@ -95,9 +109,11 @@ zero_plus i = omega arith
 same_place : (p q : Place) → place_eq p q ≡ true → p.0 ≡ q.0
 same_place p q e = grind (arith, num_eq_cases p.0 q.0)
 
-keys_of_all : {S K X : Type 0} {R : K → K → Ordering} (rows : S → FinMap R X) (ss : List S) → flat_map (λ s. keys (rows s)) ss ≡ map (λ e. e.0) (flat_map (λ s. entries (rows s)) ss)
+keys_of_all : {S K X : Type 0} {R : K → K → Ordering} (rows : S → FinMap R X) (ss : List S)
+    → flat_map (λ s. keys (rows s)) ss ≡ map (λ e. e.0) (flat_map (λ s. entries (rows s)) ss)
 keys_of_all rows [] = refl
-keys_of_all {K = K} {X = X} rows (s ∷ ss) = ap (λ (ks : List K). keys (rows s) ++ ks) (keys_of_all rows ss) ∙ sym (map-append (λ (e : K × X). e.0) (entries (rows s)) (flat_map (λ s. entries (rows s)) ss))
+keys_of_all {K = K} {X = X} rows (s ∷ ss) = ap (λ (ks : List K). keys (rows s) ++ ks) (keys_of_all rows ss) ∙ sym
+    (map-append (λ (e : K × X). e.0) (entries (rows s)) (flat_map (λ s. entries (rows s)) ss))
 
 own_dump : (s w : Names) (d : DirId) → get s.dirs d ≡ get w.dirs d → within s.entries d ≡ within w.entries d → dir_dump s d ≡ dir_dump w d
 own_dump s w d dir inner = ap (lines_of_dir s d) dir ∙ by_dir (get w.dirs d)
@@ -107,10 +123,14 @@ own_dump s w d dir inner = ap (lines_of_dir s d) dir ∙ by_dir (get w.dirs d)
     by_dir (Some x) = rw inner
 
 module _ (c : Counts) (names : List Names) (files : List Files) (is : AreShards c names files) where
-  dirs_of : (i : ℕ) (d : DirId) → get (get_or names i no_names).dirs d ≡ (if place_eq (record { 0 = i }) (dir_place c d) then get (names_together names).dirs d else None)
+  dirs_of : (i : ℕ) (d : DirId)
+      → get (get_or names i no_names).dirs d ≡
+      (if place_eq (record { 0 = i }) (dir_place c d) then get (names_together names).dirs d else None)
   dirs_of i d = (is.whole.names (record { 0 = i })).dirs d
 
-  files_of : (i : ℕ) (f : FileId) → get (get_or files i empty) f ≡ (if place_eq (record { 0 = c.names + i }) (file_place c f) then get (files_together files) f else None)
+  files_of : (i : ℕ) (f : FileId)
+      → get (get_or files i empty) f ≡
+      (if place_eq (record { 0 = c.names + i }) (file_place c f) then get (files_together files) f else None)
   files_of i f = ap (λ (m : Files). get m f) (sym (files_at_index c files i)) ∙ is.whole.files (record { 0 = c.names + i }) f
 
   -- the directory's own shard shows it as the whole would
@@ -126,32 +146,42 @@ module _ (c : Counts) (names : List Names) (files : List Files) (is : AreShards 
 
   file_home : (i : ℕ) (f : FileId) → contains_key (get_or files i empty) f ≡ true → id_hash f.0 % c.files ≡ i
   file_home i f has =
-      let here : c.names + i ≡ c.names + id_hash f.0 % c.files = same_place (record { 0 = c.names + i }) (file_place c f) (is_chosen _ _ (ap is_some (sym (files_of i f)) ∙ has)) in
+      let here : c.names + i ≡ c.names + id_hash f.0 % c.files = same_place (record { 0 = c.names + i }) (file_place c f)
+      (is_chosen _ _ (ap is_some (sym (files_of i f)) ∙ has)) in
       omega (arith, here)
 
   -- the keys of all shards, sorted
-  pub dirs_sorted : (collected ds : List DirId) → collected ≡ flat_map (λ s. keys s.dirs) names → IsPermutation collected ds → IsSorted dir_cmp ds → ds ≡ keys (names_together names).dirs
+  pub dirs_sorted : (collected ds : List DirId) → collected ≡ flat_map (λ s. keys s.dirs) names → IsPermutation collected ds
+      → IsSorted dir_cmp ds → ds ≡ keys (names_together names).dirs
   unfolding names_together
   dirs_sorted collected ds all moves sorted =
       sorted_keys dir_cmp_total dir_antisymmetric (flat_map (λ s. entries s.dirs) names) ds (record { 0 = 0 })
-      (distinct_keys dir_cmp_total (λ (s : Names). s.dirs) (λ d. (dir_place c d).0) no_names names 0 (λ i d lt has. dir_home i d has ∙ sym (zero_plus i)))
+      (distinct_keys dir_cmp_total (λ (s : Names). s.dirs) (λ d. (dir_place c d).0) no_names names 0
+      (λ i d lt has. dir_home i d has ∙ sym (zero_plus i)))
       (subst (λ (ks : List DirId). IsPermutation ks ds) (all ∙ keys_of_all (λ (s : Names). s.dirs) names) moves) sorted
 
-  pub files_sorted : (collected fs : List FileId) → collected ≡ flat_map keys files → IsPermutation collected fs → IsSorted file_cmp fs → fs ≡ keys (files_together files)
+  pub files_sorted : (collected fs : List FileId) → collected ≡ flat_map keys files → IsPermutation collected fs → IsSorted file_cmp fs
+      → fs ≡ keys (files_together files)
   unfolding files_together
   files_sorted collected fs all moves sorted =
       sorted_keys file_cmp_total file_antisymmetric (flat_map entries files) fs (record { 0 = 0 })
-      (distinct_keys file_cmp_total (λ (s : Files). s) (λ f. id_hash f.0 % c.files) empty files 0 (λ i f lt has. file_home i f has ∙ sym (zero_plus i)))
+      (distinct_keys file_cmp_total (λ (s : Files). s) (λ f. id_hash f.0 % c.files) empty files 0
+      (λ i f lt has. file_home i f has ∙ sym (zero_plus i)))
       (subst (λ (ks : List FileId). IsPermutation ks fs) (all ∙ keys_of_all (λ (s : Files). s) files) moves) sorted
 
   -- what the code reads: the shard at the index
-  pub dir_dump_read : (d : DirId) (n : ℕ) → n ≡ (dir_place c d).0 → (shard : Names) → shard ≡ get_or names n shard → dir_dump shard d ≡ dir_dump (names_together names) d
+  pub dir_dump_read : (d : DirId) (n : ℕ) → n ≡ (dir_place c d).0 → (shard : Names) → shard ≡ get_or names n shard
+      → dir_dump shard d ≡ dir_dump (names_together names) d
   dir_dump_read d n at shard read =
-      ap (λ (s : Names). dir_dump s d) (read ∙ ap (λ (i : ℕ). get_or names i shard) at ∙ any_default names (dir_place c d).0 shard no_names (dir_index c names files is d)) ∙ dir_shown d
+      ap (λ (s : Names). dir_dump s d)
+      (read ∙ ap (λ (i : ℕ). get_or names i shard) at ∙ any_default names (dir_place c d).0 shard no_names
+      (dir_index c names files is d)) ∙ dir_shown d
 
-  pub file_read : (f : FileId) (n : ℕ) → n ≡ (file_place c f).0 → (shard : Files) → shard ≡ get_or files (n - c.names) shard → get shard f ≡ get (files_together files) f
+  pub file_read : (f : FileId) (n : ℕ) → n ≡ (file_place c f).0 → (shard : Files) → shard ≡ get_or files (n - c.names) shard
+      → get shard f ≡ get (files_together files) f
   file_read f n at shard read =
       let index : (file_place c f).0 - c.names ≡ id_hash f.0 % c.files = omega arith in
       ap (λ (s : Files). get s f)
-      (read ∙ ap (λ (i : ℕ). get_or files (i - c.names) shard) at ∙ any_default files ((file_place c f).0 - c.names) shard empty (file_index c names files is f) ∙ ap (λ (i : ℕ). get_or files i empty) index)
+      (read ∙ ap (λ (i : ℕ). get_or files (i - c.names) shard) at ∙ any_default files ((file_place c f).0 - c.names) shard empty
+      (file_index c names files is f) ∙ ap (λ (i : ℕ). get_or files i empty) index)
       ∙ file_shown f

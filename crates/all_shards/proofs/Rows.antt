@@ -1,5 +1,6 @@
 -- what is found in the rows of several maps, where each key has one home among them
-use Rattle.std.proofs.Common.{◌≡◌, ◌≢◌, ℕ, zero, suc, ◌+◌, ◌<◌, Bool, true, false, cond, Option, Some, None, List, [], ◌∷◌, ◌++◌, length, get_or, refl, sym, ap, ◌∙◌, arith}
+use Rattle.std.proofs.Common.{◌≡◌, ◌≢◌, ℕ, zero, suc, ◌+◌, ◌<◌, Bool, true, false, cond, Option, Some, None, List, [], ◌∷◌, ◌++◌, length}
+use Rattle.std.proofs.Common.{get_or, refl, sym, ap, ◌∙◌, arith}
 use Rattle.std.specs.List.{flat_map}
 use Rattle.std.specs.Option.{option_or}
 use Rattle.std.specs.declared.cmp.Ordering.{Ordering}
@@ -25,7 +26,8 @@ module _ {S K X : Type 0} {R : K → K → Ordering} (rows : S → FinMap R X) (
 
   -- the first map and the others
   first_or : (s : S) (ss : List S) → find R q (all_rows (s ∷ ss)) ≡ option_or (get (rows s) q) (find R q (all_rows ss))
-  first_or s ss = find_or R q (entries (rows s)) (all_rows ss) ∙ ap (λ (o : Option X). option_or o (find R q (all_rows ss))) (sym (get-entries (rows s) q))
+  first_or s ss = find_or R q (entries (rows s)) (all_rows ss) ∙ ap (λ (o : Option X). option_or o (find R q (all_rows ss)))
+      (sym (get-entries (rows s) q))
 
   pub found_nowhere : (ss : List S) → ((i : ℕ) → i < length ss → get (rows (get_or ss i d)) q ≡ None) → find R q (all_rows ss) ≡ None
   found_nowhere [] none = refl
@@ -35,7 +37,8 @@ module _ {S K X : Type 0} {R : K → K → Ordering} (rows : S → FinMap R X) (
       ∙ found_nowhere ss (λ i lt. none (suc i) (omega (arith, lt)))
 
   -- what the map at its home has, where the others have nothing
-  pub found_at_home : (ss : List S) (home : ℕ) → home < length ss → ((i : ℕ) → i < length ss → i ≢ home → get (rows (get_or ss i d)) q ≡ None)
+  pub found_at_home : (ss : List S) (home : ℕ) → home < length ss
+      → ((i : ℕ) → i < length ss → i ≢ home → get (rows (get_or ss i d)) q ≡ None)
       → find R q (all_rows ss) ≡ get (rows (get_or ss home d)) q
   found_at_home [] home lt others = absurd (omega (arith, lt))
   found_at_home (s ∷ ss) zero lt others =

@@ -1,16 +1,19 @@
 -- the keys of several maps, each in one of them, are the keys of all together once they are sorted
-use Rattle.std.proofs.Common.{◌≡◌, ◌≢◌, ℕ, zero, suc, ◌+◌, ◌<◌, ◌≤◌, ◌%◌, Bool, true, false, ◌&&◌, ◌||◌, T, cond, if◌then◌else◌, Option, Some, None, is_some, List, [], ◌∷◌, ◌++◌, map, length, get_or, refl, sym, ap, ◌∙◌, subst, arith}
+use Rattle.std.proofs.Common.{◌≡◌, ◌≢◌, ℕ, zero, suc, ◌+◌, ◌<◌, ◌≤◌, ◌%◌, Bool, true, false, ◌&&◌, ◌||◌, T, cond, if◌then◌else◌, Option}
+use Rattle.std.proofs.Common.{Some, None, is_some, List, [], ◌∷◌, ◌++◌, map, length, get_or, refl, sym, ap, ◌∙◌, subst, arith}
 use Rattle.std.specs.List.{flat_map, list_any, IsDistinct, AllByRecursion}
 use Rattle.std.specs.List.Sorted.{IsPermutation, IsSorted, IsStrictlySortedBy}
 use Rattle.std.specs.declared.cmp.Ordering.{Ordering}
 use Rattle.std.specs.declared.cmp.Ordering.TheVariants.{Less, Equal, Greater}
 use Rattle.std.specs.Ordering.{eq_by_cmp, is_lt, is_eq, ordering_reverse}
 use Rattle.std.specs.Cmp.{IsTotalOrder, tied_itself}
-use Rattle.std.specs.FinMap.{FinMap, IsAntisymmetric, get, contains_key, keys, entries, entries_sorted, find, is_sorted, from_entries, get-from_entries, get-entries, contains_key-keys}
+use Rattle.std.specs.FinMap.{FinMap, IsAntisymmetric, get, contains_key, keys, entries, entries_sorted, find, is_sorted, from_entries}
+use Rattle.std.specs.FinMap.{get-from_entries, get-entries, contains_key-keys}
 use Rattle.std.specs.FinMap.Entries.{below_all, is_some-find, same_entries}
 use Rattle.std.proofs.lemmas.List.{map-append}
 use Rattle.std.proofs.lemmas.List.Sorted.{list_any-IsPermutation}
-use Rattle.std.proofs.lemmas.Map.Keys.{sorted_head, sorted_tail, sorted_from_all_adjacent, apart_from_distinct, IsDistinct-from_sorted, IsDistinct-IsPermutation}
+use Rattle.std.proofs.lemmas.Map.Keys.{sorted_head, sorted_tail, sorted_from_all_adjacent, apart_from_distinct, IsDistinct-from_sorted}
+use Rattle.std.proofs.lemmas.Map.Keys.{IsDistinct-IsPermutation}
 use Rattle.all_shards.proofs.Rows.{all_rows, found_nowhere}
 
 -- ---- lists of keys
@@ -68,7 +71,8 @@ module _ {K X : Type 0} (R : K → K → Ordering) where
 
   keys_tagged : (es : List (K × X)) → is_sorted R (tagged (map (λ e. e.0) es)) ≡ is_sorted R es
   keys_tagged [] = refl
-  keys_tagged (e ∷ es) = ap (λ (b : Bool). b && is_sorted R (tagged (map (λ d. d.0) es))) (below_keys e.0 es) ∙ ap (λ (b : Bool). below_all R e.0 es && b) (keys_tagged es)
+  keys_tagged (e ∷ es) = ap (λ (b : Bool). b && is_sorted R (tagged (map (λ d. d.0) es))) (below_keys e.0 es) ∙ ap
+      (λ (b : Bool). below_all R e.0 es && b) (keys_tagged es)
 
   all_below : (x : K) (es : List (K × X)) → T (below_all R x es) → AllByRecursion (λ y. R x y ≡ Less) (map (λ e. e.0) es)
   all_below x [] h = tt
@@ -93,18 +97,23 @@ module _ {K : Type 0} {R : K → K → Ordering} (o : IsTotalOrder R) where
 
 module _ {K X : Type 0} {R : K → K → Ordering} (o : IsTotalOrder R) (same : IsAntisymmetric R) where
   -- the keys of a map are the one strictly sorted list of them
-  one_list : (xs : List K) (m : FinMap R X) → IsStrictlySortedBy R xs → ((q : K) → list_any (eq_by_cmp R q) xs ≡ contains_key m q) → xs ≡ keys m
+  one_list : (xs : List K) (m : FinMap R X) → IsStrictlySortedBy R xs → ((q : K) → list_any (eq_by_cmp R q) xs ≡ contains_key m q)
+      → xs ≡ keys m
   one_list xs m is has =
       sym (untagged xs)
-      ∙ ap (map (λ e. e.0)) (same_entries R o same (tagged xs) (tagged (keys m)) (sorted_tagged R xs is) (subst T (sym (keys_tagged R (entries m))) (entries_sorted m))
+      ∙ ap (map (λ e. e.0))
+      (same_entries R o same (tagged xs) (tagged (keys m)) (sorted_tagged R xs is)
+      (subst T (sym (keys_tagged R (entries m))) (entries_sorted m))
       (λ q. find_tagged R q xs ∙ ap (λ (b : Bool). cond b (Some tt) None) (has q ∙ contains_key-keys m q) ∙ sym (find_tagged R q (keys m))))
       ∙ untagged (keys m)
 
   -- sorted keys of a list of entries, of which no two have the same
-  pub sorted_keys : (es : List (K × X)) (xs : List K) (d : K) → IsDistinct (eq_by_cmp R) (map (λ e. e.0) es) → IsPermutation (map (λ e. e.0) es) xs → IsSorted R xs → xs ≡ keys (from_entries {R = R} es)
+  pub sorted_keys : (es : List (K × X)) (xs : List K) (d : K) → IsDistinct (eq_by_cmp R) (map (λ e. e.0) es)
+      → IsPermutation (map (λ e. e.0) es) xs → IsSorted R xs → xs ≡ keys (from_entries {R = R} es)
   sorted_keys es xs d distinct moves sorted =
       one_list xs (from_entries es) (strict o xs d sorted (IsDistinct-IsPermutation (eq_by_cmp R) (flips o) _ xs moves distinct))
-      (λ q. sym (list_any-IsPermutation (eq_by_cmp R q) _ xs moves) ∙ sym (is_some-find R q es) ∙ ap is_some (sym (get-from_entries o es q)))
+      (λ q. sym (list_any-IsPermutation (eq_by_cmp R q) _ xs moves) ∙ sym (is_some-find R q es) ∙ ap is_some
+      (sym (get-from_entries o es q)))
 
 -- ---- keys of several maps
 
@@ -143,17 +152,22 @@ no_entries e = tt
 
 module _ {S K X : Type 0} {R : K → K → Ordering} (o : IsTotalOrder R) (rows : S → FinMap R X) (home : K → ℕ) (d : S) where
   -- each key is in the map of its home alone
-  pub distinct_keys : (ss : List S) (n : ℕ) → ((i : ℕ) (q : K) → i < length ss → contains_key (rows (get_or ss i d)) q ≡ true → home q ≡ n + i)
+  pub distinct_keys : (ss : List S) (n : ℕ)
+      → ((i : ℕ) (q : K) → i < length ss → contains_key (rows (get_or ss i d)) q ≡ true → home q ≡ n + i)
       → IsDistinct (eq_by_cmp R) (map (λ e. e.0) (flat_map (λ s. entries (rows s)) ss))
   distinct_keys [] n at = no_entries (eq_by_cmp R)
   distinct_keys (s ∷ ss) n at =
       subst (IsDistinct (eq_by_cmp R)) (sym (map-append (λ (e : K × X). e.0) (entries (rows s)) (flat_map (λ s. entries (rows s)) ss)))
-      (distinct_append (eq_by_cmp R) (λ x. ap is_eq (tied_itself o x)) (keys (rows s)) _ (IsDistinct-from_sorted R (keys (rows s)) (strict_keys R (entries (rows s)) (entries_sorted (rows s))))
+      (distinct_append (eq_by_cmp R) (λ x. ap is_eq (tied_itself o x)) (keys (rows s)) _
+      (IsDistinct-from_sorted R (keys (rows s)) (strict_keys R (entries (rows s)) (entries_sorted (rows s))))
       (distinct_keys ss (n + 1) (λ i q lt h. at (suc i) q (omega (arith, lt)) h ∙ omega arith))
       elsewhere)
     where
-      elsewhere : (q : K) → list_any (eq_by_cmp R q) (keys (rows s)) ≡ true → list_any (eq_by_cmp R q) (map (λ e. e.0) (flat_map (λ s. entries (rows s)) ss)) ≡ false
+      elsewhere : (q : K) → list_any (eq_by_cmp R q) (keys (rows s)) ≡ true
+          → list_any (eq_by_cmp R q) (map (λ e. e.0) (flat_map (λ s. entries (rows s)) ss)) ≡ false
       elsewhere q here =
           let first : home q ≡ n + 0 = at 0 q (omega arith) (contains_key-keys (rows s) q ∙ here) in
           sym (is_some-find R q (flat_map (λ s. entries (rows s)) ss))
-          ∙ ap is_some (found_nowhere rows q d ss (λ i lt. none_some _ (λ h. let later : home q ≡ n + suc i = at (suc i) q (omega (arith, lt)) h in omega (arith, first, later))))
+          ∙ ap is_some (found_nowhere rows q d ss
+          (λ i lt. none_some _
+          (λ h. let later : home q ≡ n + suc i = at (suc i) q (omega (arith, lt)) h in omega (arith, first, later))))

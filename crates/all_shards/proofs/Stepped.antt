@@ -1,5 +1,6 @@
 -- a request at the shard of its place is a step of the store that the shards are together
-use Rattle.std.proofs.Common.{zero, suc, ◌≡◌, ◌≢◌, ℕ, ◌+◌, ◌-◌, ◌<◌, ◌≤◌, ◌%◌, Bool, true, false, eqb, nat_lt, if◌then◌else◌, List, [], ◌∷◌, length, get_or, set, replicate, refl, sym, ap, ◌∙◌, subst, arith}
+use Rattle.std.proofs.Common.{zero, suc, ◌≡◌, ◌≢◌, ℕ, ◌+◌, ◌-◌, ◌<◌, ◌≤◌, ◌%◌, Bool, true, false, eqb, nat_lt, if◌then◌else◌, List, [], ◌∷◌}
+use Rattle.std.proofs.Common.{length, get_or, set, replicate, refl, sym, ap, ◌∙◌, subst, arith}
 use Rattle.std.proofs.lemmas.List.{get_or-set_same, get_or-set_other, get_or-replicate, get_or_past, length-set, length-replicate}
 use Rattle.std.specs.FinMap.{empty}
 use Rattle.tect_ids.specs.declared.ids.Counts.{Counts}
@@ -29,18 +30,24 @@ along : (c : Counts) (one other : Parts) (w : Store) → ((p : Place) → one p 
 along c one other w same is = subst (λ (parts : Parts). AreWhole c parts w) (λ i p. sym (same p) i) is
 
 -- a step of a store goes to one layer
-by_names : (s : Store) (q : NameReq) (b : Bool) → ◌≡◌ {A = Store} (if b then record s { names = name_change s.names q } else s) (record { names = if b then name_change s.names q else s.names; files = s.files })
+by_names : (s : Store) (q : NameReq) (b : Bool)
+    → ◌≡◌ {A = Store} (if b then record s { names = name_change s.names q } else s)
+    (record { names = if b then name_change s.names q else s.names; files = s.files })
 by_names s q true = refl
 by_names s q false = refl
 
-step_names : (s : Store) (q : NameReq) → ◌≡◌ {A = Store} (store_step s (any.Name q)) (record { names = name_step s.names q; files = s.files })
+step_names : (s : Store) (q : NameReq)
+    → ◌≡◌ {A = Store} (store_step s (any.Name q)) (record { names = name_step s.names q; files = s.files })
 step_names s q = by_names s q (changes (name_answer s.names q))
 
-by_files : (s : Store) (q : FileReq) (b : Bool) → ◌≡◌ {A = Store} (if b then record s { files = file_change s.files q } else s) (record { names = s.names; files = if b then file_change s.files q else s.files })
+by_files : (s : Store) (q : FileReq) (b : Bool)
+    → ◌≡◌ {A = Store} (if b then record s { files = file_change s.files q } else s)
+    (record { names = s.names; files = if b then file_change s.files q else s.files })
 by_files s q true = refl
 by_files s q false = refl
 
-step_files : (s : Store) (q : FileReq) → ◌≡◌ {A = Store} (store_step s (any.File q)) (record { names = s.names; files = file_step s.files q })
+step_files : (s : Store) (q : FileReq)
+    → ◌≡◌ {A = Store} (store_step s (any.File q)) (record { names = s.names; files = file_step s.files q })
 step_files s q = by_files s q (changes (file_answer s.files q))
 
 -- ---- the index of a request's shard
@@ -63,11 +70,13 @@ module _ (c : Counts) (names : List Names) (files : List Files) (is : AreShards 
     later = set names (dir_place c (dir_of q)).0 x
 
     name_part_by : (p : Place) (b : Bool) → place_eq p (dir_place c (dir_of q)) ≡ b
-        → ◌≡◌ {A = Store} (parts_of c later files p) (if b then store_step (parts_of c names files p) (any.Name q) else parts_of c names files p)
+        → ◌≡◌ {A = Store} (parts_of c later files p)
+        (if b then store_step (parts_of c names files p) (any.Name q) else parts_of c names files p)
     name_part_by p true e =
         let here : p.0 ≡ (dir_place c (dir_of q)).0 = grind (arith, num_eq_cases p.0 (dir_place c (dir_of q)).0) in
         let own : get_or later p.0 no_names ≡ name_step (get_or names p.0 no_names) q =
-        ap (λ (n : ℕ). get_or later n no_names) here ∙ get_or-set_same names (dir_place c (dir_of q)).0 x no_names (dir_index (dir_of q)) ∙ done
+        ap (λ (n : ℕ). get_or later n no_names) here ∙ get_or-set_same names (dir_place c (dir_of q)).0 x no_names (dir_index (dir_of q)) ∙
+        done
         ∙ ap (λ (n : ℕ). name_step (get_or names n no_names) q) (sym here) in
         (λ i. record { names = own i; files = files_at c files p }) ∙ sym (step_names (parts_of c names files p) q)
     name_part_by p false e =
@@ -75,7 +84,8 @@ module _ (c : Counts) (names : List Names) (files : List Files) (is : AreShards 
         λ i. record { names = get_or-set_other names (dir_place c (dir_of q)).0 p.0 x no_names apart i; files = files_at c files p }
 
     name_whole : AreWhole c (parts_of c later files) (store_step (together names files) (any.Name q))
-    name_whole = along c (parts_of c later files) (parts_step c (parts_of c names files) (any.Name q)) _ (λ p. name_part_by p (place_eq p (dir_place c (dir_of q))) refl)
+    name_whole = along c (parts_of c later files) (parts_step c (parts_of c names files) (any.Name q)) _
+        (λ p. name_part_by p (place_eq p (dir_place c (dir_of q))) refl)
         (step_whole c (parts_of c names files) (together names files) is.whole (any.Name q))
 
     name_number : length later ≡ c.names
@@ -113,7 +123,8 @@ module _ (c : Counts) (names : List Names) (files : List Files) (is : AreShards 
         get_or-set_other files (place - c.names) (p.0 - c.names) x empty (λ same. apart (omega (arith, same, past)))
 
     file_part_by : (p : Place) (b : Bool) → place_eq p (file_place c (file_of q)) ≡ b
-        → ◌≡◌ {A = Store} (parts_of c names after p) (if b then store_step (parts_of c names files p) (any.File q) else parts_of c names files p)
+        → ◌≡◌ {A = Store} (parts_of c names after p)
+        (if b then store_step (parts_of c names files p) (any.File q) else parts_of c names files p)
     file_part_by p true e =
         let here : p.0 ≡ place = grind (arith, num_eq_cases p.0 place) in
         (λ i. record { names = names_at names p; files = file_at_own p here i }) ∙ sym (step_files (parts_of c names files p) q)
@@ -122,7 +133,8 @@ module _ (c : Counts) (names : List Names) (files : List Files) (is : AreShards 
         λ i. record { names = names_at names p; files = file_at_other p apart (nat_lt p.0 c.names) refl i }
 
     file_whole : AreWhole c (parts_of c names after) (store_step (together names files) (any.File q))
-    file_whole = along c (parts_of c names after) (parts_step c (parts_of c names files) (any.File q)) _ (λ p. file_part_by p (place_eq p (file_place c (file_of q))) refl)
+    file_whole = along c (parts_of c names after) (parts_step c (parts_of c names files) (any.File q)) _
+        (λ p. file_part_by p (place_eq p (file_place c (file_of q))) refl)
         (step_whole c (parts_of c names files) (together names files) is.whole (any.File q))
 
     file_number : length after ≡ c.files
@@ -136,8 +148,10 @@ module _ (c : Counts) (names : List Names) (files : List Files) (is : AreShards 
 
 -- ---- the opening
 
-module _ (c : Counts) (names : List Names) (files : List Files) (places : HasPlaces c) (opens : IsOpening c c.names names) (none : files ≡ replicate c.files empty) where
-  opening_names : (p : Place) (b : Bool) → nat_lt p.0 c.names ≡ b → names_at names p ≡ (if place_eq p (root_place c) then root_names else no_names)
+module _ (c : Counts) (names : List Names) (files : List Files) (places : HasPlaces c) (opens : IsOpening c c.names names)
+    (none : files ≡ replicate c.files empty) where
+  opening_names : (p : Place) (b : Bool) → nat_lt p.0 c.names ≡ b
+      → names_at names p ≡ (if place_eq p (root_place c) then root_names else no_names)
   opening_names p true e = opens.each p (grind (arith, e))
   opening_names p false e =
       let past : length names ≤ p.0 = grind (arith, e, opens.number) in
@@ -153,11 +167,13 @@ module _ (c : Counts) (names : List Names) (files : List Files) (places : HasPla
 
   opening_files : (p : Place) (b : Bool) → (if b then empty else get_or files (p.0 - c.names) empty) ≡ empty
   opening_files p true = refl
-  opening_files p false = ap (λ (fs : List Files). get_or fs (p.0 - c.names) empty) none ∙ no_file_by c.files (p.0 - c.names) (nat_lt (p.0 - c.names) c.files) refl
+  opening_files p false = ap (λ (fs : List Files). get_or fs (p.0 - c.names) empty) none ∙ no_file_by c.files (p.0 - c.names)
+      (nat_lt (p.0 - c.names) c.files) refl
 
   opens_whole : AreWhole c (parts_of c names files) opening_store
   opens_whole = along c (parts_of c names files) (opening_parts c) _
-      (λ p i. record { names = opening_names p (nat_lt p.0 c.names) refl i; files = opening_files p (nat_lt p.0 c.names) i }) (opening_whole c)
+      (λ p i. record { names = opening_names p (nat_lt p.0 c.names) refl i; files = opening_files p (nat_lt p.0 c.names) i })
+      (opening_whole c)
 
   file_total : length files ≡ c.files
   file_total = ap length none ∙ length-replicate c.files empty
@@ -175,20 +191,23 @@ any_default [] i d e lt = absurd (omega (arith, lt))
 any_default (x ∷ xs) zero d e lt = refl
 any_default (x ∷ xs) (suc i) d e lt = any_default xs i d e (omega (arith, lt))
 
-module _ (c : Counts) (names : List Names) (files : List Files) (is : AreShards c names files) (p : Place) (r : AnyReq) (at : p ≡ request_place c r) where
+module _ (c : Counts) (names : List Names) (files : List Files) (is : AreShards c names files) (p : Place) (r : AnyReq)
+    (at : p ≡ request_place c r) where
   -- a request to a name shard
   module _ (q : NameReq) (same : r ≡ any.Name q) (shard : Names) (read : shard ≡ get_or names p.0 shard) where
     pub own_place : p.0 ≡ (dir_place c (dir_of q)).0
     own_place = ap (λ (x : Place). x.0) (at ∙ ap (request_place c) same)
 
     pub own_shard : shard ≡ get_or names (dir_place c (dir_of q)).0 no_names
-    own_shard = read ∙ ap (λ (i : ℕ). get_or names i shard) own_place ∙ any_default names (dir_place c (dir_of q)).0 shard no_names (dir_index c names files is (dir_of q))
+    own_shard = read ∙ ap (λ (i : ℕ). get_or names i shard) own_place ∙ any_default names (dir_place c (dir_of q)).0 shard no_names
+        (dir_index c names files is (dir_of q))
 
     pub in_names : p.0 < length names
     in_names = rw own_place (dir_index c names files is (dir_of q))
 
     pub name_reply_is : reply_of.Name (reply (name_answer shard q)) ≡ store_reply (together names files) r
-    name_reply_is = ap (λ (s : Names). reply_of.Name (reply (name_answer s q))) own_shard ∙ own_reply c names files is (any.Name q) ∙ ap (store_reply (together names files)) (sym same)
+    name_reply_is = ap (λ (s : Names). reply_of.Name (reply (name_answer s q))) own_shard ∙ own_reply c names files is (any.Name q) ∙ ap
+        (store_reply (together names files)) (sym same)
 
     module _ (x : Names) (done : x ≡ name_step shard q) where
       done_there : x ≡ name_step (get_or names (dir_place c (dir_of q)).0 no_names) q
@@ -196,10 +215,12 @@ module _ (c : Counts) (names : List Names) (files : List Files) (is : AreShards 
 
       pub name_is_done : together (set names p.0 x) files ≡ store_step (together names files) r
       name_is_done =
-          ap (λ (i : ℕ). together (set names i x) files) own_place ∙ name_stepped c names files is q x done_there ∙ ap (store_step (together names files)) (sym same)
+          ap (λ (i : ℕ). together (set names i x) files) own_place ∙ name_stepped c names files is q x done_there ∙ ap
+          (store_step (together names files)) (sym same)
 
       pub name_done_stays : AreShards c (set names p.0 x) files
-      name_done_stays = subst (λ (i : ℕ). AreShards c (set names i x) files) (sym own_place) (name_shards_stay c names files is q x done_there)
+      name_done_stays = subst (λ (i : ℕ). AreShards c (set names i x) files) (sym own_place)
+          (name_shards_stay c names files is q x done_there)
 
   -- a request to a file shard
   module _ (q : FileReq) (same : r ≡ any.File q) (shard : Files) (read : shard ≡ get_or files (p.0 - c.names) shard) where
@@ -214,11 +235,13 @@ module _ (c : Counts) (names : List Names) (files : List Files) (is : AreShards 
     shard_at_place : files_at c files (file_place c (file_of q)) ≡ get_or files ((file_place c (file_of q)).0 - c.names) empty
     shard_at_place =
         files_at_index c files (id_hash (file_of q).0 % c.files)
-        ∙ ap (λ (i : ℕ). get_or files i empty) (let e : id_hash (file_of q).0 % c.files ≡ (file_place c (file_of q)).0 - c.names = omega arith in e)
+        ∙ ap (λ (i : ℕ). get_or files i empty)
+        (let e : id_hash (file_of q).0 % c.files ≡ (file_place c (file_of q)).0 - c.names = omega arith in e)
 
     pub file_reply_is : reply_of.File (reply (file_answer shard q)) ≡ store_reply (together names files) r
     file_reply_is =
-        ap (λ (s : Files). reply_of.File (reply (file_answer s q))) (own_file_shard ∙ sym shard_at_place) ∙ own_reply c names files is (any.File q) ∙ ap (store_reply (together names files)) (sym same)
+        ap (λ (s : Files). reply_of.File (reply (file_answer s q))) (own_file_shard ∙ sym shard_at_place) ∙ own_reply c names files is
+        (any.File q) ∙ ap (store_reply (together names files)) (sym same)
 
     module _ (x : Files) (done : x ≡ file_step shard q) where
       file_done_there : x ≡ file_step (get_or files ((file_place c (file_of q)).0 - c.names) empty) q
@@ -226,7 +249,9 @@ module _ (c : Counts) (names : List Names) (files : List Files) (is : AreShards 
 
       pub file_is_done : together names (set files (p.0 - c.names) x) ≡ store_step (together names files) r
       file_is_done =
-          ap (λ (i : ℕ). together names (set files (i - c.names) x)) file_own_place ∙ file_stepped c names files is q x file_done_there ∙ ap (store_step (together names files)) (sym same)
+          ap (λ (i : ℕ). together names (set files (i - c.names) x)) file_own_place ∙ file_stepped c names files is q x file_done_there ∙ ap
+          (store_step (together names files)) (sym same)
 
       pub file_done_stays : AreShards c names (set files (p.0 - c.names) x)
-      file_done_stays = subst (λ (i : ℕ). AreShards c names (set files (i - c.names) x)) (sym file_own_place) (file_shards_stay c names files is q x file_done_there)
+      file_done_stays = subst (λ (i : ℕ). AreShards c names (set files (i - c.names) x)) (sym file_own_place)
+          (file_shards_stay c names files is q x file_done_there)

@@ -1,5 +1,6 @@
 -- shards that are the whole of a store are that store together
-use Rattle.std.proofs.Common.{◌≡◌, ◌≢◌, ℕ, ◌+◌, ◌-◌, ◌<◌, ◌%◌, Bool, true, false, eqb, nat_lt, if◌then◌else◌, Option, None, List, length, get_or, refl, sym, ap, ◌∙◌, subst, arith}
+use Rattle.std.proofs.Common.{◌≡◌, ◌≢◌, ℕ, ◌+◌, ◌-◌, ◌<◌, ◌%◌, Bool, true, false, eqb, nat_lt, if◌then◌else◌, Option, None, List, length}
+use Rattle.std.proofs.Common.{get_or, refl, sym, ap, ◌∙◌, subst, arith}
 use Rattle.std.specs.FinMap.{get, empty, get-from_entries}
 use Rattle.tect_ids.specs.declared.ids.Counts.{Counts}
 use Rattle.tect_ids.specs.declared.ids.DirId.{DirId}
@@ -54,34 +55,40 @@ module _ (c : Counts) (names : List Names) (files : List Files) (w : Store) (pla
   file_home : (f : FileId) → id_hash f.0 % c.files < length files
   file_home f = let lt = below (id_hash f.0) c.files (omega (arith, places.files)) in omega (arith, lt, file_count)
 
-  dirs_of : (i : ℕ) (d : DirId) → get (get_or names i no_names).dirs d ≡ (if place_eq (record { 0 = i }) (dir_place c d) then get w.names.dirs d else None)
+  dirs_of : (i : ℕ) (d : DirId)
+      → get (get_or names i no_names).dirs d ≡ (if place_eq (record { 0 = i }) (dir_place c d) then get w.names.dirs d else None)
   dirs_of i d = (is.names (record { 0 = i })).dirs d
 
-  entries_of : (i : ℕ) (k : Key) → get (get_or names i no_names).entries k ≡ (if place_eq (record { 0 = i }) (dir_place c k.dir) then get w.names.entries k else None)
+  entries_of : (i : ℕ) (k : Key)
+      → get (get_or names i no_names).entries k ≡ (if place_eq (record { 0 = i }) (dir_place c k.dir) then get w.names.entries k else None)
   entries_of i k = (is.names (record { 0 = i })).entries k
 
-  files_of : (i : ℕ) (f : FileId) → get (get_or files i empty) f ≡ (if place_eq (record { 0 = c.names + i }) (file_place c f) then get w.files f else None)
+  files_of : (i : ℕ) (f : FileId)
+      → get (get_or files i empty) f ≡ (if place_eq (record { 0 = c.names + i }) (file_place c f) then get w.files f else None)
   files_of i f = ap (λ (m : Files). get m f) (sym (files_at_index c files i)) ∙ is.files (record { 0 = c.names + i }) f
 
   together_dirs : (d : DirId) → get (names_together names).dirs d ≡ get w.names.dirs d
   unfolding names_together
   together_dirs d =
       get-from_entries dir_cmp_total _ d
-      ∙ found_at_home (λ (s : Names). s.dirs) d no_names names (dir_place c d).0 (dir_home d) (λ i lt apart. dirs_of i d ∙ dropped _ _ (place_other i (dir_place c d) apart))
+      ∙ found_at_home (λ (s : Names). s.dirs) d no_names names (dir_place c d).0 (dir_home d)
+      (λ i lt apart. dirs_of i d ∙ dropped _ _ (place_other i (dir_place c d) apart))
       ∙ dirs_of (dir_place c d).0 d ∙ chosen _ _ (place_own (dir_place c d))
 
   together_entries : (k : Key) → get (names_together names).entries k ≡ get w.names.entries k
   unfolding names_together
   together_entries k =
       get-from_entries key_cmp_total _ k
-      ∙ found_at_home (λ (s : Names). s.entries) k no_names names (dir_place c k.dir).0 (dir_home k.dir) (λ i lt apart. entries_of i k ∙ dropped _ _ (place_other i (dir_place c k.dir) apart))
+      ∙ found_at_home (λ (s : Names). s.entries) k no_names names (dir_place c k.dir).0 (dir_home k.dir)
+      (λ i lt apart. entries_of i k ∙ dropped _ _ (place_other i (dir_place c k.dir) apart))
       ∙ entries_of (dir_place c k.dir).0 k ∙ chosen _ _ (place_own (dir_place c k.dir))
 
   together_files : (f : FileId) → get (files_together files) f ≡ get w.files f
   unfolding files_together
   together_files f =
       get-from_entries file_cmp_total _ f
-      ∙ found_at_home (λ (s : Files). s) f empty files (id_hash f.0 % c.files) (file_home f) (λ i lt apart. files_of i f ∙ dropped _ _ (file_other c i f apart))
+      ∙ found_at_home (λ (s : Files). s) f empty files (id_hash f.0 % c.files) (file_home f)
+      (λ i lt apart. files_of i f ∙ dropped _ _ (file_other c i f apart))
       ∙ files_of (id_hash f.0 % c.files) f ∙ chosen _ _ (place_own (file_place c f))
 
   pub together_is : together names files ≡ w

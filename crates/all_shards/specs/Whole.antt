@@ -21,16 +21,19 @@ pub record WholeStore : Type 0 where
 abbrev pub counts_code : Coded Counts
 counts_code =
     code_by (ℕ × (ℕ × (ℕ × (ℕ × ℕ)))) (coded× coded_ℕ (coded× coded_ℕ (coded× coded_ℕ (coded× coded_ℕ coded_ℕ))))
-    (λ c. (c.names, (c.files, (c.blocks, (c.disks, c.copies))))) (λ p. record { names = p.0; files = p.1.0; blocks = p.1.1.0; disks = p.1.1.1.0; copies = p.1.1.1.1 }) (λ _. refl)
+    (λ c. (c.names, (c.files, (c.blocks, (c.disks, c.copies)))))
+    (λ p. record { names = p.0; files = p.1.0; blocks = p.1.1.0; disks = p.1.1.1.0; copies = p.1.1.1.1 }) (λ _. refl)
 
 abbrev pub whole_code : Coded WholeStore
 whole_code =
     code_by (Counts × (Names × Files)) (coded× counts_code (coded× names_code files_code))
-    (λ w. (w.counts, (w.store.names, w.store.files))) (λ p. record { counts = p.0; store = record { names = p.1.0; files = p.1.1 } }) (λ _. refl)
+    (λ w. (w.counts, (w.store.names, w.store.files))) (λ p. record { counts = p.0; store = record { names = p.1.0; files = p.1.1 } })
+    (λ _. refl)
 
 -- the rows of all shards, as one store
 unfoldable pub names_together : List Names → Names
-names_together shards = record { dirs = from_entries (flat_map (λ s. entries s.dirs) shards); entries = from_entries (flat_map (λ s. entries s.entries) shards) }
+names_together shards = record
+    { dirs = from_entries (flat_map (λ s. entries s.dirs) shards); entries = from_entries (flat_map (λ s. entries s.entries) shards) }
 
 unfoldable pub files_together : List Files → Files
 files_together shards = from_entries (flat_map entries shards)

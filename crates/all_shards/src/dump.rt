@@ -55,7 +55,8 @@ impl<'a> LentShards<'a> {
         files: Vec<&'a FileShard>,
     ) -> LentShards<'a>
         requires { AreShards counts (map (λ r. r.now) names.items) (map (λ r. r.now) files.items) }
-        ensures { result ≡ record { counts = counts; store = together (map (λ r. r.now) names.entry.items) (map (λ r. r.now) files.entry.items) } }
+        ensures { result ≡ record
+            { counts = counts; store = together (map (λ r. r.now) names.entry.items) (map (λ r. r.now) files.entry.items) } }
     {
         LentShards {
             alloc,

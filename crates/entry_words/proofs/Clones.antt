@@ -1,5 +1,5 @@
 -- A clone of an entry, of a note or of a moment is the same one.
-use Rattle.std.proofs.Common.{◌≡◌, arith, rules}
+use Rattle.std.proofs.Common.{◌≡◌, ℕ, ap, arith, rules}
 use Rattle.tect_ids.specs.declared.answer.Answer.{Answer}
 use Rattle.tect_ids.specs.declared.command.Command.{Command}
 use Rattle.tect_ids.specs.declared.ids.OpId.{OpId}
@@ -38,6 +38,11 @@ same_note (Began op command) b h = same_began op command b h
 same_note (Ended op answer) b h = same_ended op answer b h
 same_note (Stopped op) b h = grind arith
 
+tie_local : (s m : ℕ) (n : Note) (t k : ℕ) (o : Note) → t ≡ s → k ≡ m → o ≡ n → Local t k o ≡ Local s m n
+tie_local s m n t k o e f g = cc
+
 pub same_moment : (a b : Moment) → (moment_clone.ghosts).is_clone a b → b ≡ a
-same_moment (Act a) b h = search (rules, same_entry)
-same_moment (Local stamp actor note) b h = search (rules, same_note)
+same_moment (Act a) (Act b) h = ap Act (same_entry a b h)
+same_moment (Act a) (Local stamp actor note) h = elim h [ ]
+same_moment (Local s m n) (Act b) h = elim h [ ]
+same_moment (Local s m n) (Local t k o) h = tie_local s m n t k o h.0 h.1.0 (same_note n o h.1.1)

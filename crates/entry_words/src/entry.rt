@@ -18,7 +18,6 @@ pub struct Entry {
 
 impl Entry {
     /// Whether it is that very entry. It takes no memory.
-    #[tactic(auto, using(crate::proofs::Equals::entry_decides))]
     pub fn is_same(&self, other: &Entry) -> bool
         ensures { IsTrue result ↔ (self.now ≡ other.now) }
     {

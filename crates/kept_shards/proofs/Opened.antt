@@ -1,5 +1,6 @@
 -- one kept machine more that did nothing yet
-use Rattle.std.proofs.Common.{◌≡◌, ℕ, zero, suc, ◌+◌, ◌<◌, ◌≤◌, ◌%◌, ◌⊎◌, Bool, true, false, eqb, if◌then◌else◌, Option, Some, None, List, [], ◌∷◌, ◌++◌, map, length, get_or, replicate, refl, sym, ap, ◌∙◌, subst, inl, inr, arith, length-append}
+use Rattle.std.proofs.Common.{◌≡◌, ℕ, zero, suc, ◌+◌, ◌<◌, ◌≤◌, ◌%◌, ◌⊎◌, Bool, true, false, eqb, if◌then◌else◌, Option, Some, None, List}
+use Rattle.std.proofs.Common.{[], ◌∷◌, ◌++◌, map, length, get_or, replicate, refl, sym, ap, ◌∙◌, subst, inl, inr, arith, length-append}
 use Rattle.std.specs.Prelude.{slice_get}
 use Rattle.std.proofs.lemmas.Grind.{common_steps}
 use Rattle.tect_ids.specs.declared.ids.Counts.{Counts}
@@ -15,19 +16,22 @@ use Rattle.store_shards.specs.Shards.{place_eq, root_place}
 use Rattle.all_shards.specs.Opening.{IsOpening}
 use Rattle.kept_shards.specs.Opening.{AreNew}
 
-got : {X : Type 0} (xs : List X) (last x : X) (n : ℕ) → slice_get (xs ++ last ∷ []) n ≡ Some x → (slice_get xs n ≡ Some x) ⊎ ((n ≡ length xs) × (last ≡ x))
+got : {X : Type 0} (xs : List X) (last x : X) (n : ℕ) → slice_get (xs ++ last ∷ []) n ≡ Some x → (slice_get xs n ≡ Some x)
+    ⊎ ((n ≡ length xs) × (last ≡ x))
 got [] last x zero e = inr (refl, cc)
 got [] last x (suc n) e = cc
 got (y ∷ ys) last x zero e = inl e
 got (y ∷ ys) last x (suc n) e = elim (got ys last x n e) [ inl h ↦ inl h | inr h ↦ inr (omega (arith, h.0), h.1) ]
 
-pub new_push : (c : Counts) (first n : ℕ) (ks : List AnyKept) (k : AnyKept) → AreNew c first n ks → label_of k ≡ label_at c (first + n) → history_of k ≡ []
+pub new_push : (c : Counts) (first n : ℕ) (ks : List AnyKept) (k : AnyKept) → AreNew c first n ks → label_of k ≡ label_at c (first + n)
+    → history_of k ≡ []
     → AreNew c first (n + 1) (ks ++ k ∷ [])
 new_push c first n ks k new label none = record {
   number = length-append ks (k ∷ []) ∙ omega (arith, new.number);
   labels = λ i x e. elim (got ks k x i e) [
     | inl h ↦ new.labels i x h
-    | inr h ↦ ap label_of (sym h.1) ∙ label ∙ ap (λ (m : ℕ). label_at c (first + m)) (let same : n ≡ i = omega (arith, h.0, new.number) in same)
+    | inr h ↦ ap label_of (sym h.1) ∙ label ∙ ap (λ (m : ℕ). label_at c (first + m))
+        (let same : n ≡ i = omega (arith, h.0, new.number) in same)
   ];
   histories = λ i x e. elim (got ks k x i e) [ inl h ↦ new.histories i x h | inr h ↦ ap history_of (sym h.1) ∙ none ];
 }
@@ -43,7 +47,8 @@ opening_push c n shards x opens is = record {
 }
 
 -- no file shard is at the root's place
-pub file_label : (c : Counts) (n : ℕ) → 0 < c.names → (let l : Label = record { place = record { 0 = c.names + n }; rooted = false; folded = false } in l ≡ label_at c (c.names + n))
+pub file_label : (c : Counts) (n : ℕ) → 0 < c.names
+    → (let l : Label = record { place = record { 0 = c.names + n }; rooted = false; folded = false } in l ≡ label_at c (c.names + n))
 file_label c n some =
     let lt : id_hash 1 % c.names < c.names = below (id_hash 1) c.names some in
     let apart : eqb (c.names + n) (0 + id_hash 1 % c.names) ≡ false = no_root (c.names + n) (0 + id_hash 1 % c.names) (omega (arith, lt)) in

@@ -1,5 +1,6 @@
 -- the kept machines stay each at its place
-use Rattle.std.proofs.Common.{◌≡◌, ℕ, zero, suc, ◌+◌, ◌<◌, ◌≤◌, ◌⊎◌, Bool, true, false, Option, Some, None, List, [], ◌∷◌, ◌++◌, map, length, get_or, set, replicate, refl, sym, ap, ◌∙◌, subst, inl, inr, arith, length-append}
+use Rattle.std.proofs.Common.{◌≡◌, ℕ, zero, suc, ◌+◌, ◌<◌, ◌≤◌, ◌⊎◌, Bool, true, false, Option, Some, None, List, [], ◌∷◌, ◌++◌, map}
+use Rattle.std.proofs.Common.{length, get_or, set, replicate, refl, sym, ap, ◌∙◌, subst, inl, inr, arith, length-append}
 use Rattle.std.specs.Prelude.{slice_get, nat_lt}
 use Rattle.std.proofs.lemmas.Bool.Decides.{nat_tests}
 use Rattle.std.proofs.lemmas.List.{length-set, map-append, replicate-append-replicate}
@@ -35,7 +36,8 @@ got_right [] ys n d lt = let none : 0 + n ≡ n = omega arith in rw none (got_he
 got_right (x ∷ xs) ys n d lt = let next : suc (length xs) + n ≡ suc (length xs + n) = omega arith in rw next (got_right xs ys n d lt)
 
 -- what is read after one was set
-pub got_of_set : {X : Type 0} (xs : List X) (i : ℕ) (y : X) (n : ℕ) (x : X) → slice_get (set xs i y) n ≡ Some x → (slice_get xs n ≡ Some x) ⊎ ((n ≡ i) × (y ≡ x))
+pub got_of_set : {X : Type 0} (xs : List X) (i : ℕ) (y : X) (n : ℕ) (x : X) → slice_get (set xs i y) n ≡ Some x → (slice_get xs n ≡ Some x)
+    ⊎ ((n ≡ i) × (y ≡ x))
 got_of_set [] i y n x e = inl e
 got_of_set (z ∷ xs) zero y zero x e = inr (refl, cc)
 got_of_set (z ∷ xs) zero y (suc n) x e = inl e
@@ -43,7 +45,8 @@ got_of_set (z ∷ xs) (suc i) y zero x e = inl e
 got_of_set (z ∷ xs) (suc i) y (suc n) x e = elim (got_of_set xs i y n x e) [ inl h ↦ inl h | inr h ↦ inr (omega (arith, h.0), h.1) ]
 
 -- a machine changed, with its label and its layer
-pub started_set : (c : Counts) (ks : List AnyKept) (i : ℕ) (k l : AnyKept) → AreStarted c ks → slice_get ks i ≡ Some k → label_of l ≡ label_of k → has_names l ≡ has_names k
+pub started_set : (c : Counts) (ks : List AnyKept) (i : ℕ) (k l : AnyKept) → AreStarted c ks → slice_get ks i ≡ Some k
+    → label_of l ≡ label_of k → has_names l ≡ has_names k
     → AreStarted c (set ks i l)
 started_set c ks i k l is at label kind = record {
   number = length-set ks i l ∙ is.number;
@@ -58,7 +61,8 @@ started_set c ks i k l is at label kind = record {
 }
 
 -- machines of one layer
-kinds_of : {K : Type 0} (wrap : K → AnyKept) (b : Bool) → ((k : K) → has_names (wrap k) ≡ b) → (ks : List K) (n : ℕ) (a : AnyKept) → slice_get (map wrap ks) n ≡ Some a → has_names a ≡ b
+kinds_of : {K : Type 0} (wrap : K → AnyKept) (b : Bool) → ((k : K) → has_names (wrap k) ≡ b) → (ks : List K) (n : ℕ) (a : AnyKept)
+    → slice_get (map wrap ks) n ≡ Some a → has_names a ≡ b
 kinds_of wrap b is [] zero a e = cc
 kinds_of wrap b is [] (suc n) a e = cc
 kinds_of wrap b is (k ∷ ks) zero a e = let same : wrap k ≡ a = cc in ap has_names (sym same) ∙ is k
@@ -70,7 +74,8 @@ is_below n m lt = grind (arith, nat_tests)
 is_not_below : (n m : ℕ) → m ≤ n → nat_lt n m ≡ false
 is_not_below n m le = grind (arith, nat_tests)
 
-none_yet : (ks : List AnyKept) → ((n : ℕ) (k : AnyKept) → slice_get ks n ≡ Some k → history_of k ≡ []) → map history_of ks ≡ replicate (length ks) []
+none_yet : (ks : List AnyKept) → ((n : ℕ) (k : AnyKept) → slice_get ks n ≡ Some k → history_of k ≡ [])
+    → map history_of ks ≡ replicate (length ks) []
 none_yet [] each = refl
 none_yet (k ∷ ks) each =
     let first : history_of k ≡ [] = each 0 k refl in
@@ -91,13 +96,16 @@ module _ {K F : Type 0} (c : Counts) (ns : List K) (fs : List F) (na : K → Any
       | inr h ↦ files.labels h.0 k h.2 ∙ ap (label_at c) (let z : c.names + h.0 ≡ n = omega (arith, h.1, names.number) in z)
     ];
     kinds = λ n k e. elim (got_of_both (map na ns) (map fa fs) n k e) [
-      | inl h ↦ kinds_of na true name ns n k h ∙ sym (is_below n c.names (let lt : n < length (map na ns) = slice_get_within (map na ns) n k h in omega (arith, lt, names.number)))
+      | inl h ↦ kinds_of na true name ns n k h ∙ sym
+          (is_below n c.names (let lt : n < length (map na ns) = slice_get_within (map na ns) n k h in omega (arith, lt, names.number)))
       | inr h ↦ kinds_of fa false file fs h.0 k h.2 ∙ sym (is_not_below n c.names (omega (arith, h.1, names.number)))
     ];
   }
 
   pub all_new : map history_of all ≡ replicate (c.names + c.files) []
   all_new = map-append history_of (map na ns) (map fa fs)
-      ∙ ap (λ (es : List (List Entry)). es ++ map history_of (map fa fs)) (none_yet (map na ns) names.histories ∙ ap (λ n. replicate n []) names.number)
-      ∙ ap (λ (es : List (List Entry)). replicate c.names [] ++ es) (none_yet (map fa fs) files.histories ∙ ap (λ n. replicate n []) files.number)
+      ∙ ap (λ (es : List (List Entry)). es ++ map history_of (map fa fs))
+      (none_yet (map na ns) names.histories ∙ ap (λ n. replicate n []) names.number)
+      ∙ ap (λ (es : List (List Entry)). replicate c.names [] ++ es)
+      (none_yet (map fa fs) files.histories ∙ ap (λ n. replicate n []) files.number)
       ∙ replicate-append-replicate c.names c.files []

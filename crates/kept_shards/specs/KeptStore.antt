@@ -28,7 +28,8 @@ pub record KeptStore : Type 0 where
 
 abbrev pub kept_code : Coded KeptStore
 kept_code =
-    code_by (Counts × (Names × (Files × List (List Entry)))) (coded× counts_code (coded× names_code (coded× files_code (coded_list (coded_list entry.the_row.coded)))))
+    code_by (Counts × (Names × (Files × List (List Entry))))
+    (coded× counts_code (coded× names_code (coded× files_code (coded_list (coded_list entry.the_row.coded)))))
     (λ w. (w.counts, (w.store.names, (w.store.files, w.entries))))
     (λ p. record { counts = p.0; store = record { names = p.1.0; files = p.1.1.0 }; entries = p.1.1.1 }) (λ _. refl)
 

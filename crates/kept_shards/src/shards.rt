@@ -11,9 +11,9 @@ ghost use Rattle.kept_shards.specs.KeptStore.{KeptStore, IsDone};
 use crate::lending::machines;
 use crate::opening::{file_shards, name_shards};
 use all_shards::LentShards;
+use entry_words::Refused;
 use file_shard::FileShard;
 use name_shard::NameShard;
-use entry_words::Refused;
 use place_kit::{AnyKept, Kept, Pass};
 use std::alloc::Global;
 use std::marker::Model;
@@ -49,7 +49,8 @@ impl KeptShards {
     /// The shards before anything was done: the root alone, in the shard of its place.
     pub fn start(alloc: Global, counts: Counts) -> Result<KeptShards, NoMemory>
         requires { HasPlaces counts }
-        ensures { IfOk result (λ shards. shards ≡ record { counts = counts; store = opening_store; entries = replicate (counts.names + counts.files) [] }) }
+        ensures { IfOk result
+            (λ shards. shards ≡ record { counts = counts; store = opening_store; entries = replicate (counts.names + counts.files) [] }) }
     {
         let names = name_shards(alloc, &counts)?;
         let files = file_shards(alloc, &counts)?;

@@ -12,7 +12,8 @@ use Rattle.place_kit.specs.Commits.{entry_of, next_stamp, spare_of}
 
 -- The machine gave that reply to the request and did it, and its history grew by that entry: the pass's next one, stamped above
 -- both clocks.
-pub record Served {X Y Z : Type 0} {g : Ghosts X Y Z} (old new : Kept X Y Z g) (pass : Pass) (req : AnyReq) (reply : AnyReply) (entry : Entry) : Type 0 where
+pub record Served {X Y Z : Type 0} {g : Ghosts X Y Z} (old new : Kept X Y Z g) (pass : Pass) (req : AnyReq) (reply : AnyReply)
+    (entry : Entry) : Type 0 where
   pub label : new.label ≡ old.label
   pub base : new.base.value ≡ old.base.value
   pub answer : reply ≡ g.answer old.machine req
@@ -24,7 +25,8 @@ pub record Served {X Y Z : Type 0} {g : Ghosts X Y Z} (old new : Kept X Y Z g) (
   pub spare : 0 < old.history.spare → new.history.spare + 1 ≡ old.history.spare
 
 -- The same, and the pass grew by the same entry, whose stamp is its clock.
-pub record Committed {X Y Z : Type 0} {g : Ghosts X Y Z} (old new : Kept X Y Z g) (before now : Pass) (req : AnyReq) (reply : AnyReply) : Type 0 where
+pub record Committed {X Y Z : Type 0} {g : Ghosts X Y Z} (old new : Kept X Y Z g) (before now : Pass) (req : AnyReq) (reply : AnyReply)
+    : Type 0 where
   pub served : Served old new before req reply (entry_of old.label old.clock before req reply)
   pub actor : now.actor ≡ before.actor
   pub running : now.running ≡ before.running

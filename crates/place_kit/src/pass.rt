@@ -343,7 +343,7 @@ impl Pass {
         ensures same { (self.new.actor ≡ self.old.actor) × (self.new.running ≡ self.old.running) }
     {
         self.note_that_it_is_small();
-        let bytes = reply_bytes(&entry.reply);
+        let bytes = entry.reply.bytes();
         self.clock = entry.stamp;
         self.steps += 1;
         self.bytes += bytes;

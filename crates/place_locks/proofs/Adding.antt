@@ -9,7 +9,8 @@ use Rattle.entry_words.specs.Labels.{label_at}
 use Rattle.place_kit.specs.Started.{StandFirst, has_names}
 
 -- what is read of a list with one item more is read of the list, or it is that item
-got : {X : Type 0} (xs : List X) (last x : X) (n : ℕ) → slice_get (xs ++ last ∷ []) n ≡ Some x → (slice_get xs n ≡ Some x) ⊎ ((n ≡ length xs) × (last ≡ x))
+got : {X : Type 0} (xs : List X) (last x : X) (n : ℕ) → slice_get (xs ++ last ∷ []) n ≡ Some x → (slice_get xs n ≡ Some x)
+    ⊎ ((n ≡ length xs) × (last ≡ x))
 got [] last x zero e = inr (refl, cc)
 got [] last x (suc n) e = cc
 got (y ∷ ys) last x zero e = inl e
@@ -20,7 +21,8 @@ pub none_stand : (c : Counts) → StandFirst c 0 []
 none_stand c = record { number = refl; labels = λ n k e. cc; kinds = λ n k e. cc }
 
 -- the machine that is added stands at the next place
-pub one_more : (c : Counts) (ks : List AnyKept) (k : AnyKept) (n : ℕ) → StandFirst c (length ks) ks → n ≡ length ks → label_of k ≡ label_at c n → has_names k ≡ nat_lt n c.names
+pub one_more : (c : Counts) (ks : List AnyKept) (k : AnyKept) (n : ℕ) → StandFirst c (length ks) ks → n ≡ length ks
+    → label_of k ≡ label_at c n → has_names k ≡ nat_lt n c.names
     → StandFirst c (length (ks ++ k ∷ [])) (ks ++ k ∷ [])
 one_more c ks k n first next label kind = record {
   number = refl;

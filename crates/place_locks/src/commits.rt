@@ -6,7 +6,6 @@ ghost use Rattle.place_locks.specs.Serving.{IsNext};
 
 use entry_words::{Entry, Label, Refused};
 use place_kit::{Kept, Machine, Pass, Prepared};
-use std::alloc::Global;
 use std::hint::spin_loop;
 use std::sync::{Mutex, MutexGuard, Wait};
 use tect_edge::Gate;
@@ -18,7 +17,6 @@ const SPINS: u32 = 4_000;
 // Who commits.
 #[derive(Drop)]
 pub(crate) struct Caller<'a, R: Wait, G: Gate> {
-    pub(crate) alloc: Global,
     pub(crate) rt: &'a R,
     pub(crate) worker: u32,
     pub(crate) gate: &'a G,
@@ -85,12 +83,7 @@ fn serve_at<M: Machine, R: Wait, G: Gate>(
     ensures next { IfOk result (λ r. IsNext pass.now want.place (M.wide prepared.req) (M.wide_reply r.0) r.1) }
     ensures missed { IfErr result (IsMissOf want) }
 {
-    let Caller {
-        alloc: _,
-        rt,
-        worker,
-        gate,
-    } = caller;
+    let Caller { rt, worker, gate } = caller;
     gate.pass(worker, want.place, false);
     let mut kept = take_lock(rt, at);
     gate.pass(worker, want.place, true);

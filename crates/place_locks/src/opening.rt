@@ -1,8 +1,8 @@
 ghost use Rattle.std.specs.Prelude.{◌≡◌, IfOk, vec_len};
 ghost use Rattle.tect_ids.specs.Places.{HasPlaces};
 
-use entry_words::label_at;
 use crossbeam_utils::CachePadded;
+use entry_words::label_at;
 use file_shard::FileShard;
 use name_shard::NameShard;
 use place_kit::Kept;

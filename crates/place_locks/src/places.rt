@@ -8,13 +8,12 @@ ghost use Rattle.place_kit.specs.Started.{AreStarted};
 ghost use Rattle.place_locks.specs.Losses.{IsLoss};
 
 use crate::commits::{Caller, commit_at};
-use entry_words::label_at;
 use crate::opening::{file_places, name_places};
 use crate::taking::{take_files, take_names};
 use crossbeam_utils::CachePadded;
+use entry_words::{Refused, label_at};
 use file_shard::FileShard;
 use name_shard::NameShard;
-use entry_words::Refused;
 use place_kit::{AnyKept, Kept, Pass};
 use std::alloc::Global;
 use std::marker::Model;
@@ -84,12 +83,7 @@ impl Places {
     {
         let place = place(asked.request(), &self.counts);
         let want = label_at(&self.counts, place);
-        let caller = Caller {
-            alloc: self.alloc,
-            rt,
-            worker,
-            gate,
-        };
+        let caller = Caller { rt, worker, gate };
         match asked.into_request() {
             AnyReq::Name(req) => {
                 let at = &*self.names[place.0 as usize];

@@ -4,11 +4,10 @@ ghost use Rattle.entry_words.specs.Labels.{label_at};
 ghost use Rattle.place_kit.specs.Started.{AreStarted, StandFirst};
 ghost use Rattle.place_locks.specs.Losses.{IsLoss};
 
-use entry_words::label_at;
 use crossbeam_utils::CachePadded;
+use entry_words::{Refused, label_at};
 use file_shard::FileShard;
 use name_shard::NameShard;
-use entry_words::Refused;
 use place_kit::{AnyKept, Kept, Machine};
 use std::sync::Mutex;
 use tect_ids::{Counts, Place};

@@ -8,5 +8,6 @@ module _ {X Y : Type 0} (f : X → Y) (xs : List X) (n : ℕ) where
 
   pub more_within : (k : ℕ) → n ≤ length xs → k ≤ length (take (length xs - n) (drop n xs)) → n + k ≤ length xs
   more_within k within more =
-      let rest : length (take (length xs - n) (drop n xs)) ≡ length xs - n = ap (λ (ys : List X). length ys) (take_rest xs n) ∙ length-drop n xs in
+      let rest : length (take (length xs - n) (drop n xs)) ≡ length xs - n = ap (λ (ys : List X). length ys) (take_rest xs n) ∙ length-drop
+      n xs in
       omega (arith, within, more, rest)

@@ -16,7 +16,8 @@ use Rattle.race_ends.specs.Told.{told_by}
 use Rattle.race_ends.proofs.Gathered.{differ, each_has_pass, gathered}
 use Rattle.race_ends.proofs.Told.{told_is}
 
-module _ (plan : Plan) (ps : List Pass) (ended : List EndedPart) (last : List ReportLine) (run : HaveRun plan.counts plan.clients plan.lines ps ended last)
+module _ (plan : Plan) (ps : List Pass) (ended : List EndedPart) (last : List ReportLine)
+    (run : HaveRun plan.counts plan.clients plan.lines ps ended last)
     (ks : List AnyKept) (started : AreStarted plan.counts ks) (entries : List Moment) (g : IsGathered ks ps entries)
     (report : List ReportLine) (tells : report ≡ told_by ended last entries) where
   stories : AreGathered plan.counts plan.clients plan.lines (clocks_of ended) run.stories ks entries

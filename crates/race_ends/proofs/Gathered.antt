@@ -34,12 +34,15 @@ use Rattle.race_ends.proofs.Told.{dumps_rise}
 clocks_rise : (clocks : List ℕ) (ss : List Story) (ms : List Moment) → All (λ m. (1 ≤ actor_of m) × (actor_of m ≤ length ss)) ms
     → ((i : ℕ) (s : Story) → slice_get ss i ≡ Some s → Timely 0 clocks s.ended s.last) → ClocksRise ms 0 clocks
 clocks_rise clocks [] [] known timely = no_clocks_fall 0 clocks
-clocks_rise clocks [] (m ∷ ms) known timely = absurd (let k : (1 ≤ actor_of m) × (actor_of m ≤ 0) = known 0 m (omega arith) in omega (arith, k.0, k.1))
+clocks_rise clocks [] (m ∷ ms) known timely = absurd
+    (let k : (1 ≤ actor_of m) × (actor_of m ≤ 0) = known 0 m (omega arith) in omega (arith, k.0, k.1))
 clocks_rise clocks (s ∷ ss) ms known timely = timely_clocks_rise ms 0 clocks s.ended s.last (timely 0 s refl)
 
 -- gathered of what is read through borrows
-pub gathered_behind : (js ks : List AnyKept) (qs ps : List Pass) (ms : List Moment) → js ≡ ks → qs ≡ ps → IsGathered js qs ms → IsGathered ks ps ms
-gathered_behind js ks qs ps ms places passes g = subst (λ (xs : List AnyKept). IsGathered xs ps ms) places (subst (λ (ys : List Pass). IsGathered js ys ms) passes g)
+pub gathered_behind : (js ks : List AnyKept) (qs ps : List Pass) (ms : List Moment) → js ≡ ks → qs ≡ ps → IsGathered js qs ms
+    → IsGathered ks ps ms
+gathered_behind js ks qs ps ms places passes g = subst (λ (xs : List AnyKept). IsGathered xs ps ms) places
+    (subst (λ (ys : List Pass). IsGathered js ys ms) passes g)
 
 module _ (counts : Counts) (names : List (List ℕ)) (lines : List Line) (ps : List Pass) (ended : List EndedPart) (last : List ReportLine)
     (run : HaveRun counts names lines ps ended last) where
@@ -57,7 +60,8 @@ module _ (counts : Counts) (names : List (List ℕ)) (lines : List Line) (ps : L
   kept i s e = fellow_of_second Has ps run.stories s run.each (in_from_place run.stories i s e)
 
   numbered : (i : ℕ) (s : Story) → slice_get run.stories i ≡ Some s → s.actor ≡ i + 1
-  numbered i s e = zip_numbered Has (λ p t h. h.actor) ps run.stories 0 run.each (λ j p g. omega (arith, run.numbered j p g)) i s e ∙ (omega arith)
+  numbered i s e = zip_numbered Has (λ p t h. h.actor) ps run.stories 0 run.each (λ j p g. omega (arith, run.numbered j p g)) i s e ∙
+      (omega arith)
 
   pub each_has_pass : (actor : ℕ) → 1 ≤ actor → actor ≤ length names → (p : Pass) × Contains ps p × (p.actor ≡ actor)
   each_has_pass actor low high =
@@ -79,7 +83,8 @@ module _ (counts : Counts) (names : List (List ℕ)) (lines : List Line) (ps : L
     trail : (i : ℕ) (s : Story) → slice_get run.stories i ≡ Some s → filter (is_of s.actor) entries ≡ all_moments s.ended s.last
     trail i s e =
         let k = kept i s e in
-        let here : filter (is_of k.0.actor) entries ≡ k.0.moments.items = all_in (λ p. filter (is_of p.actor) entries ≡ moments_of p) ps g.trails k.0 k.1 in
+        let here : filter (is_of k.0.actor) entries ≡ k.0.moments.items = all_in (λ p. filter (is_of p.actor) entries ≡ moments_of p) ps
+        g.trails k.0 k.1 in
         ap (λ (a : ℕ). filter (is_of a) entries) k.2.actor ∙ here ∙ k.2.moments
 
     of_client : (m : Moment) → In m (flat_map moments_of ps) → (1 ≤ actor_of m) × (actor_of m ≤ length run.stories)

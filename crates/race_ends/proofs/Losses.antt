@@ -14,7 +14,9 @@ loss_is_fault c NoMemory loss = tt
 loss_is_fault c (Split actor step in_pass in_place) loss = absurd loss
 loss_is_fault c (Astray want found) loss = loss
 
-pub split_is_fault : (c : Counts) (ks : List AnyKept) (ps : List Pass) (fault : RaceFault) → AreStarted c ks → HaveDifferentActors ps → IsSplitOf ks ps fault → IsRaceFault c fault
+pub split_is_fault : (c : Counts) (ks : List AnyKept) (ps : List Pass) (fault : RaceFault) → AreStarted c ks → HaveDifferentActors ps
+    → IsSplitOf ks ps fault → IsRaceFault c fault
 split_is_fault c ks ps NoMemory started actors split = tt
-split_is_fault c ks ps (Split actor step in_pass in_place) started actors split = record { places = ks; passes = ps; started = started; actors = actors; differ = split }
+split_is_fault c ks ps (Split actor step in_pass in_place) started actors split = record
+    { places = ks; passes = ps; started = started; actors = actors; differ = split }
 split_is_fault c ks ps (Astray want found) started actors split = absurd split

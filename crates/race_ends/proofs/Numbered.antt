@@ -39,7 +39,8 @@ at_most_one low a (p ∷ ps) own =
     let here : p.actor ≡ low + 0 + 1 = own 0 p refl in
     let sum = sum_by-cons (one_of a) p ps in
     elim (it_or_not a p (eqb p.actor a) refl) [
-      | inl it ↦ (let none = none_below (low + 1) a ps (rest_numbered low p ps own) (omega (arith, here, it.0)) in omega (arith, sum, none, it.1))
+      | inl it ↦ (let none = none_below (low + 1) a ps (rest_numbered low p ps own) (omega (arith, here, it.0))
+          in omega (arith, sum, none, it.1))
       | inr not ↦ (let rest = at_most_one (low + 1) a ps (rest_numbered low p ps own) in omega (arith, sum, rest, not))
     ]
 

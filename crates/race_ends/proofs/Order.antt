@@ -30,4 +30,5 @@ stand_from n [] f = tt
 stand_from n (k ∷ ks) f = (omega (arith, f 0 k refl), stand_from (n + 1) ks (λ i x e. omega (arith, f (suc i) x e)))
 
 pub started_stand : (c : Counts) (ks : List AnyKept) → AreStarted c ks → StandInOrder 0 ks
-started_stand c ks s = stand_from 0 ks (λ i k e. let here : place_of k ≡ i = ap (λ (l : Label). l.place.0) (s.labels i k e) in omega (arith, here))
+started_stand c ks s = stand_from 0 ks
+    (λ i k e. let here : place_of k ≡ i = ap (λ (l : Label). l.place.0) (s.labels i k e) in omega (arith, here))

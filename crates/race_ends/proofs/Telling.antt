@@ -17,10 +17,12 @@ pub record Telling (ms later : List Moment) (s : Store) (report last : List Repo
   rises : DumpsRise ms low rest
   lines : report ++ told_by rest last ms ≡ told_by all last ms
 
-pub telling_begins : (ms : List Moment) (s : Store) (report last : List ReportLine) (rest all : List EndedPart) → s ≡ opening_store → report ≡ [] → rest ≡ all → DumpsRise ms 0 all
+pub telling_begins : (ms : List Moment) (s : Store) (report last : List ReportLine) (rest all : List EndedPart) → s ≡ opening_store
+    → report ≡ [] → rest ≡ all → DumpsRise ms 0 all
     → Telling ms ms s report last rest all
 telling_begins ms s report last rest all opens none whole rises =
-    let begun : Telling ms ms opening_store [] last all all = record { low = 0; replayed = none_replayed ms; rises = rises; lines = refl } in
+    let begun : Telling ms ms opening_store [] last all all = record { low = 0; replayed = none_replayed ms; rises = rises; lines = refl }
+    in
     rw (opens, none, whole) begun
 
 module _ (ms later : List Moment) (s : Store) (report last : List ReportLine) (rise : StampsRise ms) where
@@ -28,25 +30,30 @@ module _ (ms later : List Moment) (s : Store) (report last : List ReportLine) (r
   telling_rises rest all t = later_rise ms later t.low s t.replayed rise
 
   goes_on : (p : EndedPart) (rest all : List EndedPart) → Telling ms later s report last (p ∷ rest) all
-      → Telling ms (filter (is_late p.clock) later) (stored_up_to p.clock s later) (report ++ shown p (stored_up_to p.clock s later)) last rest all
+      → Telling ms (filter (is_late p.clock) later) (stored_up_to p.clock s later) (report ++ shown p (stored_up_to p.clock s later)) last
+      rest all
   goes_on p rest all t = record {
     low = p.clock;
     replayed = next_replayed ms later t.low s t.replayed rise p.clock t.rises.0;
     rises = t.rises.1;
     lines =
         append_assoc report (shown p (stored_up_to p.clock s later)) (told_by rest last ms)
-        ∙ ap (λ (u : Store). report ++ (shown p u ++ told_by rest last ms)) (next_store ms later t.low s t.replayed rise p.clock t.rises.0) ∙ t.lines;
+        ∙ ap (λ (u : Store). report ++ (shown p u ++ told_by rest last ms)) (next_store ms later t.low s t.replayed rise p.clock t.rises.0)
+        ∙ t.lines;
   }
 
   -- one part more
-  pub telling_goes_on : (p : EndedPart) (old rest all : List EndedPart) (behind : List Moment) (u : Store) (lines : List ReportLine) → Telling ms later s report last old all
-      → old ≡ p ∷ rest → behind ≡ filter (is_late p.clock) later → u ≡ stored_up_to p.clock s later → lines ≡ report ++ shown p u → Telling ms behind u lines last rest all
+  pub telling_goes_on : (p : EndedPart) (old rest all : List EndedPart) (behind : List Moment) (u : Store) (lines : List ReportLine)
+      → Telling ms later s report last old all
+      → old ≡ p ∷ rest → behind ≡ filter (is_late p.clock) later → u ≡ stored_up_to p.clock s later → lines ≡ report ++ shown p u
+      → Telling ms behind u lines last rest all
   telling_goes_on p old rest all behind u lines t olds behinds store shows =
       let next = goes_on p rest all (subst (λ (ps : List EndedPart). Telling ms later s report last ps all) olds t) in
       rw (behinds, shows, store) next
 
 -- none is left
-pub telling_ends : (ms later : List Moment) (s : Store) (report last : List ReportLine) (rest all : List EndedPart) → Telling ms later s report last rest all → length rest ≡ 0
+pub telling_ends : (ms later : List Moment) (s : Store) (report last : List ReportLine) (rest all : List EndedPart)
+    → Telling ms later s report last rest all → length rest ≡ 0
     → report ++ last ≡ told_by all last ms
 telling_ends ms later s report last [] all t none = t.lines
 telling_ends ms later s report last (p ∷ rest) all t none = absurd (omega (arith, none))

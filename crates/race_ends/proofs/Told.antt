@@ -13,11 +13,13 @@ use Rattle.race_ends.specs.declared.ended.EndedPart.{EndedPart}
 use Rattle.race_ends.specs.HaveRun.{HaveAnswers, clocks_of}
 use Rattle.race_ends.specs.Told.{DumpsRise, told_by}
 
-pub told_is : (ended : List EndedPart) (last : List ReportLine) (ss : List Story) (ms : List Moment) → HaveAnswers ended last ss → told_by ended last ms ≡ told (clocks_of ended) ss ms
+pub told_is : (ended : List EndedPart) (last : List ReportLine) (ss : List Story) (ms : List Moment) → HaveAnswers ended last ss
+    → told_by ended last ms ≡ told (clocks_of ended) ss ms
 told_is [] last ss ms h = h
 told_is (p ∷ ps) last ss ms h =
     ap (λ (ls : List ReportLine). (ls ++ map Dump (store_dump (store_at p.clock ms))) ++ told_by ps last ms) h.0
-    ∙ ap (λ (ls : List ReportLine). (answers_now ss ++ map Dump (store_dump (store_at p.clock ms))) ++ ls) (told_is ps last (map rest_of ss) ms h.1)
+    ∙ ap (λ (ls : List ReportLine). (answers_now ss ++ map Dump (store_dump (store_at p.clock ms))) ++ ls)
+    (told_is ps last (map rest_of ss) ms h.1)
 
 pub dumps_rise : (ms : List Moment) (low : ℕ) (ended : List EndedPart) → ClocksRise ms low (clocks_of ended) → DumpsRise ms low ended
 dumps_rise ms low [] h = tt

@@ -26,7 +26,8 @@ HaveAnswers (p ∷ ps) last ss = (p.answers.items ≡ answers_now ss) × HaveAns
 
 -- All clients did these lines, and these are their passes, in first-seen order. Dumps ended the first parts; the answers of the last
 -- part are the further lines.
-pub record HaveRun (counts : Counts) (names : List (List ℕ)) (lines : List Line) (passes : List Pass) (ended : List EndedPart) (last : List ReportLine) : Type 0 where
+pub record HaveRun (counts : Counts) (names : List (List ℕ)) (lines : List Line) (passes : List Pass) (ended : List EndedPart)
+    (last : List ReportLine) : Type 0 where
   pub places : HasPlaces counts
   pub asked : All (IsLineOf (length names)) lines
   pub dumps : count_by is_dump lines ≡ length ended

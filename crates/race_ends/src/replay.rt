@@ -26,7 +26,8 @@ pub(crate) fn redo_up_to(
     clock: u64,
 ) -> Result<usize, NoMemory>
     requires { StampsRise (map (λ m. m.now) moments.now) }
-    ensures store { OnOk result (shards.new ≡ record shards.old { store = stored_up_to clock shards.old.store (map (λ m. m.now) moments.now) }) }
+    ensures store { OnOk result
+        (shards.new ≡ record shards.old { store = stored_up_to clock shards.old.store (map (λ m. m.now) moments.now) }) }
     ensures within { IfOk result (λ done. done ≤ length moments.now) }
     ensures later { IfOk result (λ done. drop done (map (λ m. m.now) moments.now) ≡ filter (is_late clock) (map (λ m. m.now) moments.now)) }
 {

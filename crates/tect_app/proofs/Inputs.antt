@@ -13,18 +13,26 @@ use Rattle.script_forms.specs.FirstFault.{IsFirstFault}
 use Rattle.tect_app.specs.Refusals.{IsNoScript, IsScriptFault}
 
 -- a fault of reading the whole input
-pub read_fault : (left rest : Option (List ℕ)) (bytes : List ℕ) (fault : ScriptFault) → Consumes left rest bytes → IsAtEnd rest → ((plan : Plan) → Spells bytes plan → IsUnlessMemory plan (Err fault))
+pub read_fault : (left rest : Option (List ℕ)) (bytes : List ℕ) (fault : ScriptFault) → Consumes left rest bytes → IsAtEnd rest
+    → ((plan : Plan) → Spells bytes plan → IsUnlessMemory plan (Err fault))
     → IsFirstFault bytes fault → IsScriptFault left fault
 read_fault left rest bytes faults.NoMemory taken at_end complete first = tt
 read_fault left rest bytes (faults.Bad line column) taken at_end complete first =
     Consumes-whole left rest bytes (IsNoScript (faults.Bad line column)) taken at_end
-    (record { spells_none = λ plan spells. (let wrong : faults.Bad line column ≡ faults.NoMemory = complete plan spells in cc); first = first })
+    (record {
+      spells_none = λ plan spells. (let wrong : faults.Bad line column ≡ faults.NoMemory = complete plan spells in cc);
+      first = first;
+    })
 read_fault left rest bytes (faults.TooLarge what limit) taken at_end complete first =
     Consumes-whole left rest bytes (IsNoScript (faults.TooLarge what limit)) taken at_end
-    (record { spells_none = λ plan spells. (let wrong : faults.TooLarge what limit ≡ faults.NoMemory = complete plan spells in cc); first = first })
+    (record {
+      spells_none = λ plan spells. (let wrong : faults.TooLarge what limit ≡ faults.NoMemory = complete plan spells in cc);
+      first = first;
+    })
 
 -- the input has more bytes than a script may
-pub too_long : (left rest : Option (List ℕ)) (front : List ℕ) → Consumes left rest front → length front ≡ 67108864 + 1 → IsScriptFault left (faults.TooLarge limits.Script 67108864)
+pub too_long : (left rest : Option (List ℕ)) (front : List ℕ) → Consumes left rest front → length front ≡ 67108864 + 1
+    → IsScriptFault left (faults.TooLarge limits.Script 67108864)
 too_long None rest front taken more = tt
 too_long (Some input) None front taken more = absurd taken
 too_long (Some input) (Some rest) front taken more =

@@ -1,5 +1,6 @@
 -- A plan that is read can be played, and has few clients.
-use Rattle.std.proofs.Common.{◌≡◌, ◌≢◌, ℕ, ◌+◌, ◌<◌, ◌≤◌, Bool, true, false, not, if◌then◌else◌, List, [], ◌∷◌, length, refl, sym, ap, subst, ◌∙◌, arith}
+use Rattle.std.proofs.Common.{◌≡◌, ◌≢◌, ℕ, ◌+◌, ◌<◌, ◌≤◌, Bool, true, false, not, if◌then◌else◌, List, [], ◌∷◌, length, refl, sym, ap}
+use Rattle.std.proofs.Common.{subst, ◌∙◌, arith}
 use Rattle.std.specs.Prelude.{filter, nat_le, nat_lt, is_none, unwrap_or}
 use Rattle.std.specs.List.{AllByRecursion, position_or_len}
 use Rattle.std.specs.Map.{lookup, keys_of}
@@ -54,7 +55,8 @@ serves counts (commands.Repair disk index) is = absurd (grind (arith, is.0))
 serves counts commands.SweepAll is = absurd is
 serves counts (commands.Lose disk) is = absurd is
 
-first_name : (deep long : Bool) (others : Fit) → (if deep then Over limits.Depth else if long then Over limits.Name else others) ≡ Fits → (deep ≡ false) × (others ≡ Fits)
+first_name : (deep long : Bool) (others : Fit) → (if deep then Over limits.Depth else if long then Over limits.Name else others) ≡ Fits
+    → (deep ≡ false) × (others ≡ Fits)
 first_name true long others is = absurd (grind (arith, is))
 first_name false true others is = absurd (grind (arith, is))
 first_name false false others is = (refl, is)
@@ -105,7 +107,8 @@ with_own turns a t = grind (arith, num_eq_cases a a)
 with_other : (turns : Turns) (a : ℕ) (t : ClientTurn) (b : ℕ) → b ≢ a → with_turn turns a t b ≡ turns b
 with_other turns a t b differs = grind (arith, num_eq_cases b a, differs)
 
-agree_below : (turns : Turns) (a : ℕ) (t : ClientTurn) (n : ℕ) (seen : Seen) → a ≤ n → Agree turns n seen → Agree (with_turn turns a t) n seen
+agree_below : (turns : Turns) (a : ℕ) (t : ClientTurn) (n : ℕ) (seen : Seen) → a ≤ n → Agree turns n seen
+    → Agree (with_turn turns a t) n seen
 agree_below turns a t n [] le agree = λ b lt. with_other turns a t b (λ e. omega (arith, e, le, lt)) ∙ agree b lt
 agree_below turns a t n (e ∷ seen) le agree =
     (with_other turns a t (n + 1) (λ h. omega (arith, h, le)) ∙ agree.0, agree_below turns a t (n + 1) seen (omega (arith, le)) agree.1)
@@ -114,7 +117,8 @@ module _ (eq : List ℕ → List ℕ → Bool) (name : List ℕ) where
   abbrev place : Seen → ℕ
   place seen = position_or_len (eq name) (keys_of seen)
 
-  agree_at : (turns : Turns) (n : ℕ) (seen : Seen) → Agree turns n seen → turns (n + (place seen + 1)) ≡ turn_of (unwrap_or (lookup (eq name) seen) states.Idle)
+  agree_at : (turns : Turns) (n : ℕ) (seen : Seen) → Agree turns n seen
+      → turns (n + (place seen + 1)) ≡ turn_of (unwrap_or (lookup (eq name) seen) states.Idle)
   agree_at turns n [] agree = agree (n + 1) (omega arith)
   agree_at turns n (e ∷ seen) agree = by (agree_at turns (n + 1) seen agree.1) (eq name e.0) refl
     where
@@ -123,12 +127,19 @@ module _ (eq : List ℕ → List ℕ → Bool) (name : List ℕ) where
       by others true h = rw h agree.0
       by others false h = rw h (ap turns (omega arith) ∙ others)
 
-  agree_set : (turns : Turns) (n : ℕ) (seen : Seen) (st : ClientState) → Agree turns n seen → Agree (with_turn turns (n + (place seen + 1)) (turn_of st)) n (insert_entry eq seen name st)
-  agree_set turns n [] st agree = (with_own turns (n + 1) (turn_of st), λ a lt. with_other turns (n + 1) (turn_of st) a (λ e. omega (arith, e, lt)) ∙ agree a (omega (arith, lt)))
+  agree_set : (turns : Turns) (n : ℕ) (seen : Seen) (st : ClientState) → Agree turns n seen
+      → Agree (with_turn turns (n + (place seen + 1)) (turn_of st)) n (insert_entry eq seen name st)
+  agree_set turns n [] st agree = (
+    with_own turns (n + 1) (turn_of st),
+    λ a lt. with_other turns (n + 1) (turn_of st) a (λ e. omega (arith, e, lt)) ∙ agree a
+        (omega (arith, lt)),
+  )
   agree_set turns n (e ∷ seen) st agree = by (agree_set turns (n + 1) seen st agree.1) (eq name e.0) refl
     where
-      by : Agree (with_turn turns (n + 1 + (place seen + 1)) (turn_of st)) (n + 1) (insert_entry eq seen name st) → (b : Bool) → eq name e.0 ≡ b → Agree (with_turn turns (n + (place (e ∷ seen) + 1)) (turn_of st)) n (insert_entry eq (e ∷ seen) name st)
-      by others true h = rw h (with_own turns (n + 1) (turn_of st), agree_below turns (n + 1) (turn_of st) (n + 1) seen (omega arith) agree.1)
+      by : Agree (with_turn turns (n + 1 + (place seen + 1)) (turn_of st)) (n + 1) (insert_entry eq seen name st) → (b : Bool)
+          → eq name e.0 ≡ b → Agree (with_turn turns (n + (place (e ∷ seen) + 1)) (turn_of st)) n (insert_entry eq (e ∷ seen) name st)
+      by others true h = rw h
+          (with_own turns (n + 1) (turn_of st), agree_below turns (n + 1) (turn_of st) (n + 1) seen (omega arith) agree.1)
       by others false h =
           let behind : n + 1 + (place seen + 1) ≡ n + (1 + place seen + 1) = omega arith in
           rw h (
@@ -145,22 +156,29 @@ module _ (eq : List ℕ → List ℕ → Bool) (name : List ℕ) where
       by others false h = rw h (omega (arith, others))
 
   -- a client that is seen has its place among them, and stays there
-  place_found : (seen : Seen) (st : ClientState) → is_none (lookup (eq name) seen) ≡ false → (place seen < length seen) × (length (insert_entry eq seen name st) ≡ length seen)
+  place_found : (seen : Seen) (st : ClientState) → is_none (lookup (eq name) seen) ≡ false → (place seen < length seen)
+      × (length (insert_entry eq seen name st) ≡ length seen)
   place_found [] st some = absurd (grind (arith, some))
   place_found (e ∷ seen) st some = by (place_found seen st) (eq name e.0) refl
     where
-      by : (is_none (lookup (eq name) seen) ≡ false → (place seen < length seen) × (length (insert_entry eq seen name st) ≡ length seen)) → (b : Bool) → eq name e.0 ≡ b → (place (e ∷ seen) < length (e ∷ seen)) × (length (insert_entry eq (e ∷ seen) name st) ≡ length (e ∷ seen))
+      by : (is_none (lookup (eq name) seen) ≡ false → (place seen < length seen) × (length (insert_entry eq seen name st) ≡ length seen))
+          → (b : Bool) → eq name e.0 ≡ b → (place (e ∷ seen) < length (e ∷ seen))
+          × (length (insert_entry eq (e ∷ seen) name st) ≡ length (e ∷ seen))
       by others true h = rw h (omega arith, refl)
       by others false h =
           let rest = others (rw h at some) in
           rw h (omega (arith, rest.0), omega (arith, rest.1))
 
-  grows : (seen : Seen) (st : ClientState) → (place seen < length (insert_entry eq seen name st)) × (length seen ≤ length (insert_entry eq seen name st)) × (length (insert_entry eq seen name st) ≤ length seen + 1)
+  grows : (seen : Seen) (st : ClientState) → (place seen < length (insert_entry eq seen name st))
+      × (length seen ≤ length (insert_entry eq seen name st)) × (length (insert_entry eq seen name st) ≤ length seen + 1)
   grows [] st = (omega arith, omega arith, omega arith)
   grows (e ∷ seen) st = by (grows seen st) (eq name e.0) refl
     where
-      by : (place seen < length (insert_entry eq seen name st)) × (length seen ≤ length (insert_entry eq seen name st)) × (length (insert_entry eq seen name st) ≤ length seen + 1) → (b : Bool) → eq name e.0 ≡ b
-          → (place (e ∷ seen) < length (insert_entry eq (e ∷ seen) name st)) × (length (e ∷ seen) ≤ length (insert_entry eq (e ∷ seen) name st)) × (length (insert_entry eq (e ∷ seen) name st) ≤ length (e ∷ seen) + 1)
+      by : (place seen < length (insert_entry eq seen name st)) × (length seen ≤ length (insert_entry eq seen name st))
+          × (length (insert_entry eq seen name st) ≤ length seen + 1) → (b : Bool) → eq name e.0 ≡ b
+          → (place (e ∷ seen) < length (insert_entry eq (e ∷ seen) name st))
+          × (length (e ∷ seen) ≤ length (insert_entry eq (e ∷ seen) name st))
+          × (length (insert_entry eq (e ∷ seen) name st) ≤ length (e ∷ seen) + 1)
       by rest true h = rw h (omega arith, omega arith, omega arith)
       by rest false h =
           rw h (omega (arith, rest.0), omega (arith, rest.1), omega (arith, rest.2))
@@ -170,7 +188,8 @@ few_more : (seen : Seen) (name : List ℕ) (st : ClientState) → length seen �
     → (client_number seen name ≤ 64) × (length (insert_entry same_name seen name st) ≤ 64)
 few_more seen name st few room = by (is_none (lookup (same_name name) seen)) refl
   where
-    by : (b : Bool) → is_none (lookup (same_name name) seen) ≡ b → (client_number seen name ≤ 64) × (length (insert_entry same_name seen name st) ≤ 64)
+    by : (b : Bool) → is_none (lookup (same_name name) seen) ≡ b → (client_number seen name ≤ 64)
+        × (length (insert_entry same_name seen name st) ≤ 64)
     by true h =
         let less : length seen < 64 = room_left (nat_le 64 (length seen)) refl h in
         (omega (arith, less, place_le same_name name seen), omega (arith, less, (grows same_name name seen st).2))
@@ -217,10 +236,12 @@ goes_now states.Idle w is takes = absurd (grind (arith, is, takes))
 goes_now states.Busy w is takes = refl
 goes_now states.Gone w is takes = absurd (grind (arith, takes))
 
-takes : (counts : Counts) (seen : Seen) (client : List ℕ) (act : Act) → IsAct counts act → out_of_state seen client (act_words act) ≡ false → TakesAct (turn_of (state_of seen client)) act
+takes : (counts : Counts) (seen : Seen) (client : List ℕ) (act : Act) → IsAct counts act → out_of_state seen client (act_words act) ≡ false
+    → TakesAct (turn_of (state_of seen client)) act
 takes counts seen client (acts.Do c) is within =
     let p = plain c in
-    let idle : turn_of (state_of seen client) ≡ Idle = begins_now (state_of seen client) p.0 p.3 (sym (ap (out_of_state seen client) p.2) ∙ within) in
+    let idle : turn_of (state_of seen client) ≡ Idle = begins_now (state_of seen client) p.0 p.3
+    (sym (ap (out_of_state seen client) p.2) ∙ within) in
     subst (λ (t : ClientTurn). TakesAct t (acts.Do c)) (sym idle) (serves counts c is)
 takes counts seen client (acts.Begin c) is within =
     let idle : turn_of (state_of seen client) ≡ Idle = begins_now (state_of seen client) _ refl within in
@@ -244,7 +265,8 @@ same_turn acts.Stop = refl
 
 -- ---- the lines
 
-in_turn_from : (counts : Counts) (turns : Turns) (seen : Seen) (ls : List Line) → Agree turns 0 seen → length seen ≤ 64 → AreLines counts seen ls → InTurnFrom turns ls
+in_turn_from : (counts : Counts) (turns : Turns) (seen : Seen) (ls : List Line) → Agree turns 0 seen → length seen ≤ 64
+    → AreLines counts seen ls → InTurnFrom turns ls
 in_turn_from counts turns seen [] agree few are = tt
 in_turn_from counts turns seen (lines.Client client actor act ∷ ls) agree few are =
     let o = (are.0).in_order in
@@ -253,11 +275,13 @@ in_turn_from counts turns seen (lines.Client client actor act ∷ ls) agree few 
     let turn : turns actor ≡ turn_of (state_of seen client) = ap turns (sym here) ∙ agree_at same_name client turns 0 seen agree in
     let next : Agree (with_turn turns actor (turn_after act)) 0 (insert_entry same_name seen client (state_after act)) =
     subst (λ (t : ClientTurn). Agree (with_turn turns actor t) 0 (insert_entry same_name seen client (state_after act))) (same_turn act)
-    (subst (λ (a : ℕ). Agree (with_turn turns a (turn_of (state_after act))) 0 (insert_entry same_name seen client (state_after act))) here (agree_set same_name client turns 0 seen (state_after act) agree)) in (
+    (subst (λ (a : ℕ). Agree (with_turn turns a (turn_of (state_after act))) 0 (insert_entry same_name seen client (state_after act))) here
+    (agree_set same_name client turns 0 seen (state_after act) agree)) in (
       omega (arith, o.2),
       omega (arith, o.2, more.0),
       subst (λ (t : ClientTurn). TakesAct t act) (sym turn) (takes counts seen client act ((are.0).form).1 o.0),
-      in_turn_from counts (with_turn turns actor (turn_after act)) (insert_entry same_name seen client (state_after act)) ls next more.1 are.1,
+      in_turn_from counts (with_turn turns actor (turn_after act)) (insert_entry same_name seen client (state_after act)) ls next more.1
+          are.1,
     )
 in_turn_from counts turns seen (lines.Dump ∷ ls) agree few are = in_turn_from counts turns seen ls agree few are.1
 in_turn_from counts turns seen (lines.Store other ∷ ls) agree few are = absurd (are.0).form
@@ -273,11 +297,16 @@ seen_grows seen (lines.Store other ∷ ls) = seen_grows seen ls
 seen_grows seen (lines.Sweep ∷ ls) = seen_grows seen ls
 seen_grows seen (lines.Lose disk ∷ ls) = seen_grows seen ls
 
-within_from : (counts : Counts) (seen : Seen) (k : ℕ) (ls : List Line) → AreLines counts seen ls → length (seen_of seen ls) ≤ k → AllByRecursion (IsWithin k) ls
+within_from : (counts : Counts) (seen : Seen) (k : ℕ) (ls : List Line) → AreLines counts seen ls → length (seen_of seen ls) ≤ k
+    → AllByRecursion (IsWithin k) ls
 within_from counts seen k [] are le = tt
 within_from counts seen k (lines.Client client actor act ∷ ls) are le =
     let after : Seen = insert_entry same_name seen client (state_after act) in (
-      (omega (arith, (are.0).in_order.2, (grows same_name client seen (state_after act)).0, seen_grows after ls, le), bounded counts act ((are.0).form).1 (are.0).within),
+      (
+        omega (arith, (are.0).in_order.2, (grows same_name client seen (state_after act)).0, seen_grows after ls, le),
+        bounded counts act
+            ((are.0).form).1 (are.0).within,
+      ),
       within_from counts after k ls are.1 le,
     )
 within_from counts seen k (lines.Dump ∷ ls) are le = (tt, within_from counts seen k ls are.1 le)
@@ -301,7 +330,8 @@ spelled_playable bytes plan s =
       places = has_places plan.counts is.counts;
       in_turn = in_turn_from plan.counts all_idle [] plan.lines (λ a lt. refl) (omega arith) is.lines;
       few = omega (arith, told, filter_le is_told s.texts, s.few);
-      within = within_from plan.counts [] (length plan.clients) plan.lines is.lines (omega (arith, ap length is.clients, length-keys_of (seen_of [] plan.lines)));
+      within = within_from plan.counts [] (length plan.clients) plan.lines is.lines
+          (omega (arith, ap length is.clients, length-keys_of (seen_of [] plan.lines)));
     }
 
 -- ---- clients
@@ -309,7 +339,8 @@ spelled_playable bytes plan s =
 few_seen : (counts : Counts) (seen : Seen) (ls : List Line) → length seen ≤ 64 → AreLines counts seen ls → length (seen_of seen ls) ≤ 64
 few_seen counts seen [] few are = few
 few_seen counts seen (lines.Client client actor act ∷ ls) few are =
-    few_seen counts (insert_entry same_name seen client (state_after act)) ls (few_more seen client (state_after act) few ((are.0).in_order).1).1 are.1
+    few_seen counts (insert_entry same_name seen client (state_after act)) ls
+    (few_more seen client (state_after act) few ((are.0).in_order).1).1 are.1
 few_seen counts seen (lines.Dump ∷ ls) few are = few_seen counts seen ls few are.1
 few_seen counts seen (lines.Store other ∷ ls) few are = few_seen counts seen ls few are.1
 few_seen counts seen (lines.Sweep ∷ ls) few are = few_seen counts seen ls few are.1

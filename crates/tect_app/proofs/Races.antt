@@ -10,7 +10,8 @@ use Rattle.race_ends.specs.Raced.{IsRaced}
 use Rattle.run_claims.proofs.Claims.{every_run_is_claimed}
 use Rattle.tect_app.specs.RaceEnds.{race_text, IsRaceShown, IsRaceCut}
 
-pub race_shown : (plan : Plan) (places : List AnyKept) (passes : List Pass) (report lines : List ReportLine) (old new : Option (List ℕ)) → IsRaced plan places passes report → lines ≡ report
+pub race_shown : (plan : Plan) (places : List AnyKept) (passes : List Pass) (report lines : List ReportLine) (old new : Option (List ℕ))
+    → IsRaced plan places passes report → lines ≡ report
     → Appends old new (race_text lines) → IsRaceShown plan old new
 race_shown plan places passes report lines old new raced same written = record {
   places = places;
@@ -21,7 +22,8 @@ race_shown plan places passes report lines old new raced same written = record {
   written = subst (λ (ls : List ReportLine). Appends old new (race_text ls)) same written;
 }
 
-pub race_cut : (plan : Plan) (places : List AnyKept) (passes : List Pass) (report lines : List ReportLine) (old new : Option (List ℕ)) → IsRaced plan places passes report → lines ≡ report
+pub race_cut : (plan : Plan) (places : List AnyKept) (passes : List Pass) (report lines : List ReportLine) (old new : Option (List ℕ))
+    → IsRaced plan places passes report → lines ≡ report
     → AppendsProperPrefix old new (race_text lines) → IsRaceCut plan old new
 race_cut plan places passes report lines old new raced same written = record {
   places = places;

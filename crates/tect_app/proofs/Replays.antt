@@ -38,10 +38,14 @@ dump_not_odd : (ls : List DumpLine) → AllByRecursion IsNotOdd (map report_line
 dump_not_odd [] = tt
 dump_not_odd (l ∷ ls) = (λ name number steps place is. absurd cc, dump_not_odd ls)
 
-event_not_odd : (counts : Counts) (clients : List (List ℕ)) (before : List Event) (e : Event) → IsWorldRun counts before → RunFrom (moment counts before) (e ∷ [])
+event_not_odd : (counts : Counts) (clients : List (List ℕ)) (before : List Event) (e : Event) → IsWorldRun counts before
+    → RunFrom (moment counts before) (e ∷ [])
     → AllByRecursion IsNotOdd (lines_at counts clients before e)
-event_not_odd counts clients before (Ended op a) run may =
-    (λ name number steps place is. no_run_answers_odd counts before run op place (may.0 ∙ (let same : a ≡ answers.Odd place = cc in ap Some same)), tt)
+event_not_odd counts clients before (Ended op a) run may = (
+  λ name number steps place is. no_run_answers_odd counts before run op place
+      (may.0 ∙ (let same : a ≡ answers.Odd place = cc in ap Some same)),
+  tt,
+)
 event_not_odd counts clients before (Failed op a) run may =
     (λ name number steps place is. (let same : a ≡ answers.Odd place = cc in subst IsLack same (may.0).0), tt)
 event_not_odd counts clients before (Stopped op) run may = (λ name number steps place is. absurd cc, tt)
@@ -50,7 +54,8 @@ event_not_odd counts clients before (Began op c) run may = tt
 event_not_odd counts clients before (Refused op c) run may = tt
 event_not_odd counts clients before (Acted op q x) run may = tt
 
-none_odd_after : (counts : Counts) (clients : List (List ℕ)) (before es : List Event) → IsWorldRun counts before → RunFrom (moment counts before) es
+none_odd_after : (counts : Counts) (clients : List (List ℕ)) (before es : List Event) → IsWorldRun counts before
+    → RunFrom (moment counts before) es
     → AllByRecursion IsNotOdd (report_after counts clients before es)
 none_odd_after counts clients before [] run rest = tt
 none_odd_after counts clients before (e ∷ es) run rest =
@@ -58,7 +63,8 @@ none_odd_after counts clients before (e ∷ es) run rest =
     let next : moment counts (before ++ e ∷ []) ≡ after (moment counts before) e = after_all-append (opening counts) before (e ∷ []) in
     all-append IsNotOdd (lines_at counts clients before e) (report_after counts clients (before ++ e ∷ []) es)
     (event_not_odd counts clients before e run first)
-    (none_odd_after counts clients (before ++ e ∷ []) es (run-append (opening counts) before (e ∷ []) run first) (subst (λ (m : WorldState). RunFrom m es) (sym next) rest.1))
+    (none_odd_after counts clients (before ++ e ∷ []) es (run-append (opening counts) before (e ∷ []) run first)
+    (subst (λ (m : WorldState). RunFrom m es) (sym next) rest.1))
 
 -- ---- what is claimed of a history
 
@@ -77,15 +83,18 @@ all_step_on : (clients : ℕ) (ls : List Line) → AllByRecursion (IsWithin clie
 all_step_on clients [] all = tt
 all_step_on clients (l ∷ ls) all = (step_on clients l all.0, all_step_on clients ls all.1)
 
-history_of : (plan : Plan) (history : List Event) → IsPlayable plan → IsWorldRun plan.counts history → KeepsLimits plan.counts history → Follows plan.lines history → EndsAtOnce (opening plan.counts) history → IsHistoryOf plan history
+history_of : (plan : Plan) (history : List Event) → IsPlayable plan → IsWorldRun plan.counts history → KeepsLimits plan.counts history
+    → Follows plan.lines history → EndsAtOnce (opening plan.counts) history → IsHistoryOf plan history
 history_of plan history is run limits follows at_once = record {
   claim = every_run_is_claimed plan.counts history run limits;
   follows = follows;
   at_once = at_once;
   none_odd = none_odd_after plan.counts plan.clients [] history tt run;
-  alone = λ client cs same played none. session_reported plan.counts plan.clients client cs history played run none (subst (λ ls. Follows ls history) same follows);
+  alone = λ client cs same played none. session_reported plan.counts plan.clients client cs history played run none
+      (subst (λ ls. Follows ls history) same follows);
   fixed = λ none other smooth follows'.
-      script_fixes_run plan.counts plan.lines other history (all_step_on (length plan.clients) plan.lines is.within) smooth (record { run = run; none_fails = none; at_once = at_once }) follows' follows;
+      script_fixes_run plan.counts plan.lines other history (all_step_on (length plan.clients) plan.lines is.within) smooth
+      (record { run = run; none_fails = none; at_once = at_once }) follows' follows;
 }
 
 -- ---- what was written

@@ -32,7 +32,8 @@ IsToldByTree plan history =
 -- Of the runs that follow the script, in which no command fails or is refused, and each ends as soon as it has its answer, it
 -- is the only one.
 abbrev pub IsOnlyRun : Plan → List Event → Type 0
-IsOnlyRun plan history = NoneFails history → (other : List Event) → IsSmoothRun plan.counts other → Follows plan.lines other → other ≡ history
+IsOnlyRun plan history = NoneFails history → (other : List Event) → IsSmoothRun plan.counts other → Follows plan.lines other
+    → other ≡ history
 
 -- The history is one that the world has under the script: a run of the world within the limits of its actors' histories, of which
 -- all is so that is claimed of such a run. It follows the script's lines, each command ends as soon as it has its answer, and no

@@ -60,8 +60,10 @@ fn fault_line(alloc: Global, fault: &RaceFault) -> Option<String>
 /// Writes the line of a race that came to no report.
 fn refuse_race<K: Sink>(alloc: Global, fault: &RaceFault, sink: &mut K) -> Status
     ensures only { (result ≡ Status.Split) ⊎ ((result ≡ Status.NoMemory) ⊎ (result ≡ Status.WriteFault)) }
-    ensures whole { result ≡ Status.Split → (line : List ℕ) × IsNamedBy fault.now line × Appends (K.written sink.old) (K.written sink.new) line }
-    ensures part { result ≡ Status.WriteFault → (line : List ℕ) × IsNamedBy fault.now line × AppendsProperPrefix (K.written sink.old) (K.written sink.new) line }
+    ensures whole { result ≡ Status.Split → (line : List ℕ) × IsNamedBy fault.now line
+        × Appends (K.written sink.old) (K.written sink.new) line }
+    ensures part { result ≡ Status.WriteFault → (line : List ℕ) × IsNamedBy fault.now line
+        × AppendsProperPrefix (K.written sink.old) (K.written sink.new) line }
     ensures starved { result ≡ Status.NoMemory → Appends (K.written sink.old) (K.written sink.new) [] }
     ensures kept { result ≢ Status.WriteFault → K.faults sink.new ≡ K.faults sink.old }
     ensures failed { result ≡ Status.WriteFault → Rose (K.faults sink.old) (K.faults sink.new) }
@@ -86,7 +88,8 @@ pub fn race_plan<R: Threads + Wait + Sync, K: Sink, G: Gate + Sync>(
     requires workers { (1 ≤ workers) × (workers ≤ 64) }
     ensures only { IsRaceStatus result }
     ensures whole { result ≡ Status.Ok → IsRaceShown plan.now (K.written sink.old) (K.written sink.new) }
-    ensures split { result ≡ Status.Split → (line : List ℕ) × IsSplitLine plan.now.counts line × Appends (K.written sink.old) (K.written sink.new) line }
+    ensures split { result ≡ Status.Split → (line : List ℕ) × IsSplitLine plan.now.counts line
+        × Appends (K.written sink.old) (K.written sink.new) line }
     ensures cut { result ≡ Status.WriteFault → IsRaceCut plan.now (K.written sink.old) (K.written sink.new)
         ⊎ ((line : List ℕ) × IsSplitLine plan.now.counts line × AppendsProperPrefix (K.written sink.old) (K.written sink.new) line) }
     ensures starved { result ≡ Status.NoMemory → Appends (K.written sink.old) (K.written sink.new) []

@@ -27,7 +27,8 @@ pub fn close<K: Sink>(sink: &mut K, text: &[u8], status: Status) -> Status
 }
 
 fn bad_line(alloc: Global, line: u32, column: u32) -> Result<String, AllocError>
-    ensures { IfOk result (λ text. string_bytes text ≡ codes "bad line " ++ decimal line ++ codes " column " ++ decimal column ++ codes "\n") }
+    ensures { IfOk result
+        (λ text. string_bytes text ≡ codes "bad line " ++ decimal line ++ codes " column " ++ decimal column ++ codes "\n") }
 {
     let text = format!(in alloc; "bad line {line} column {column}\n")?;
     Ok(text)
@@ -64,7 +65,8 @@ fn fault_status(fault: ScriptFault) -> Status
 /// Writes the line of a fault.
 pub fn refuse<K: Sink>(alloc: Global, fault: ScriptFault, sink: &mut K) -> Status
     ensures status { (result ≡ status_of fault) ⊎ ((result ≡ Status.NoMemory) ⊎ (result ≡ Status.WriteFault)) }
-    ensures whole { result ≢ Status.WriteFault → result ≢ Status.NoMemory → Appends (K.written sink.old) (K.written sink.new) (fault_text fault) }
+    ensures whole { result ≢ Status.WriteFault → result ≢ Status.NoMemory
+        → Appends (K.written sink.old) (K.written sink.new) (fault_text fault) }
     ensures part { result ≡ Status.WriteFault → AppendsProperPrefix (K.written sink.old) (K.written sink.new) (fault_text fault) }
     ensures starved { result ≡ Status.NoMemory → Appends (K.written sink.old) (K.written sink.new) [] }
     ensures kept { result ≢ Status.WriteFault → K.faults sink.new ≡ K.faults sink.old }

@@ -1,7 +1,8 @@
 ghost use Rattle.std.specs.Prelude.{◌≡◌, ◌≢◌, ◌≤◌, ◌⊎◌, ℕ, map, string_bytes};
 ghost use Rattle.tect_edge.specs.Counts.{Rose};
 ghost use Rattle.tect_app.specs.Modes.{SpellsNone, SpellsRace};
-ghost use Rattle.tect_app.specs.Headline.{InMode, IsReadWithin, IsReported, IsUsage, IsRefused, IsReadFault, IsCut, IsCutOff, IsStarved, IsSplitEnd};
+ghost use Rattle.tect_app.specs.Headline.{InMode, IsReadWithin, IsReported, IsUsage, IsRefused, IsReadFault, IsCut, IsCutOff, IsStarved};
+ghost use Rattle.tect_app.specs.Headline.{IsSplitEnd};
 ghost use Rattle.tect_app.specs.Statuses.{IsReportStatus};
 ghost use Rattle.world_runs.specs.Playable.{IsPlayable};
 ghost use Rattle.tect_app.specs.Replays.{IsReplayShown, IsReplayCut};
@@ -45,7 +46,8 @@ pub fn run_replay<S: Source, K: Sink>(alloc: Global, source: &mut S, sink: &mut 
     ensures reported { result ≡ Status.Ok → IsReported Mode.Replay (S.left source.old) (S.left source.new) (K.written sink.old) (K.written sink.new) }
     ensures refused { result ≡ Status.BadScript → IsRefused (S.left source.old) (K.written sink.old) (K.written sink.new) Status.BadScript }
     ensures too_large { result ≡ Status.TooLarge → IsRefused (S.left source.old) (K.written sink.old) (K.written sink.new) Status.TooLarge }
-    ensures read_fault { result ≡ Status.ReadFault → IsReadFault (Rose (S.faults source.old) (S.faults source.new)) (K.written sink.old) (K.written sink.new) }
+    ensures read_fault { result ≡ Status.ReadFault
+        → IsReadFault (Rose (S.faults source.old) (S.faults source.new)) (K.written sink.old) (K.written sink.new) }
     ensures write_fault { result ≡ Status.WriteFault → Rose (K.faults sink.old) (K.faults sink.new)
         × IsCut Mode.Replay (Rose (S.faults source.old) (S.faults source.new)) (S.left source.old) (K.written sink.old) (K.written sink.new) }
     ensures no_memory { result ≡ Status.NoMemory → IsStarved Mode.Replay (S.left source.old) (K.written sink.old) (K.written sink.new) }
@@ -76,13 +78,16 @@ pub fn run_race<R: Threads + Wait + Sync, S: Source, K: Sink, G: Gate + Sync>(
 ) -> Status
     requires { (1 ≤ workers) × (workers ≤ 64) }
     ensures no_others { result ≢ Status.Usage }
-    ensures reported { result ≡ Status.Ok → IsReported (Mode.Race workers) (S.left source.old) (S.left source.new) (K.written sink.old) (K.written sink.new) }
+    ensures reported { result ≡ Status.Ok
+        → IsReported (Mode.Race workers) (S.left source.old) (S.left source.new) (K.written sink.old) (K.written sink.new) }
     ensures split { result ≡ Status.Split → IsSplitEnd (S.left source.old) (S.left source.new) (K.written sink.old) (K.written sink.new) }
     ensures refused { result ≡ Status.BadScript → IsRefused (S.left source.old) (K.written sink.old) (K.written sink.new) Status.BadScript }
     ensures too_large { result ≡ Status.TooLarge → IsRefused (S.left source.old) (K.written sink.old) (K.written sink.new) Status.TooLarge }
-    ensures read_fault { result ≡ Status.ReadFault → IsReadFault (Rose (S.faults source.old) (S.faults source.new)) (K.written sink.old) (K.written sink.new) }
+    ensures read_fault { result ≡ Status.ReadFault
+        → IsReadFault (Rose (S.faults source.old) (S.faults source.new)) (K.written sink.old) (K.written sink.new) }
     ensures write_fault { result ≡ Status.WriteFault → Rose (K.faults sink.old) (K.faults sink.new)
-        × IsCut (Mode.Race workers) (Rose (S.faults source.old) (S.faults source.new)) (S.left source.old) (K.written sink.old) (K.written sink.new) }
+        × IsCut (Mode.Race workers) (Rose (S.faults source.old) (S.faults source.new)) (S.left source.old) (K.written sink.old)
+        (K.written sink.new) }
     ensures no_memory { result ≡ Status.NoMemory → IsStarved (Mode.Race workers) (S.left source.old) (K.written sink.old) (K.written sink.new) }
     ensures taken { IsReadWithin 67108864 (S.left source.old) (S.left source.new) (S.calls source.old) (S.calls source.new) }
     ensures source_kept { result ≢ Status.ReadFault → result ≢ Status.WriteFault → S.faults source.new ≡ S.faults source.old }
@@ -127,7 +132,8 @@ pub fn run<R: Threads + Wait + Sync, S: Source, K: Sink, G: Gate + Sync>(
     ensures read_fault { result ≡ Status.ReadFault → InMode (map string_bytes words.now)
         (λ _. IsReadFault (Rose (S.faults source.old) (S.faults source.new)) (K.written sink.old) (K.written sink.new)) }
     ensures write_fault { result ≡ Status.WriteFault → Rose (K.faults sink.old) (K.faults sink.new)
-        × IsCutOff (map string_bytes words.now) (Rose (S.faults source.old) (S.faults source.new)) (S.left source.old) (K.written sink.old) (K.written sink.new) }
+        × IsCutOff (map string_bytes words.now) (Rose (S.faults source.old) (S.faults source.new)) (S.left source.old) (K.written sink.old)
+        (K.written sink.new) }
 
     // 6 leaves nothing, or a front of a report.
     ensures no_memory { result ≡ Status.NoMemory → InMode (map string_bytes words.now)

@@ -1,5 +1,6 @@
 -- The clients of all workers, before and behind some lines.
-use Rattle.std.proofs.Common.{◌≡◌, ℕ, zero, suc, ◌+◌, ◌*◌, ◌/◌, ◌%◌, ◌<◌, ◌↔◌, Some, Result, Ok, Err, IfOk, List, [], ◌∷◌, ◌++◌, length, get_or, refl, sym, ap, subst, ◌∙◌, arith, slice_get}
+use Rattle.std.proofs.Common.{◌≡◌, ℕ, zero, suc, ◌+◌, ◌*◌, ◌/◌, ◌%◌, ◌<◌, ◌↔◌, Some, Result, Ok, Err, IfOk, List, [], ◌∷◌, ◌++◌, length}
+use Rattle.std.proofs.Common.{get_or, refl, sym, ap, subst, ◌∙◌, arith, slice_get}
 use Rattle.std.specs.List.{AllZip, All}
 use Rattle.std.proofs.lemmas.Option.{slice_get_within, slice_get-get_or, get_or_from_slice_get}
 use Rattle.std.proofs.Math.Nat.{mod-lt}
@@ -20,11 +21,13 @@ zip_length R [] (y ∷ ys) z = absurd z
 zip_length R (x ∷ xs) [] z = absurd z
 zip_length R (x ∷ xs) (y ∷ ys) z = ap suc (zip_length R xs ys z.1)
 
-pub zip_at : {A B : Type 0} → (R : A → B → Type 0) (xs : List A) (ys : List B) (n : ℕ) (x : A) (y : B) → AllZip R xs ys → slice_get xs n ≡ Some x → slice_get ys n ≡ Some y → R x y
+pub zip_at : {A B : Type 0} → (R : A → B → Type 0) (xs : List A) (ys : List B) (n : ℕ) (x : A) (y : B) → AllZip R xs ys
+    → slice_get xs n ≡ Some x → slice_get ys n ≡ Some y → R x y
 zip_at R [] [] n x y z e f = (let l = slice_get_within {A = _} [] n x e in absurd (omega arith))
 zip_at R [] (b ∷ ys) n x y z e f = absurd z
 zip_at R (a ∷ xs) [] n x y z e f = absurd z
-zip_at R (a ∷ xs) (b ∷ ys) zero x y z e f = subst (λ v. R v y) (same_at (a ∷ xs) 0 a x refl e) (subst (λ w. R a w) (same_at (b ∷ ys) 0 b y refl f) z.0)
+zip_at R (a ∷ xs) (b ∷ ys) zero x y z e f = subst (λ v. R v y) (same_at (a ∷ xs) 0 a x refl e)
+    (subst (λ w. R a w) (same_at (b ∷ ys) 0 b y refl f) z.0)
 zip_at R (a ∷ xs) (b ∷ ys) (suc n) x y z e f = zip_at R xs ys n x y z.1 e f
 
 pub zip_from : {A B : Type 0} → (R : A → B → Type 0) (xs : List A) (ys : List B) → length ys ≡ length xs
@@ -34,7 +37,8 @@ zip_from R [] (y ∷ ys) l h = absurd (omega arith)
 zip_from R (x ∷ xs) [] l h = absurd (omega arith)
 zip_from R (x ∷ xs) (y ∷ ys) l h = (h 0 x y refl refl, zip_from R xs ys (omega arith) (λ n a b e f. h (suc n) a b e f))
 
-pub zip_push : {A B : Type 0} → (R : A → B → Type 0) (xs : List A) (ys : List B) (x : A) (y : B) → AllZip R xs ys → R x y → AllZip R (xs ++ x ∷ []) (ys ++ y ∷ [])
+pub zip_push : {A B : Type 0} → (R : A → B → Type 0) (xs : List A) (ys : List B) (x : A) (y : B) → AllZip R xs ys → R x y
+    → AllZip R (xs ++ x ∷ []) (ys ++ y ∷ [])
 zip_push R [] [] x y z r = (r, tt)
 zip_push R [] (b ∷ ys) x y z r = absurd z
 zip_push R (a ∷ xs) [] x y z r = absurd z
@@ -46,11 +50,13 @@ all_at P xs n x all e = subst P (get_or_from_slice_get xs n x x e) (all n x (sli
 pub all_from : {A : Type 0} → (P : A → Type 0) (xs : List A) → ((n : ℕ) (x : A) → slice_get xs n ≡ Some x → P x) → All P xs
 all_from P xs h = λ n d l. h n (get_or xs n d) (slice_get-get_or xs n d l)
 
-tabulated : {A : Type 0} → (a : A) (xs : List A) (P : ℕ → A → Type 0) → P 0 a → ((i : ℕ) (x : A) → slice_get xs i ≡ Some x → P (suc i) x) → (i : ℕ) (x : A) → slice_get (a ∷ xs) i ≡ Some x → P i x
+tabulated : {A : Type 0} → (a : A) (xs : List A) (P : ℕ → A → Type 0) → P 0 a → ((i : ℕ) (x : A) → slice_get xs i ≡ Some x → P (suc i) x)
+    → (i : ℕ) (x : A) → slice_get (a ∷ xs) i ≡ Some x → P i x
 tabulated a xs P p h zero x e = subst (P 0) (same_at (a ∷ xs) 0 a x refl e) p
 tabulated a xs P p h (suc i) x e = h i x e
 
-tabulate : {A : Type 0} → (n : ℕ) (P : ℕ → A → Type 0) → ((i : ℕ) → i < n → (a : A) × P i a) → (xs : List A) × (length xs ≡ n) × ((i : ℕ) (a : A) → slice_get xs i ≡ Some a → P i a)
+tabulate : {A : Type 0} → (n : ℕ) (P : ℕ → A → Type 0) → ((i : ℕ) → i < n → (a : A) × P i a) → (xs : List A) × (length xs ≡ n)
+    × ((i : ℕ) (a : A) → slice_get xs i ≡ Some a → P i a)
 tabulate {A} zero P h = ([], refl, λ i a e. (let l = slice_get_within {A = A} [] i a e in absurd (omega arith)))
 tabulate {A} (suc n) P h =
     let first = h 0 (omega arith) in
@@ -59,7 +65,8 @@ tabulate {A} (suc n) P h =
 
 -- ---- the clients after the lines
 
-module _ (w : ℕ) (pos : 0 < w) (names : List (List ℕ)) (ls : List Line) (rs : List Racer) (cs ds : List Worker) (assigned : AreAssigned w rs cs) (ran : WorkersRan names ls cs ds) where
+module _ (w : ℕ) (pos : 0 < w) (names : List (List ℕ)) (ls : List Line) (rs : List Racer) (cs ds : List Worker)
+    (assigned : AreAssigned w rs cs) (ran : WorkersRan names ls cs ds) where
   -- it stands there
   record IsAt (i : ℕ) (t : Racer) : Type 0 where
     worker : Worker
@@ -93,7 +100,8 @@ module _ (w : ℕ) (pos : 0 < w) (names : List (List ℕ)) (ls : List Line) (rs 
   unfolding after
   after_at = found.2
 
-  after_each : (k : ℕ) (d : Worker) → slice_get ds k ≡ Some d → (slot : ℕ) (t : Racer) → slice_get d.racers.items slot ≡ Some t → slice_get after (slot * w + k) ≡ Some t
+  after_each : (k : ℕ) (d : Worker) → slice_get ds k ≡ Some d → (slot : ℕ) (t : Racer) → slice_get d.racers.items slot ≡ Some t
+      → slice_get after (slot * w + k) ≡ Some t
   after_each k d e slot t f =
       let low : k < w = (let l = slice_get_within ds k d e in let s = workers_are in omega arith) in
       let c = also_at ds cs k d e (sym (zip_length (WorkerRan names ls) cs ds ran)) in
@@ -103,7 +111,8 @@ module _ (w : ℕ) (pos : 0 < w) (names : List (List ℕ)) (ls : List Line) (rs 
       let at = after_at (slot * w + k) u.0 u.1 in
       let there : slice_get ds k ≡ Some at.worker = subst (λ i. slice_get ds i ≡ Some at.worker) (place_worker w k slot low) at.there in
       let is : at.worker ≡ d = same_at ds k at.worker d there e in
-      let place : slice_get (at.worker).racers.items slot ≡ Some u.0 = subst (λ i. slice_get (at.worker).racers.items i ≡ Some u.0) (place_slot w k slot low) at.slot in
+      let place : slice_get (at.worker).racers.items slot ≡ Some u.0 = subst (λ i. slice_get (at.worker).racers.items i ≡ Some u.0)
+      (place_slot w k slot low) at.slot in
       let own : u.0 ≡ t = same_at d.racers.items slot u.0 t (subst (λ (x : Worker). slice_get x.racers.items slot ≡ Some u.0) is place) f in
       u.1 ∙ ap Some own
 
@@ -128,13 +137,15 @@ module _ (w : ℕ) (pos : 0 < w) (names : List (List ℕ)) (ls : List Line) (rs 
       let c = also_at ds cs (i % w) at.worker at.there (sym (zip_length (WorkerRan names ls) cs ds ran)) in
       let both = zip_at (WorkerRan names ls) cs ds (i % w) c.0 at.worker ran c.1 at.there in
       let s = also_at (at.worker).racers.items (c.0).racers.items (i / w) t at.slot (sym both.count) in
-      let old : slice_get rs i ≡ Some s.0 = subst (λ k. slice_get rs k ≡ Some s.0) (stands w i) (assigned.each (i % w) c.0 c.1 (i / w) s.0 s.1) in
+      let old : slice_get rs i ≡ Some s.0 = subst (λ k. slice_get rs k ≡ Some s.0) (stands w i)
+      (assigned.each (i % w) c.0 c.1 (i / w) s.0 s.1) in
       subst (λ (x : Racer). Ran names ls x t) (same_at rs i s.0 r old e) (both.each (i / w) s.0 t s.1 at.slot)
 
   pub after_ran : RacersRan names ls rs after
   after_ran = zip_from (Ran names ls) rs after after_length ran_at
 
-  pub after_ready : (counts : Counts) (clients : ℕ) (later : List Line) → AreWorkers counts clients w later ds → AreRacers counts later after
+  pub after_ready : (counts : Counts) (clients : ℕ) (later : List Line) → AreWorkers counts clients w later ds
+      → AreRacers counts later after
   after_ready counts clients later workers = record {
     own = λ i t f.
         let at = after_at i t f in
@@ -148,7 +159,8 @@ module _ (w : ℕ) (pos : 0 < w) (names : List (List ℕ)) (ls : List Line) (rs 
 
 -- ---- the workers before the lines
 
-pub workers_assigned : (counts : Counts) (w : ℕ) (ls : List Line) (rs : List Racer) (cs : List Worker) → AreRacers counts ls rs → AreAssigned w rs cs → AreWorkers counts (length rs) w ls cs
+pub workers_assigned : (counts : Counts) (w : ℕ) (ls : List Line) (rs : List Racer) (cs : List Worker) → AreRacers counts ls rs
+    → AreAssigned w rs cs → AreWorkers counts (length rs) w ls cs
 workers_assigned counts w ls rs cs racers assigned = record {
   count = assigned.count;
   numbers = assigned.numbers;
@@ -164,13 +176,16 @@ workers_assigned counts w ls rs cs racers assigned = record {
 
 -- ---- what the workers came to
 
-pub ended_ran : (counts : Counts) (names : List (List ℕ)) (w : ℕ) (ls later : List Line) (cs ds : List Worker) → AllZip (WorkerEnds counts names w ls later) cs ds → WorkersRan names ls cs ds
+pub ended_ran : (counts : Counts) (names : List (List ℕ)) (w : ℕ) (ls later : List Line) (cs ds : List Worker)
+    → AllZip (WorkerEnds counts names w ls later) cs ds → WorkersRan names ls cs ds
 ended_ran counts names w ls later [] [] z = tt
 ended_ran counts names w ls later [] (d ∷ ds) z = absurd z
 ended_ran counts names w ls later (c ∷ cs) [] z = absurd z
 ended_ran counts names w ls later (c ∷ cs) (d ∷ ds) z = ((z.0).ran, ended_ran counts names w ls later cs ds z.1)
 
-pub ended_ready : (counts : Counts) (names : List (List ℕ)) (w : ℕ) (ls ks later : List Line) (cs ds : List Worker) → AreWorkers counts (length names) w ks cs → AllZip (WorkerEnds counts names w ls later) cs ds → AreWorkers counts (length names) w later ds
+pub ended_ready : (counts : Counts) (names : List (List ℕ)) (w : ℕ) (ls ks later : List Line) (cs ds : List Worker)
+    → AreWorkers counts (length names) w ks cs → AllZip (WorkerEnds counts names w ls later) cs ds
+    → AreWorkers counts (length names) w later ds
 ended_ready counts names w ls ks later cs ds workers z =
     let same = zip_length (WorkerEnds counts names w ls later) cs ds z in
     record {

@@ -1,5 +1,6 @@
 -- What is known of a race when a line is passed, when a dump ends a part, and when the script ends.
-use Rattle.std.proofs.Common.{◌≡◌, ℕ, ◌+◌, ◌-◌, ◌<◌, ◌≤◌, Some, List, [], ◌∷◌, ◌++◌, length, length-drop, take, drop, slice_get, slice_range, get_or, refl, sym, ap, subst, ◌∙◌, arith, take-append-drop}
+use Rattle.std.proofs.Common.{◌≡◌, ℕ, ◌+◌, ◌-◌, ◌<◌, ◌≤◌, Some, List, [], ◌∷◌, ◌++◌, length, length-drop, take, drop, slice_get}
+use Rattle.std.proofs.Common.{slice_range, get_or, refl, sym, ap, subst, ◌∙◌, arith, take-append-drop}
 use Rattle.std.specs.List.{All, flat_map}
 use Rattle.std.proofs.lemmas.List.{take_all}
 use Rattle.std.proofs.lemmas.List.Elements.{recursion_from_All}
@@ -32,35 +33,45 @@ of_client n (lines.Lose disk) is no_dump = absurd is
 
 module _ (counts : Counts) (names : List (List ℕ)) (ls : List Line) (p : Progress) where
   -- a line that is no dump is the part's next
-  pub come_past : (number : ℕ) (line : Line) → number < length ls → line ≡ get_or ls number line → (line ≡ lines.Dump → ⊥) → All (IsLineOf (length names)) ls → HasCome counts names ls number p → HasCome counts names ls (number + 1) p
+  pub come_past : (number : ℕ) (line : Line) → number < length ls → line ≡ get_or ls number line → (line ≡ lines.Dump → ⊥)
+      → All (IsLineOf (length names)) ls → HasCome counts names ls number p → HasCome counts names ls (number + 1) p
   come_past number line within read no_dump asked come =
       let is : IsLineOf (length names) line = subst (IsLineOf (length names)) (sym read) (asked number line within) in
       record {
         low = (let l = come.low in omega arith);
-        part = all_more (IsOfClient (length names)) ls p.start number line come.low within (sym read) come.part (of_client (length names) line is no_dump);
+        part = all_more (IsOfClient (length names)) ls p.start number line come.low within (sym read) come.part
+            (of_client (length names) line is no_dump);
         stood = come.stood;
       }
 
   -- a dump ends the part before it
-  pub come_on : (ts us : List Racer) (dump : ℕ) (e : EndedPart) → slice_get ls dump ≡ Some lines.Dump → HasCome counts names ls dump p → RacersRan names (slice_range ls p.start dump) p.racers.items ts → AreRacers counts (drop dump ls) ts
+  pub come_on : (ts us : List Racer) (dump : ℕ) (e : EndedPart) → slice_get ls dump ≡ Some lines.Dump → HasCome counts names ls dump p
+      → RacersRan names (slice_range ls p.start dump) p.racers.items ts → AreRacers counts (drop dump ls) ts
       → All (λ r. r.client.clock ≤ e.clock) ts → AllClosed e.clock ts us → e.answers.items ≡ flat_map (λ r. r.answers.items) ts
       → Stood counts names (take (dump + 1) ls) (drop (dump + 1) ls) e.clock us (p.ended.items ++ e ∷ [])
   come_on ts us dump e here come ran ready high closed told =
       let within : dump < length ls = slice_get_within ls dump lines.Dump here in
       let read = get_or_from_slice_get ls dump lines.Dump lines.Dump here in
-      let left : drop dump ls ≡ lines.Dump ∷ drop (dump + 1) ls = drop_more dump ls lines.Dump within ∙ ap (λ x. x ∷ drop (dump + 1) ls) read in
+      let left : drop dump ls ≡ lines.Dump
+      ∷ drop (dump + 1) ls = drop_more dump ls lines.Dump within ∙ ap (λ x. x ∷ drop (dump + 1) ls) read in
       let own = recursion_from_All (IsOfClient (length names)) (slice_range ls p.start dump) come.part in
-      let stood = stood_on counts names (take p.start ls) (drop p.start ls) (slice_range ls p.start dump) p.clock p.racers.items ts us p.ended.items come.stood ran
+      let stood = stood_on counts names (take p.start ls) (drop p.start ls) (slice_range ls p.start dump) p.clock p.racers.items ts us
+      p.ended.items come.stood ran
       (drop (dump + 1) ls) e (subst (λ (l : List Line). AreRacers counts l ts) left ready) own high closed told in
-      subst (λ (l : List Line). Stood counts names l (drop (dump + 1) ls) e.clock us (p.ended.items ++ e ∷ [])) (sym (lines_to ls p.start dump lines.Dump come.low within read)) stood
+      subst (λ (l : List Line). Stood counts names l (drop (dump + 1) ls) e.clock us (p.ended.items ++ e ∷ []))
+      (sym (lines_to ls p.start dump lines.Dump come.low within read)) stood
 
   -- the script ends the last part
-  pub come_to_end : (ts us : List Racer) (ps : List Pass) (k : ℕ) (last : List ReportLine) → HasPlaces counts → All (IsLineOf (length names)) ls → HasCome counts names ls (length ls) p → RacersRan names (slice_range ls p.start (length ls)) p.racers.items ts
-      → AreRacers counts (drop (length ls) ls) ts → k < 2 ^ 63 → All (λ r. r.client.clock ≤ k) ts → AllClosed k ts us → AllZip IsPassOf us ps → last ≡ flat_map (λ r. r.answers.items) ts → HaveRun counts names ls ps p.ended.items last
+  pub come_to_end : (ts us : List Racer) (ps : List Pass) (k : ℕ) (last : List ReportLine) → HasPlaces counts
+      → All (IsLineOf (length names)) ls → HasCome counts names ls (length ls) p
+      → RacersRan names (slice_range ls p.start (length ls)) p.racers.items ts
+      → AreRacers counts (drop (length ls) ls) ts → k < 2 ^ 63 → All (λ r. r.client.clock ≤ k) ts → AllClosed k ts us
+      → AllZip IsPassOf us ps → last ≡ flat_map (λ r. r.answers.items) ts → HaveRun counts names ls ps p.ended.items last
   come_to_end ts us ps k last places asked come ran ready low high closed taken told =
       let part : List Line = slice_range ls p.start (length ls) in
       let all : part ≡ drop p.start ls = take_all (length ls - p.start) (drop p.start ls) (let d = length-drop p.start ls in omega arith) in
       let whole : take p.start ls ++ part ≡ ls = ap (λ l. take p.start ls ++ l) all ∙ take-append-drop p.start ls in
       let run = run_ended counts names (take p.start ls) (drop p.start ls) part p.clock p.racers.items ts us p.ended.items come.stood ran
-      (drop (length ls) ls) k ps last places (subst (All (IsLineOf (length names))) (sym whole) asked) ready (recursion_from_All (IsOfClient (length names)) part come.part) low high closed taken told in
+      (drop (length ls) ls) k ps last places (subst (All (IsLineOf (length names))) (sym whole) asked) ready
+      (recursion_from_All (IsOfClient (length names)) part come.part) low high closed taken told in
       subst (λ (l : List Line). HaveRun counts names l ps p.ended.items last) whole run

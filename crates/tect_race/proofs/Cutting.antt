@@ -1,5 +1,6 @@
 -- Workers that are cut into batches, one after another.
-use Rattle.std.proofs.Common.{◌≡◌, ℕ, ◌+◌, ◌≤◌, Bool, true, false, cond, ◌&&◌, ◌||◌, List, Vec, [], ◌∷◌, ◌++◌, length, filter, length-append, append_assoc, refl, sym, ap, ◌∙◌, arith, max, lit≤}
+use Rattle.std.proofs.Common.{◌≡◌, ℕ, ◌+◌, ◌≤◌, Bool, true, false, cond, ◌&&◌, ◌||◌, List, Vec, [], ◌∷◌, ◌++◌, length, filter}
+use Rattle.std.proofs.Common.{length-append, append_assoc, refl, sym, ap, ◌∙◌, arith, max, lit≤}
 use Rattle.std.specs.declared.alloc.Global.{Global}
 use Rattle.std.specs.List.{All, flat_map}
 use Rattle.std.proofs.lemmas.List.Elements.{All-push}
@@ -13,7 +14,8 @@ one_if true = 1
 one_if false = 0
 
 -- These workers are cut so far: into the batches that are done, and one more, which has a worker with a line or is the first one.
-pub record IsCut (worker_count : ℕ) (ls : List Line) (cs : List Worker) (done : List (Vec Worker Global)) (batch : List Worker) (busy : Bool) : Type 0 where
+pub record IsCut (worker_count : ℕ) (ls : List Line) (cs : List Worker) (done : List (Vec Worker Global)) (batch : List Worker)
+    (busy : Bool) : Type 0 where
   pub joined : flat_map (λ (b : Vec Worker Global). b.items) done ++ batch ≡ cs
   pub alone : All (λ b. busy_count worker_count ls b.items ≤ 1) done
   pub last : busy_count worker_count ls batch ≡ one_if busy
@@ -57,16 +59,22 @@ module _ (worker_count : ℕ) (ls : List Line) where
   one_count : (c : Worker) → busy_count worker_count ls (c ∷ []) ≡ one_if (has_line worker_count ls c)
   one_count c = elim (has_line worker_count ls c) as (λ b. length (cond b (c ∷ []) []) ≡ one_if b) [ true ↦ refl | false ↦ refl ]
 
-  count_on : (cs : List Worker) (c : Worker) → busy_count worker_count ls (cs ++ c ∷ []) ≡ busy_count worker_count ls cs + one_if (has_line worker_count ls c)
+  count_on : (cs : List Worker) (c : Worker)
+      → busy_count worker_count ls (cs ++ c ∷ []) ≡ busy_count worker_count ls cs + one_if (has_line worker_count ls c)
   count_on [] c = let o : busy_count worker_count ls (c ∷ []) ≡ one_if (has_line worker_count ls c) = one_count c in omega arith
   count_on (x ∷ xs) c =
-      let more : length (filter (has_line worker_count ls) (xs ++ c ∷ [])) ≡ length (filter (has_line worker_count ls) xs) + one_if (has_line worker_count ls c) = count_on xs c in
-      elim (has_line worker_count ls x) as (λ b. length (cond b (x ∷ filter (has_line worker_count ls) (xs ++ c ∷ [])) (filter (has_line worker_count ls) (xs ++ c ∷ []))) ≡ length (cond b (x ∷ filter (has_line worker_count ls) xs) (filter (has_line worker_count ls) xs)) + one_if (has_line worker_count ls c)) [
+      let more : length (filter (has_line worker_count ls) (xs ++ c ∷ [])) ≡ length (filter (has_line worker_count ls) xs) + one_if
+      (has_line worker_count ls c) = count_on xs c in
+      elim (has_line worker_count ls x) as
+      (λ b. length (cond b (x ∷ filter (has_line worker_count ls) (xs ++ c ∷ [])) (filter (has_line worker_count ls) (xs ++ c ∷ []))) ≡
+      length (cond b (x ∷ filter (has_line worker_count ls) xs) (filter (has_line worker_count ls) xs)) + one_if
+      (has_line worker_count ls c)) [
         | true ↦ omega arith
         | false ↦ more
       ]
 
-  module _ (cs : List Worker) (done : List (Vec Worker Global)) (batch : Vec Worker Global) (busy : Bool) (is : IsCut worker_count ls cs done batch.items busy) where
+  module _ (cs : List Worker) (done : List (Vec Worker Global)) (batch : Vec Worker Global) (busy : Bool)
+      (is : IsCut worker_count ls cs done batch.items busy) where
     few : busy_count worker_count ls batch.items ≤ 1
     few =
         let l : busy_count worker_count ls batch.items ≡ one_if busy = is.last in
@@ -83,16 +91,20 @@ module _ (worker_count : ℕ) (ls : List Line) where
     longer = length-append done (batch ∷ [])
 
     -- a worker goes into the batch
-    pub cut_in : (c : Worker) (items : List Worker) (b : Bool) → b ≡ has_line worker_count ls c → items ≡ batch.items ++ c ∷ [] → (b && busy) ≡ false → IsCut worker_count ls (cs ++ c ∷ []) done items (busy || b)
+    pub cut_in : (c : Worker) (items : List Worker) (b : Bool) → b ≡ has_line worker_count ls c → items ≡ batch.items ++ c ∷ []
+        → (b && busy) ≡ false → IsCut worker_count ls (cs ++ c ∷ []) done items (busy || b)
     cut_in c items b e i apart =
         let t : one_if busy + one_if b ≡ one_if (busy || b) = tally busy b apart in
         let q : one_if b ≡ one_if (has_line worker_count ls c) = ap one_if e in
-        let here : busy_count worker_count ls items ≡ busy_count worker_count ls batch.items + one_if (has_line worker_count ls c) = ap (busy_count worker_count ls) i ∙ count_on batch.items c in
-        let all : busy_count worker_count ls (cs ++ c ∷ []) ≡ busy_count worker_count ls cs + one_if (has_line worker_count ls c) = count_on cs c in
+        let here : busy_count worker_count ls items ≡ busy_count worker_count ls batch.items + one_if (has_line worker_count ls c) = ap
+        (busy_count worker_count ls) i ∙ count_on batch.items c in
+        let all : busy_count worker_count ls (cs ++ c ∷ []) ≡ busy_count worker_count ls cs + one_if (has_line worker_count ls c) = count_on
+        cs c in
         let l : busy_count worker_count ls batch.items ≡ one_if busy = is.last in
         let n : length done + one_if busy ≡ busy_count worker_count ls cs = is.count in
         record {
-          joined = ap (λ l. flat_map (λ (b : Vec Worker Global). b.items) done ++ l) i ∙ sym (append_assoc (flat_map (λ (b : Vec Worker Global). b.items) done) batch.items (c ∷ [])) ∙ ap (λ l. l ++ c ∷ []) is.joined;
+          joined = ap (λ l. flat_map (λ (b : Vec Worker Global). b.items) done ++ l) i ∙ sym
+              (append_assoc (flat_map (λ (b : Vec Worker Global). b.items) done) batch.items (c ∷ [])) ∙ ap (λ l. l ++ c ∷ []) is.joined;
           alone = is.alone;
           last = omega arith;
           count = omega arith;
@@ -100,15 +112,18 @@ module _ (worker_count : ℕ) (ls : List Line) where
         }
 
     -- or into a new one
-    pub cut_off : (c : Worker) (items : List Worker) (b : Bool) → b ≡ has_line worker_count ls c → items ≡ c ∷ [] → (b && busy) ≡ true → IsCut worker_count ls (cs ++ c ∷ []) (done ++ batch ∷ []) items (busy || b)
+    pub cut_off : (c : Worker) (items : List Worker) (b : Bool) → b ≡ has_line worker_count ls c → items ≡ c ∷ [] → (b && busy) ≡ true
+        → IsCut worker_count ls (cs ++ c ∷ []) (done ++ batch ∷ []) items (busy || b)
     cut_off c items b e i twice =
         let two = both busy b twice in
         let q : one_if b ≡ one_if (has_line worker_count ls c) = ap one_if e in
         let p : one_if b ≡ 1 = ap one_if two.1 in
         let r : one_if busy ≡ 1 = ap one_if two.0 in
         let s : one_if (busy || b) ≡ 1 = ap (λ v. one_if (v || b)) two.0 in
-        let here : busy_count worker_count ls items ≡ one_if (has_line worker_count ls c) = ap (busy_count worker_count ls) i ∙ one_count c in
-        let all : busy_count worker_count ls (cs ++ c ∷ []) ≡ busy_count worker_count ls cs + one_if (has_line worker_count ls c) = count_on cs c in
+        let here : busy_count worker_count ls items ≡ one_if (has_line worker_count ls c) = ap (busy_count worker_count ls) i ∙ one_count c
+        in
+        let all : busy_count worker_count ls (cs ++ c ∷ []) ≡ busy_count worker_count ls cs + one_if (has_line worker_count ls c) = count_on
+        cs c in
         let l : length (done ++ batch ∷ []) ≡ length done + 1 = longer in
         let n : length done + one_if busy ≡ busy_count worker_count ls cs = is.count in
         record {

@@ -1,5 +1,6 @@
 -- The stories of all clients, when a dump ends a part.
-use Rattle.std.proofs.Common.{◌≡◌, ℕ, suc, ◌+◌, ◌≤◌, max, None, List, [], ◌∷◌, ◌++◌, length, length-append, map, filter, refl, sym, ap, subst, ◌∙◌, arith}
+use Rattle.std.proofs.Common.{◌≡◌, ℕ, suc, ◌+◌, ◌≤◌, max, None, List, [], ◌∷◌, ◌++◌, length, length-append, map, filter, refl, sym, ap}
+use Rattle.std.proofs.Common.{subst, ◌∙◌, arith}
 use Rattle.std.specs.List.{AllByRecursion, flat_map}
 use Rattle.std.proofs.lemmas.List.Elements.{All-nil}
 use Rattle.tect_ids.specs.declared.ids.Counts.{Counts}
@@ -29,15 +30,18 @@ pub last_is : (low k : ℕ) (clocks : List ℕ) → last_clock low (clocks ++ k 
 last_is low k [] = refl
 last_is low k (j ∷ js) = last_is j k js
 
-module _ (counts : Counts) (names : List (List ℕ)) (done : List Line) (clocks : List ℕ) (r t : Racer) (s : Story) (is : Stands counts names done clocks r s)
+module _ (counts : Counts) (names : List (List ℕ)) (done : List Line) (clocks : List ℕ) (r t : Racer) (s : Story)
+    (is : Stands counts names done clocks r s)
     (k : ℕ) (high : r.client.clock ≤ k) (closed : Closed k r t) where
   clock_is : t.client.clock ≡ k
   clock_is = ap (λ (w : ClientLife). w.clock) closed.client ∙ (let e : max r.client.clock k ≡ k = omega arith in e)
 
-  does_dump : DoesLines s.actor None (filter (line_concerns s.actor) (done ++ lines.Dump ∷ [])) (with_dumps (s.ended ++ s.last ∷ []) no_part) (busy_in t.client)
+  does_dump : DoesLines s.actor None (filter (line_concerns s.actor) (done ++ lines.Dump ∷ []))
+      (with_dumps (s.ended ++ s.last ∷ []) no_part) (busy_in t.client)
   does_dump =
       let same : busy_in t.client ≡ busy_in r.client = ap busy_in closed.client in
-      let all = does_lines-append s.actor None (busy_in r.client) (busy_in r.client) (filter (line_concerns s.actor) done) (lines.Dump ∷ []) (with_dumps s.ended s.last) (Dumped ∷ []) is.does ([], refl, (refl, refl)) in
+      let all = does_lines-append s.actor None (busy_in r.client) (busy_in r.client) (filter (line_concerns s.actor) done) (lines.Dump ∷ [])
+      (with_dumps s.ended s.last) (Dumped ∷ []) is.does ([], refl, (refl, refl)) in
       rw (filter-append (line_concerns s.actor) done (lines.Dump ∷ []), dumps_dumped s.ended s.last, same) all
 
   pub stands_dumped : Stands counts names (done ++ lines.Dump ∷ []) (clocks ++ k ∷ []) t (dumped s)
@@ -48,7 +52,8 @@ module _ (counts : Counts) (names : List (List ℕ)) (done : List Line) (clocks 
     silent = silent_dumped s.ended s.last ∙ is.silent ∙ sym (ap (λ (w : ClientLife). w.silent) closed.client);
     events = events_dumped s.ended s.last ∙ is.events ∙ sym (ap events_in closed.client);
     does = does_dump;
-    timely = timely_dumped 0 clocks k s.ended s.last is.timely (let f = is.floor in let e = same_last 0 clocks in omega arith) (weaker r.client.clock k (s.last).news high is.below);
+    timely = timely_dumped 0 clocks k s.ended s.last is.timely (let f = is.floor in let e = same_last 0 clocks in omega arith)
+        (weaker r.client.clock k (s.last).news high is.below);
     below = All-nil (λ m. stamp_of m ≤ t.client.clock);
     floor = (let e = last_is 0 k clocks in let c = clock_is in omega arith);
     answers = answers_dumped counts names s.actor [] s.ended s.last is.answers;
@@ -58,7 +63,8 @@ module _ (counts : Counts) (names : List (List ℕ)) (done : List Line) (clocks 
 
 -- ---- all clients
 
-pub all_grown : (counts : Counts) (names : List (List ℕ)) (done ls : List Line) (clocks : List ℕ) (rs ts : List Racer) (ss : List Story) → AllStand counts names done clocks rs ss → RacersRan names ls rs ts
+pub all_grown : (counts : Counts) (names : List (List ℕ)) (done ls : List Line) (clocks : List ℕ) (rs ts : List Racer) (ss : List Story)
+    → AllStand counts names done clocks rs ss → RacersRan names ls rs ts
     → (us : List Story) × AllStand counts names (done ++ ls) clocks ts us × (map (λ s. s.ended) us ≡ map (λ s. s.ended) ss)
 all_grown counts names done ls clocks [] [] [] a r = ([], tt, refl)
 all_grown counts names done ls clocks [] (t ∷ ts) ss a r = absurd r
@@ -69,11 +75,14 @@ all_grown counts names done ls clocks (x ∷ rs) (t ∷ ts) (s ∷ ss) a r =
     let rest = all_grown counts names done ls clocks rs ts ss a.1 r.1 in (
       grown_story counts names done ls clocks x t s a.0 r.0 ∷ rest.0,
       (stands_grown counts names done ls clocks x t s a.0 r.0, rest.1),
-      ap (λ e. e ∷ map (λ (u : Story). u.ended) rest.0) (same_ended counts names done ls clocks x t s a.0 r.0) ∙ ap (λ l. s.ended ∷ l) rest.2,
+      ap (λ e. e ∷ map (λ (u : Story). u.ended) rest.0) (same_ended counts names done ls clocks x t s a.0 r.0) ∙ ap (λ l. s.ended ∷ l)
+          rest.2,
     )
 
-pub all_dumped : (counts : Counts) (names : List (List ℕ)) (done : List Line) (clocks : List ℕ) (k : ℕ) (rs ts : List Racer) (ss : List Story) → AllStand counts names done clocks rs ss
-    → AllByRecursion (λ r. r.client.clock ≤ k) rs → AllClosed k rs ts → AllStand counts names (done ++ lines.Dump ∷ []) (clocks ++ k ∷ []) ts (map dumped ss)
+pub all_dumped : (counts : Counts) (names : List (List ℕ)) (done : List Line) (clocks : List ℕ) (k : ℕ) (rs ts : List Racer)
+    (ss : List Story) → AllStand counts names done clocks rs ss
+    → AllByRecursion (λ r. r.client.clock ≤ k) rs → AllClosed k rs ts
+    → AllStand counts names (done ++ lines.Dump ∷ []) (clocks ++ k ∷ []) ts (map dumped ss)
 all_dumped counts names done clocks k [] [] [] a h r = tt
 all_dumped counts names done clocks k [] (t ∷ ts) ss a h r = absurd r
 all_dumped counts names done clocks k (x ∷ rs) [] ss a h r = absurd r
@@ -83,15 +92,18 @@ all_dumped counts names done clocks k (x ∷ rs) (t ∷ ts) (s ∷ ss) a h r =
     (stands_dumped counts names done clocks x t s a.0 k h.0 r.0, all_dumped counts names done clocks k rs ts ss a.1 h.1 r.1)
 
 -- the clients' answers are those of their last parts
-pub all_told : (counts : Counts) (names : List (List ℕ)) (done : List Line) (clocks : List ℕ) (rs : List Racer) (ss : List Story) → AllStand counts names done clocks rs ss
+pub all_told : (counts : Counts) (names : List (List ℕ)) (done : List Line) (clocks : List ℕ) (rs : List Racer) (ss : List Story)
+    → AllStand counts names done clocks rs ss
     → flat_map (λ r. r.answers.items) rs ≡ flat_map (λ s. s.last.answers) ss
 all_told counts names done clocks [] [] a = refl
 all_told counts names done clocks [] (s ∷ ss) a = absurd a
 all_told counts names done clocks (r ∷ rs) [] a = absurd a
 all_told counts names done clocks (r ∷ rs) (s ∷ ss) a =
-    ap (λ l. l ++ flat_map (λ (x : Racer). x.answers.items) rs) (a.0).told ∙ ap (λ l. (s.last).answers ++ l) (all_told counts names done clocks rs ss a.1)
+    ap (λ l. l ++ flat_map (λ (x : Racer). x.answers.items) rs) (a.0).told ∙ ap (λ l. (s.last).answers ++ l)
+    (all_told counts names done clocks rs ss a.1)
 
-pub all_parts : (counts : Counts) (names : List (List ℕ)) (done : List Line) (clocks : List ℕ) (rs : List Racer) (ss : List Story) → AllStand counts names done clocks rs ss
+pub all_parts : (counts : Counts) (names : List (List ℕ)) (done : List Line) (clocks : List ℕ) (rs : List Racer) (ss : List Story)
+    → AllStand counts names done clocks rs ss
     → AllByRecursion (λ s. length s.ended ≡ length clocks) ss
 all_parts counts names done clocks [] [] a = tt
 all_parts counts names done clocks [] (s ∷ ss) a = absurd a
@@ -107,7 +119,8 @@ one_less : (ps : List Part) (n : ℕ) → length ps ≡ suc n → length (later_
 one_less [] n e = absurd (omega arith)
 one_less (p ∷ ps) n e = omega arith
 
-lengths_later : (n : ℕ) (ss : List Story) → AllByRecursion (λ s. length s.ended ≡ suc n) ss → AllByRecursion (λ s. length s.ended ≡ n) (map rest ss)
+lengths_later : (n : ℕ) (ss : List Story) → AllByRecursion (λ s. length s.ended ≡ suc n) ss
+    → AllByRecursion (λ s. length s.ended ≡ n) (map rest ss)
 unfolding rest
 lengths_later n [] l = tt
 lengths_later n (s ∷ ss) l = (one_less s.ended n l.0, lengths_later n ss l.1)
@@ -116,17 +129,20 @@ no_parts : (ps : List Part) → length ps ≡ 0 → ps ≡ []
 no_parts [] e = refl
 no_parts (p ∷ ps) e = absurd (omega arith)
 
-firsts_are : (ss : List Story) → AllByRecursion (λ s. length s.ended ≡ 0) ss → flat_map first_answers (map (λ s. s.ended) (map dumped ss)) ≡ flat_map (λ s. s.last.answers) ss
+firsts_are : (ss : List Story) → AllByRecursion (λ s. length s.ended ≡ 0) ss
+    → flat_map first_answers (map (λ s. s.ended) (map dumped ss)) ≡ flat_map (λ s. s.last.answers) ss
 firsts_are [] l = refl
 firsts_are (s ∷ ss) l =
-    ap (λ (e : List Part). first_answers (e ++ s.last ∷ []) ++ flat_map first_answers (map (λ (u : Story). u.ended) (map dumped ss))) (no_parts s.ended l.0)
+    ap (λ (e : List Part). first_answers (e ++ s.last ∷ []) ++ flat_map first_answers (map (λ (u : Story). u.ended) (map dumped ss)))
+    (no_parts s.ended l.0)
     ∙ ap (λ x. (s.last).answers ++ x) (firsts_are ss l.1)
 
 first_stays : (ps : List Part) (p : Part) (n : ℕ) → length ps ≡ suc n → first_answers (ps ++ p ∷ []) ≡ first_answers ps
 first_stays [] p n e = absurd (omega arith)
 first_stays (q ∷ qs) p n e = refl
 
-firsts_stay : (n : ℕ) (ss : List Story) → AllByRecursion (λ s. length s.ended ≡ suc n) ss → flat_map first_answers (map (λ s. s.ended) (map dumped ss)) ≡ flat_map first_answers (map (λ s. s.ended) ss)
+firsts_stay : (n : ℕ) (ss : List Story) → AllByRecursion (λ s. length s.ended ≡ suc n) ss
+    → flat_map first_answers (map (λ s. s.ended) (map dumped ss)) ≡ flat_map first_answers (map (λ s. s.ended) ss)
 firsts_stay n [] l = refl
 firsts_stay n (s ∷ ss) l =
     ap (λ x. x ++ flat_map first_answers (map (λ (u : Story). u.ended) (map dumped ss))) (first_stays s.ended s.last n l.0)
@@ -136,7 +152,8 @@ later_stays : (ps : List Part) (p : Part) (n : ℕ) → length ps ≡ suc n → 
 later_stays [] p n e = absurd (omega arith)
 later_stays (q ∷ qs) p n e = refl
 
-laters_stay : (n : ℕ) (ss : List Story) → AllByRecursion (λ s. length s.ended ≡ suc n) ss → map later_parts (map (λ s. s.ended) (map dumped ss)) ≡ map (λ s. s.ended) (map dumped (map rest ss))
+laters_stay : (n : ℕ) (ss : List Story) → AllByRecursion (λ s. length s.ended ≡ suc n) ss
+    → map later_parts (map (λ s. s.ended) (map dumped ss)) ≡ map (λ s. s.ended) (map dumped (map rest ss))
 unfolding rest
 laters_stay n [] l = refl
 laters_stay n (s ∷ ss) l =
@@ -153,7 +170,8 @@ unfolding rest
 lasts_stay [] = refl
 lasts_stay (s ∷ ss) = ap (λ x. (s.last).answers ++ x) (lasts_stay ss)
 
-pub ended_on : (es : List EndedPart) (e : EndedPart) (ss : List Story) → AllByRecursion (λ s. length s.ended ≡ length es) ss → HaveEnded es (map (λ s. s.ended) ss) → e.answers.items ≡ flat_map (λ s. s.last.answers) ss
+pub ended_on : (es : List EndedPart) (e : EndedPart) (ss : List Story) → AllByRecursion (λ s. length s.ended ≡ length es) ss
+    → HaveEnded es (map (λ s. s.ended) ss) → e.answers.items ≡ flat_map (λ s. s.last.answers) ss
     → HaveEnded (es ++ e ∷ []) (map (λ s. s.ended) (map dumped ss))
 ended_on [] e ss l h f = (f ∙ sym (firsts_are ss l), tt)
 ended_on (x ∷ xs) e ss l h f = (

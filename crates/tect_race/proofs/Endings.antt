@@ -1,5 +1,6 @@
 -- Parts that end, client by client; and clients that begin.
-use Rattle.std.proofs.Common.{◌≡◌, ℕ, zero, suc, ◌+◌, ◌<◌, ◌≤◌, Some, List, [], ◌∷◌, ◌++◌, length, length-append, set, take, drop, get_or, refl, sym, ap, subst, ◌∙◌, arith, inl, inr, slice_get, append_assoc}
+use Rattle.std.proofs.Common.{◌≡◌, ℕ, zero, suc, ◌+◌, ◌<◌, ◌≤◌, Some, List, [], ◌∷◌, ◌++◌, length, length-append, set, take, drop, get_or}
+use Rattle.std.proofs.Common.{refl, sym, ap, subst, ◌∙◌, arith, inl, inr, slice_get, append_assoc}
 use Rattle.std.specs.List.{AllZip, flat_map}
 use Rattle.std.proofs.lemmas.Bool.{cases_lt}
 use Rattle.std.proofs.lemmas.List.{append-nil}
@@ -16,7 +17,8 @@ flat_map-snoc f (y ∷ ys) x = ap (λ l. f y ++ l) (flat_map-snoc f ys x) ∙ sy
 
 -- the item at i is changed, and those behind it are not yet
 module _ (R : Racer → Racer → Type 0) where
-  pub zip_on : (i : ℕ) (xs ys : List Racer) (r t : Racer) → i < length ys → AllZip R (take i xs) (take i ys) → drop i ys ≡ drop i xs → r ≡ get_or ys i r → R r t
+  pub zip_on : (i : ℕ) (xs ys : List Racer) (r t : Racer) → i < length ys → AllZip R (take i xs) (take i ys) → drop i ys ≡ drop i xs
+      → r ≡ get_or ys i r → R r t
       → AllZip R (take (suc i) xs) (take (suc i) (set ys i t))
   zip_on zero [] [] r t l z d v p = absurd (omega arith)
   zip_on zero [] (y ∷ ys) r t l z d v p = cc
@@ -76,12 +78,15 @@ module _ (rs : List Racer) (r : Racer) where
       let e : i ≡ length rs = omega arith in
       (e, same_at (rs ++ r ∷ []) (length rs) t r (subst (λ k. slice_get (rs ++ r ∷ []) k ≡ Some t) e f) (at_end rs r))
 
-pub new_on : (counts : Counts) (n : ℕ) (rs ts : List Racer) (r : Racer) → AreNew counts n rs → ts ≡ rs ++ r ∷ [] → r.client ≡ idle_life (n + 1) counts → r.answers.items ≡ [] → AreNew counts (n + 1) ts
+pub new_on : (counts : Counts) (n : ℕ) (rs ts : List Racer) (r : Racer) → AreNew counts n rs → ts ≡ rs ++ r ∷ []
+    → r.client ≡ idle_life (n + 1) counts → r.answers.items ≡ [] → AreNew counts (n + 1) ts
 new_on counts n rs ts r new e life none = subst (AreNew counts (n + 1)) (sym e) (record {
   count = length-append rs (r ∷ []) ∙ ap (λ k. k + 1) new.count;
   lives = λ i t f. elim (cases_lt i (length rs)) [
     | inl l ↦ new.lives i t (sym (at_front rs r i l) ∙ f)
-    | inr g ↦ (let p = last_place rs r i t f g in subst (λ (x : Racer). x.client ≡ idle_life (i + 1) counts) (sym p.1) (life ∙ ap (λ k. idle_life (k + 1) counts) (sym (p.0 ∙ new.count))))
+    | inr g ↦ (let p = last_place rs r i t f g
+        in subst (λ (x : Racer). x.client ≡ idle_life (i + 1) counts) (sym p.1)
+        (life ∙ ap (λ k. idle_life (k + 1) counts) (sym (p.0 ∙ new.count))))
   ];
   answers = λ i t f. elim (cases_lt i (length rs)) [
     | inl l ↦ new.answers i t (sym (at_front rs r i l) ∙ f)

@@ -32,7 +32,8 @@ silent_parts (x ∷ xs) p h =
     let r = silent_parts xs p s.1 in
     ((All-from_recursion IsSilent x.silent s.0, r.0), r.1)
 
-module _ (counts : Counts) (names : List (List ℕ)) (ls : List Line) (clocks : List ℕ) (k : ℕ) (r t : Racer) (s : Story) (is : Stands counts names ls clocks r s) (closed : Closed k r t) (high : r.client.clock ≤ k) (low : k < 2 ^ 63)
+module _ (counts : Counts) (names : List (List ℕ)) (ls : List Line) (clocks : List ℕ) (k : ℕ) (r t : Racer) (s : Story)
+    (is : Stands counts names ls clocks r s) (closed : Closed k r t) (high : r.client.clock ≤ k) (low : k < 2 ^ 63)
     (p : Pass) (of : IsPassOf t p) where
   abbrev life : IsLife t.client
   life = closed.life
@@ -50,20 +51,24 @@ module _ (counts : Counts) (names : List (List ℕ)) (ls : List Line) (clocks : 
   silent_now = ap (λ (w : ClientLife). w.silent) closed.client ∙ sym is.silent
 
   own_now : OwnRun counts idle_actor (all_events s.ended s.last)
-  own_now = subst (λ (c : Counts). OwnRun c idle_actor (all_events s.ended s.last)) counts_now (subst (OwnRun t.client.counts idle_actor) events_now life.run)
+  own_now = subst (λ (c : Counts). OwnRun c idle_actor (all_events s.ended s.last)) counts_now
+      (subst (OwnRun t.client.counts idle_actor) events_now life.run)
 
   early : t.client.clock < 2 ^ 63
   early = let at = ap (λ (w : ClientLife). w.clock) closed.client in omega (arith, at, high, low)
 
   limits_now : OwnLimits counts [] idle_actor (all_events s.ended s.last)
-  limits_now = subst (λ (c : Counts). OwnLimits c [] idle_actor (all_events s.ended s.last)) counts_now (subst (OwnLimits t.client.counts [] idle_actor) events_now (life.limits early))
+  limits_now = subst (λ (c : Counts). OwnLimits c [] idle_actor (all_events s.ended s.last)) counts_now
+      (subst (OwnLimits t.client.counts [] idle_actor) events_now (life.limits early))
 
   placed_now : All (IsPlaced counts) (all_moments s.ended s.last)
-  placed_now = subst (λ (c : Counts). All (IsPlaced c) (all_moments s.ended s.last)) counts_now (subst (All (IsPlaced t.client.counts)) moments_now life.placed)
+  placed_now = subst (λ (c : Counts). All (IsPlaced c) (all_moments s.ended s.last)) counts_now
+      (subst (All (IsPlaced t.client.counts)) moments_now life.placed)
 
   pub finished : HasStory counts names ls clocks p s
   finished =
-      let silent = silent_parts s.ended s.last (recursion_from_All IsSilent (all_silent s.ended s.last) (subst (All IsSilent) silent_now life.silent)) in
+      let silent = silent_parts s.ended s.last
+      (recursion_from_All IsSilent (all_silent s.ended s.last) (subst (All IsSilent) silent_now life.silent)) in
       record {
         actor = is.actor ∙ sym (ap (λ (w : ClientLife). w.actor) closed.client) ∙ sym of.actor;
         moments = of.moments ∙ moments_now;
@@ -75,7 +80,8 @@ module _ (counts : Counts) (names : List (List ℕ)) (ls : List Line) (clocks : 
           timely = is.timely;
           answers = is.answers;
           placed = placed_now;
-          noted = subst (All IsOwnNote) moments_now (All-from_recursion IsOwnNote t.client.moments (own_notes t.client.actor t.client.moments life.moments_own life.notes_own));
+          noted = subst (All IsOwnNote) moments_now
+              (All-from_recursion IsOwnNote t.client.moments (own_notes t.client.actor t.client.moments life.moments_own life.notes_own));
           silent = (All-from_recursion AllSilent s.ended silent.0, silent.1);
         };
       }

@@ -1,5 +1,6 @@
 -- How far the loop over the parts of a script has come.
-use Rattle.std.proofs.Common.{◌≡◌, ℕ, suc, ◌+◌, ◌<◌, ◌≤◌, ◌^◌, Some, List, [], ◌∷◌, ◌++◌, length, length-append, map, count_by, if◌then◌else◌, refl, sym, ap, subst, ◌∙◌, arith, slice_get}
+use Rattle.std.proofs.Common.{◌≡◌, ℕ, suc, ◌+◌, ◌<◌, ◌≤◌, ◌^◌, Some, List, [], ◌∷◌, ◌++◌, length, length-append, map, count_by}
+use Rattle.std.proofs.Common.{if◌then◌else◌, refl, sym, ap, subst, ◌∙◌, arith, slice_get}
 use Rattle.std.specs.List.{All, AllZip, AllByRecursion, flat_map}
 use Rattle.std.proofs.lemmas.List.Sums.{sum_by-cons}
 use Rattle.std.proofs.lemmas.List.Elements.{All-nil, recursion_from_All}
@@ -62,7 +63,8 @@ module _ (counts : Counts) (names : List (List ℕ)) where
   all_new [] h = tt
   all_new (r ∷ rs) h = (stands_new r h.0, all_new rs h.1)
 
-  pub stood_new : (ls : List Line) (rs : List Racer) → AreNew counts (length names) rs → IsScript (length names) ls → Stood counts names [] ls 0 rs []
+  pub stood_new : (ls : List Line) (rs : List Racer) → AreNew counts (length names) rs → IsScript (length names) ls
+      → Stood counts names [] ls 0 rs []
   stood_new ls rs new script = record {
     all = new.count;
     ready = record {
@@ -101,7 +103,8 @@ count-append (x ∷ xs) ys =
 pub no_dumps : (n : ℕ) (ls : List Line) → AllByRecursion (IsOfClient n) ls → count_by is_dump ls ≡ 0
 no_dumps n [] h = refl
 no_dumps n (lines.Client client actor act ∷ ls) h =
-    let first : count_by is_dump (lines.Client client actor act ∷ ls) ≡ 0 + count_by is_dump ls = count_cons (lines.Client client actor act) ls in
+    let first : count_by is_dump (lines.Client client actor act ∷ ls) ≡ 0 + count_by is_dump ls = count_cons (lines.Client client actor act)
+    ls in
     let rest = no_dumps n ls h.1 in
     omega arith
 no_dumps n (lines.Dump ∷ ls) h = absurd h.0
@@ -109,7 +112,8 @@ no_dumps n (lines.Store counts ∷ ls) h = absurd h.0
 no_dumps n (lines.Sweep ∷ ls) h = absurd h.0
 no_dumps n (lines.Lose disk ∷ ls) h = absurd h.0
 
-ready_closed : (counts : Counts) (ls : List Line) (k : ℕ) (r t : Racer) → Closed k r t → IsReady counts (lines.Dump ∷ ls) r → IsReady counts ls t
+ready_closed : (counts : Counts) (ls : List Line) (k : ℕ) (r t : Racer) → Closed k r t → IsReady counts (lines.Dump ∷ ls) r
+    → IsReady counts ls t
 ready_closed counts ls k r t closed ready = record {
   counts_are = ap (λ (w : ClientLife). w.counts) closed.client ∙ ready.counts_are;
   turns = ready.turns;
@@ -118,7 +122,8 @@ ready_closed counts ls k r t closed ready = record {
   few = (let f = ready.few in let n = ap (λ (w : ClientLife). (state_in w).number) closed.client in omega arith);
 }
 
-ready_all : (counts : Counts) (ls : List Line) (k : ℕ) (rs ts : List Racer) → AllClosed k rs ts → AreRacers counts (lines.Dump ∷ ls) rs → AreRacers counts ls ts
+ready_all : (counts : Counts) (ls : List Line) (k : ℕ) (rs ts : List Racer) → AllClosed k rs ts → AreRacers counts (lines.Dump ∷ ls) rs
+    → AreRacers counts ls ts
 ready_all counts ls k rs ts closed racers = record {
   own = λ i t e.
       let r = also_at ts rs i t e (sym (zip_length (Closed k) rs ts closed)) in
@@ -140,7 +145,8 @@ length_clocks [] = refl
 length_clocks (x ∷ xs) = ap suc (length_clocks xs)
 
 module _ (counts : Counts) (names : List (List ℕ)) (ls : List Line) (clocks : List ℕ) (k : ℕ) (low : k < 2 ^ 63) where
-  all_finished : (rs ts : List Racer) (ps : List Pass) (ss : List Story) → AllStand counts names ls clocks rs ss → AllClosed k rs ts → AllByRecursion (λ r. r.client.clock ≤ k) rs → AllZip IsPassOf ts ps
+  all_finished : (rs ts : List Racer) (ps : List Pass) (ss : List Story) → AllStand counts names ls clocks rs ss → AllClosed k rs ts
+      → AllByRecursion (λ r. r.client.clock ≤ k) rs → AllZip IsPassOf ts ps
       → AllZip (HasStory counts names ls clocks) ps ss
   all_finished [] [] [] [] a r high of = tt
   all_finished [] (t ∷ ts) ps ss a r high of = absurd r
@@ -158,7 +164,8 @@ later_is (p ∷ ps) = refl
 
 rests_of : (ss : List Story) → map later_parts (map (λ s. s.ended) ss) ≡ map (λ s. s.ended) (map rest_of ss)
 rests_of [] = refl
-rests_of (s ∷ ss) = ap (λ e. e ∷ map later_parts (map (λ (u : Story). u.ended) ss)) (later_is s.ended) ∙ ap (λ l. (rest_of s).ended ∷ l) (rests_of ss)
+rests_of (s ∷ ss) = ap (λ e. e ∷ map later_parts (map (λ (u : Story). u.ended) ss)) (later_is s.ended) ∙ ap (λ l. (rest_of s).ended ∷ l)
+    (rests_of ss)
 
 lasts_of : (ss : List Story) → flat_map (λ s. s.last.answers) (map rest_of ss) ≡ flat_map (λ s. s.last.answers) ss
 lasts_of [] = refl
@@ -168,31 +175,39 @@ rest_length : (ps : List Part) (n : ℕ) → length ps ≡ suc n → length (lat
 rest_length [] n e = absurd (omega arith)
 rest_length (p ∷ ps) n e = omega arith
 
-rest_lengths : (n : ℕ) (ss : List Story) → AllByRecursion (λ s. length s.ended ≡ suc n) ss → AllByRecursion (λ s. length s.ended ≡ n) (map rest_of ss)
+rest_lengths : (n : ℕ) (ss : List Story) → AllByRecursion (λ s. length s.ended ≡ suc n) ss
+    → AllByRecursion (λ s. length s.ended ≡ n) (map rest_of ss)
 rest_lengths n [] l = tt
 rest_lengths n (s ∷ ss) l = (ap (λ (e : List Part). length e) (sym (later_is s.ended)) ∙ rest_length s.ended n l.0, rest_lengths n ss l.1)
 
-first_is : (ps : List Part) (last : Part) (n : ℕ) → length ps ≡ suc n → first_answers ps ≡ (let p : Part = elim ps [ [] ↦ last | p ∷ qs ↦ p ] in p.answers)
+first_is : (ps : List Part) (last : Part) (n : ℕ) → length ps ≡ suc n
+    → first_answers ps ≡ (let p : Part = elim ps [ [] ↦ last | p ∷ qs ↦ p ] in p.answers)
 first_is [] last n e = absurd (omega arith)
 first_is (p ∷ ps) last n e = refl
 
-firsts_of : (n : ℕ) (ss : List Story) → AllByRecursion (λ s. length s.ended ≡ suc n) ss → flat_map first_answers (map (λ s. s.ended) ss) ≡ answers_now ss
+firsts_of : (n : ℕ) (ss : List Story) → AllByRecursion (λ s. length s.ended ≡ suc n) ss
+    → flat_map first_answers (map (λ s. s.ended) ss) ≡ answers_now ss
 firsts_of n [] l = refl
-firsts_of n (s ∷ ss) l = ap (λ x. x ++ flat_map first_answers (map (λ (u : Story). u.ended) ss)) (first_is s.ended s.last n l.0) ∙ ap (λ x. (part_of s).answers ++ x) (firsts_of n ss l.1)
+firsts_of n (s ∷ ss) l = ap (λ x. x ++ flat_map first_answers (map (λ (u : Story). u.ended) ss)) (first_is s.ended s.last n l.0) ∙ ap
+    (λ x. (part_of s).answers ++ x) (firsts_of n ss l.1)
 
-have_answers : (es : List EndedPart) (last : List ReportLine) (ss : List Story) → AllByRecursion (λ s. length s.ended ≡ length es) ss → HaveEnded es (map (λ s. s.ended) ss) → last ≡ flat_map (λ s. s.last.answers) ss → HaveAnswers es last ss
+have_answers : (es : List EndedPart) (last : List ReportLine) (ss : List Story) → AllByRecursion (λ s. length s.ended ≡ length es) ss
+    → HaveEnded es (map (λ s. s.ended) ss) → last ≡ flat_map (λ s. s.last.answers) ss → HaveAnswers es last ss
 have_answers [] last ss l h f = f
 have_answers (x ∷ xs) last ss l h f = (
   h.0 ∙ firsts_of (length xs) ss l,
   have_answers xs last (map rest_of ss) (rest_lengths (length xs) ss l) (subst (HaveEnded xs) (rests_of ss) h.1) (f ∙ sym (lasts_of ss)),
 )
 
-module _ (counts : Counts) (names : List (List ℕ)) (done left part : List Line) (clock : ℕ) (rs ts us : List Racer) (es : List EndedPart) (stood : Stood counts names done left clock rs es) (ran : RacersRan names part rs ts) where
-  abbrev grown : (vs : List Story) × AllStand counts names (done ++ part) (clocks_of es) ts vs × (map (λ s. s.ended) vs ≡ map (λ s. s.ended) stood.stories)
+module _ (counts : Counts) (names : List (List ℕ)) (done left part : List Line) (clock : ℕ) (rs ts us : List Racer) (es : List EndedPart)
+    (stood : Stood counts names done left clock rs es) (ran : RacersRan names part rs ts) where
+  abbrev grown : (vs : List Story) × AllStand counts names (done ++ part) (clocks_of es) ts vs
+      × (map (λ s. s.ended) vs ≡ map (λ s. s.ended) stood.stories)
   grown = all_grown counts names done part (clocks_of es) rs ts stood.stories stood.stand ran
 
   lengths : AllByRecursion (λ s. length s.ended ≡ length es) grown.0
-  lengths = lengths_of (length (clocks_of es)) (length es) grown.0 (length_clocks es) (all_parts counts names (done ++ part) (clocks_of es) ts grown.0 grown.1)
+  lengths = lengths_of (length (clocks_of es)) (length es) grown.0 (length_clocks es)
+      (all_parts counts names (done ++ part) (clocks_of es) ts grown.0 grown.1)
 
   ended_still : HaveEnded es (map (λ s. s.ended) grown.0)
   ended_still = subst (HaveEnded es) (sym grown.2) stood.ended
@@ -200,14 +215,18 @@ module _ (counts : Counts) (names : List (List ℕ)) (done left part : List Line
   pub as_many : length ts ≡ length names
   as_many = zip_length (Ran names part) rs ts ran ∙ stood.all
 
-  pub stood_on : (later : List Line) (e : EndedPart) → AreRacers counts (lines.Dump ∷ later) ts → AllByRecursion (IsOfClient (length names)) part → All (λ r. r.client.clock ≤ e.clock) ts → AllClosed e.clock ts us
-      → e.answers.items ≡ flat_map (λ r. r.answers.items) ts → Stood counts names ((done ++ part) ++ lines.Dump ∷ []) later e.clock us (es ++ e ∷ [])
+  pub stood_on : (later : List Line) (e : EndedPart) → AreRacers counts (lines.Dump ∷ later) ts
+      → AllByRecursion (IsOfClient (length names)) part → All (λ r. r.client.clock ≤ e.clock) ts → AllClosed e.clock ts us
+      → e.answers.items ≡ flat_map (λ r. r.answers.items) ts
+      → Stood counts names ((done ++ part) ++ lines.Dump ∷ []) later e.clock us (es ++ e ∷ [])
   stood_on later e ready own high closed told = record {
     all = zip_length (Closed e.clock) ts us closed ∙ as_many;
     ready = ready_all counts later e.clock ts us closed ready;
     stories = map dumped grown.0;
-    stand = subst (λ (ks : List ℕ). AllStand counts names ((done ++ part) ++ lines.Dump ∷ []) ks us (map dumped grown.0)) (sym (clocks-append es e))
-        (all_dumped counts names (done ++ part) (clocks_of es) e.clock ts us grown.0 grown.1 (recursion_from_All (λ r. r.client.clock ≤ e.clock) ts high) closed);
+    stand = subst (λ (ks : List ℕ). AllStand counts names ((done ++ part) ++ lines.Dump ∷ []) ks us (map dumped grown.0))
+        (sym (clocks-append es e))
+        (all_dumped counts names (done ++ part) (clocks_of es) e.clock ts us grown.0 grown.1
+        (recursion_from_All (λ r. r.client.clock ≤ e.clock) ts high) closed);
     ended = ended_on es e grown.0 lengths ended_still (told ∙ all_told counts names (done ++ part) (clocks_of es) ts grown.0 grown.1);
     dumps = (
         let a = count-append (done ++ part) (lines.Dump ∷ []) in
@@ -220,8 +239,10 @@ module _ (counts : Counts) (names : List (List ℕ)) (done left part : List Line
     clock_is = ap (last_clock 0) (clocks-append es e) ∙ last_is 0 e.clock (clocks_of es);
   }
 
-  pub run_ended : (later : List Line) (k : ℕ) (ps : List Pass) (last : List ReportLine) → HasPlaces counts → All (IsLineOf (length names)) (done ++ part) → AreRacers counts later ts → AllByRecursion (IsOfClient (length names)) part
-      → k < 2 ^ 63 → All (λ r. r.client.clock ≤ k) ts → AllClosed k ts us → AllZip IsPassOf us ps → last ≡ flat_map (λ r. r.answers.items) ts → HaveRun counts names (done ++ part) ps es last
+  pub run_ended : (later : List Line) (k : ℕ) (ps : List Pass) (last : List ReportLine) → HasPlaces counts
+      → All (IsLineOf (length names)) (done ++ part) → AreRacers counts later ts → AllByRecursion (IsOfClient (length names)) part
+      → k < 2 ^ 63 → All (λ r. r.client.clock ≤ k) ts → AllClosed k ts us → AllZip IsPassOf us ps
+      → last ≡ flat_map (λ r. r.answers.items) ts → HaveRun counts names (done ++ part) ps es last
   run_ended later k ps last places asked ready own low high closed taken told = record {
     places = places;
     asked = asked;
@@ -230,8 +251,11 @@ module _ (counts : Counts) (names : List (List ℕ)) (done left part : List Line
     numbered = λ i p e.
         let u = also_at ps us i p e (sym (zip_length IsPassOf us ps taken)) in
         let r = also_at us ts i u.0 u.1 (sym (zip_length (Closed k) ts us closed)) in
-        (zip_at IsPassOf us ps i u.0 p taken u.1 e).actor ∙ ap (λ (w : ClientLife). w.actor) (zip_at (Closed k) ts us i r.0 u.0 closed r.1 u.1).client ∙ ready.own i r.0 r.1;
+        (zip_at IsPassOf us ps i u.0 p taken u.1 e).actor ∙ ap (λ (w : ClientLife). w.actor)
+        (zip_at (Closed k) ts us i r.0 u.0 closed r.1 u.1).client ∙ ready.own i r.0 r.1;
     stories = grown.0;
-    each = all_finished counts names (done ++ part) (clocks_of es) k low ts us ps grown.0 grown.1 closed (recursion_from_All (λ r. r.client.clock ≤ k) ts high) taken;
-    answers = have_answers es last grown.0 lengths ended_still (told ∙ all_told counts names (done ++ part) (clocks_of es) ts grown.0 grown.1);
+    each = all_finished counts names (done ++ part) (clocks_of es) k low ts us ps grown.0 grown.1 closed
+        (recursion_from_All (λ r. r.client.clock ≤ k) ts high) taken;
+    answers = have_answers es last grown.0 lengths ended_still
+        (told ∙ all_told counts names (done ++ part) (clocks_of es) ts grown.0 grown.1);
   }

@@ -34,24 +34,30 @@ request_within c (any.File q) places = within_files (id_hash (file_of q).0) c.na
 abbrev pub CommitsAt : {W : Type 0} → (counts_of : W → Counts) → W → W → ℕ → AnyReq → Result Entry Refused → Type 0
 CommitsAt counts_of w v clock asked result = IfErr result (IsRefusalFor (label_at (counts_of w) (request_place (counts_of w) asked).0))
 
-found_other : {W : Type 0} → (counts_of : W → Counts) (c : Counts) (want found : Label) → HasPlaces c → FoundAstray counts_of (CommitsAt counts_of) c want found → IsLossOf c (faults.Astray want found)
+found_other : {W : Type 0} → (counts_of : W → Counts) (c : Counts) (want found : Label) → HasPlaces c
+    → FoundAstray counts_of (CommitsAt counts_of) c want found → IsLossOf c (faults.Astray want found)
 found_other counts_of c want found places (w, v, clock, asked, same, said) =
     let is : want ≡ label_at c (request_place c asked).0 = said.0 ∙ ap (λ (k : Counts). label_at k (request_place k asked).0) same in
     let at : want.place.0 ≡ (request_place c asked).0 = ap (λ (l : Label). l.place.0) is in
     (subst (λ n. n < c.names + c.files) (sym at) (request_within c asked places), is ∙ ap (label_at c) (sym at), said.1)
 
-lost : {W : Type 0} → (counts_of : W → Counts) (c : Counts) (played : Result (Unit {0}) RacerFault) → HasPlaces c → IfErr played (IsFaultOf counts_of (CommitsAt counts_of) c) → IfErr (race_result played) (IsLossOf c)
+lost : {W : Type 0} → (counts_of : W → Counts) (c : Counts) (played : Result (Unit {0}) RacerFault) → HasPlaces c
+    → IfErr played (IsFaultOf counts_of (CommitsAt counts_of) c) → IfErr (race_result played) (IsLossOf c)
 lost counts_of c (Ok done) places f = tt
 lost counts_of c (Err racer_faults.NoMemory) places f = tt
 lost counts_of c (Err (racer_faults.Astray want found)) places f = found_other counts_of c want found places f
 
-pub lost_racer : {W : Type 0} → (counts_of : W → Counts) (c : Counts) (played : Result (Unit {0}) RacerFault) (result : Result (Unit {0}) RaceFault) → HasPlaces c → result ≡ race_result played
+pub lost_racer : {W : Type 0}
+    → (counts_of : W → Counts) (c : Counts) (played : Result (Unit {0}) RacerFault) (result : Result (Unit {0}) RaceFault) → HasPlaces c
+    → result ≡ race_result played
     → IfErr played (IsFaultOf counts_of (CommitsAt counts_of) c) → IfErr result (IsLossOf c)
-lost_racer counts_of c played result places is f = subst (λ (r : Result (Unit {0}) RaceFault). IfErr r (IsLossOf c)) (sym is) (lost counts_of c played places f)
+lost_racer counts_of c played result places is f = subst (λ (r : Result (Unit {0}) RaceFault). IfErr r (IsLossOf c)) (sym is)
+    (lost counts_of c played places f)
 
 came : (played : Result (Unit {0}) RacerFault) → IsOk (race_result played) → IsOk played
 came (Ok done) h = refl
 came (Err fault) h = absurd (cc)
 
-pub played_too : (played : Result (Unit {0}) RacerFault) (result : Result (Unit {0}) RaceFault) → result ≡ race_result played → IsOk result → IsOk played
+pub played_too : (played : Result (Unit {0}) RacerFault) (result : Result (Unit {0}) RaceFault) → result ≡ race_result played → IsOk result
+    → IsOk played
 played_too played result is h = came played (subst IsOk is h)

@@ -22,5 +22,6 @@ pub script_of : (plan : Plan) → IsPlayable plan → IsScript (length plan.clie
 script_of plan is = record {
   in_turn = is.in_turn;
   few = is.few;
-  asked = All-from_recursion (IsLineOf (length plan.clients)) plan.lines (asked (length plan.clients) all_idle plan.lines is.in_turn is.within);
+  asked = All-from_recursion (IsLineOf (length plan.clients)) plan.lines
+      (asked (length plan.clients) all_idle plan.lines is.in_turn is.within);
 }

@@ -1,5 +1,6 @@
 -- What a racer does in some lines, and then in one more.
-use Rattle.std.proofs.Common.{◌≡◌, ◌≢◌, ℕ, ◌≤◌, Bool, true, false, nat_lt, nat_le, eqb, if◌then◌else◌, List, [], ◌∷◌, ◌++◌, filter, refl, sym, ap, subst, ◌∙◌, append_assoc, arith, ◌⊎◌, inl, inr}
+use Rattle.std.proofs.Common.{◌≡◌, ◌≢◌, ℕ, ◌≤◌, Bool, true, false, nat_lt, nat_le, eqb, if◌then◌else◌, List, [], ◌∷◌, ◌++◌, filter, refl}
+use Rattle.std.proofs.Common.{sym, ap, subst, ◌∙◌, append_assoc, arith, ◌⊎◌, inl, inr}
 use Rattle.std.proofs.lemmas.List.{append-nil}
 use Rattle.std.proofs.lemmas.Grind.{common_steps}
 use Rattle.tect_ids.specs.declared.ids.Counts.{Counts}
@@ -33,7 +34,8 @@ rises_lower low mid high (m ∷ ms) le r =
     let more : rises (stamp_of m) high ms ≡ true = grind (arith, common_steps, r) in
     rw (here) more
 
-pub rises-append : (low mid high : ℕ) (ms ns : List Moment) → rises low mid ms ≡ true → rises mid high ns ≡ true → rises low high (ms ++ ns) ≡ true
+pub rises-append : (low mid high : ℕ) (ms ns : List Moment) → rises low mid ms ≡ true → rises mid high ns ≡ true
+    → rises low high (ms ++ ns) ≡ true
 rises-append low mid high [] ns r s = rises_lower low mid high ns (grind (arith, common_steps, r)) s
 rises-append low mid high (m ∷ ms) ns r s =
     let here : nat_lt low (stamp_of m) ≡ true = grind (arith, common_steps, r) in
@@ -58,7 +60,8 @@ module _ (names : List (List ℕ)) (a b : Racer) (n : List Moment) (m : List Eve
   pub adds_events : events_in b.client ≡ events_in a.client ++ news_events n m
   adds_events = ap events_in first.life ∙ both_news a.client.moments n a.client.silent m first.late
 
-module _ (names : List (List ℕ)) (a b c : Racer) (n p : List Moment) (m q : List Event) (first : Adds names a b n m) (second : Adds names b c p q) where
+module _ (names : List (List ℕ)) (a b c : Racer) (n p : List Moment) (m q : List Event) (first : Adds names a b n m)
+    (second : Adds names b c p q) where
   late_now : (p ≡ []) ⊎ (b.client.silent ≡ []) → (p ≡ []) ⊎ (m ≡ [])
   late_now (inl e) = inl e
   late_now (inr e) = inr (none_before b.client.silent a.client.silent m (adds_silent names a b n m first) e).1
@@ -74,12 +77,14 @@ module _ (names : List (List ℕ)) (a b c : Racer) (n p : List Moment) (m q : Li
   life_both : c.client ≡ grown a.client c.client.clock (n ++ p) (m ++ q)
   life_both =
       second.life ∙ ap (λ (w : ClientLife). grown w c.client.clock p q) first.life
-      ∙ (λ i. record a.client { clock = c.client.clock; moments = append_assoc a.client.moments n p i; silent = append_assoc a.client.silent m q i })
+      ∙ (λ i. record a.client
+      { clock = c.client.clock; moments = append_assoc a.client.moments n p i; silent = append_assoc a.client.silent m q i })
 
   abbrev shown : List Event → List Event → List ReportLine
   shown before es = own_lines a.client.counts names a.client.actor before es
 
-  second_shows : own_lines b.client.counts names b.client.actor (events_in b.client) (news_events p q) ≡ shown (events_in a.client ++ news_events n m) (news_events p q)
+  second_shows : own_lines b.client.counts names b.client.actor (events_in b.client) (news_events p q) ≡ shown
+      (events_in a.client ++ news_events n m) (news_events p q)
   second_shows =
       ap (λ (k : Counts). own_lines k names b.client.actor (events_in b.client) (news_events p q)) (adds_counts names a b n m first)
       ∙ ap (λ (k : ℕ). own_lines a.client.counts names k (events_in b.client) (news_events p q)) (adds_actor names a b n m first)
@@ -88,10 +93,12 @@ module _ (names : List (List ℕ)) (a b c : Racer) (n p : List Moment) (m q : Li
   answers_both : c.answers.items ≡ a.answers.items ++ shown (events_in a.client) (news_events (n ++ p) (m ++ q))
   answers_both =
       second.answers
-      ∙ ap (λ (l : List ReportLine). l ++ own_lines b.client.counts names b.client.actor (events_in b.client) (news_events p q)) first.answers
+      ∙ ap (λ (l : List ReportLine). l ++ own_lines b.client.counts names b.client.actor (events_in b.client) (news_events p q))
+      first.answers
       ∙ append_assoc a.answers.items (shown (events_in a.client) (news_events n m)) _
       ∙ ap (λ (l : List ReportLine). a.answers.items ++ (shown (events_in a.client) (news_events n m) ++ l)) second_shows
-      ∙ ap (λ (l : List ReportLine). a.answers.items ++ l) (sym (own_lines-append a.client.counts names a.client.actor (events_in a.client) (news_events n m) (news_events p q)))
+      ∙ ap (λ (l : List ReportLine). a.answers.items ++ l)
+      (sym (own_lines-append a.client.counts names a.client.actor (events_in a.client) (news_events n m) (news_events p q)))
       ∙ ap (λ (es : List Event). a.answers.items ++ shown (events_in a.client) es) (sym added_events)
 
   pub adds_both : Adds names a c (n ++ p) (m ++ q)
@@ -109,7 +116,8 @@ ran_none names r = record {
   news = [];
   more = [];
   adds = record {
-    life = λ i. record r.client { clock = r.client.clock; moments = sym (append-nil r.client.moments) i; silent = sym (append-nil r.client.silent) i };
+    life = λ i. record r.client
+        { clock = r.client.clock; moments = sym (append-nil r.client.moments) i; silent = sym (append-nil r.client.silent) i };
     late = inl refl;
     stamps = (let h : nat_le r.client.clock r.client.clock ≡ true = grind (arith, common_steps) in h);
     answers = sym (append-nil r.answers.items);
@@ -118,12 +126,14 @@ ran_none names r = record {
 }
 
 filter_one : (actor other : ℕ) (client : List ℕ) (act : Act) (ls : List Line) (b : Bool) → eqb other actor ≡ b
-    → filter (line_concerns actor) (ls ++ lines.Client client other act ∷ []) ≡ filter (line_concerns actor) ls ++ (if b then lines.Client client other act ∷ [] else [])
+    → filter (line_concerns actor) (ls ++ lines.Client client other act ∷ []) ≡ filter (line_concerns actor) ls ++
+    (if b then lines.Client client other act ∷ [] else [])
 filter_one actor other client act ls b e =
     filter-append (line_concerns actor) ls (lines.Client client other act ∷ [])
     ∙ ap (λ (t : Bool). filter (line_concerns actor) ls ++ (if t then lines.Client client other act ∷ [] else [])) e
 
-rests_on : (names : List (List ℕ)) (ls : List Line) (client : List ℕ) (actor : ℕ) (act : Act) (r s t : Racer) → Ran names ls r s → actor ≢ s.client.actor → t ≡ s
+rests_on : (names : List (List ℕ)) (ls : List Line) (client : List ℕ) (actor : ℕ) (act : Act) (r s t : Racer) → Ran names ls r s
+    → actor ≢ s.client.actor → t ≡ s
     → Ran names (ls ++ lines.Client client actor act ∷ []) r t
 rests_on names ls client actor act r s t ran other same =
     let own : s.client.actor ≡ r.client.actor = adds_actor names r s ran.news ran.more ran.adds in
@@ -134,17 +144,21 @@ rests_on names ls client actor act r s t ran other same =
       news = ran.news;
       more = ran.more;
       adds = ran.adds;
-      does = subst (λ (ks : List Line). DoesLines r.client.actor (busy_in r.client) ks (news_events ran.news ran.more) (busy_in s.client)) (sym e) ran.does;
+      does = subst (λ (ks : List Line). DoesLines r.client.actor (busy_in r.client) ks (news_events ran.news ran.more) (busy_in s.client))
+          (sym e) ran.does;
     })
 
-plays_on : (names : List (List ℕ)) (ls : List Line) (client : List ℕ) (actor : ℕ) (act : Act) (r s t : Racer) → Ran names ls r s → actor ≡ s.client.actor → Plays names act s t
+plays_on : (names : List (List ℕ)) (ls : List Line) (client : List ℕ) (actor : ℕ) (act : Act) (r s t : Racer) → Ran names ls r s
+    → actor ≡ s.client.actor → Plays names act s t
     → Ran names (ls ++ lines.Client client actor act ∷ []) r t
 plays_on names ls client actor act r s t ran is plays =
     let own : s.client.actor ≡ r.client.actor = adds_actor names r s ran.news ran.more ran.adds in
     let yes : eqb actor r.client.actor ≡ true = ap (λ k. eqb k r.client.actor) (is ∙ own) ∙ same_number r.client.actor in
-    let e : filter (line_concerns r.client.actor) (ls ++ lines.Client client actor act ∷ []) ≡ filter (line_concerns r.client.actor) ls ++ lines.Client client actor act ∷ [] =
+    let e : filter (line_concerns r.client.actor) (ls ++ lines.Client client actor act ∷ []) ≡ filter (line_concerns r.client.actor) ls ++
+    lines.Client client actor act ∷ [] =
     filter_one r.client.actor actor client act ls true yes in
-    let line : DoesLines r.client.actor (busy_in s.client) (lines.Client client actor act ∷ []) (news_events plays.news plays.more) (busy_in t.client) = (
+    let line : DoesLines r.client.actor (busy_in s.client) (lines.Client client actor act ∷ []) (news_events plays.news plays.more)
+    (busy_in t.client) = (
       news_events plays.news plays.more,
       [],
       busy_in t.client,
@@ -153,7 +167,8 @@ plays_on names ls client actor act r s t ran is plays =
       subst (λ k. DoesLine k (busy_in s.client) act (news_events plays.news plays.more) (busy_in t.client)) own plays.does,
       (refl, refl),
     ) in
-    let all = does_lines-append r.client.actor (busy_in r.client) (busy_in s.client) (busy_in t.client) (filter (line_concerns r.client.actor) ls) (lines.Client client actor act ∷ [])
+    let all = does_lines-append r.client.actor (busy_in r.client) (busy_in s.client) (busy_in t.client)
+    (filter (line_concerns r.client.actor) ls) (lines.Client client actor act ∷ [])
     (news_events ran.news ran.more) (news_events plays.news plays.more) ran.does line in
     let f = added_events names r s t ran.news plays.news ran.more plays.more ran.adds plays.adds in
     record {
@@ -163,7 +178,8 @@ plays_on names ls client actor act r s t ran is plays =
       does = rw (e, f) all;
     }
 
-pub ran_on : (names : List (List ℕ)) (ls : List Line) (line : Line) (r s t : Racer) → Ran names ls r s → PlaysOrRests names line s t → Ran names (ls ++ line ∷ []) r t
+pub ran_on : (names : List (List ℕ)) (ls : List Line) (line : Line) (r s t : Racer) → Ran names ls r s → PlaysOrRests names line s t
+    → Ran names (ls ++ line ∷ []) r t
 ran_on names ls (lines.Client client actor act) r s t ran (inl w) = rests_on names ls client actor act r s t ran w.0 w.1
 ran_on names ls (lines.Client client actor act) r s t ran (inr w) = plays_on names ls client actor act r s t ran w.0 w.1
 ran_on names ls lines.Dump r s t ran w = absurd w
@@ -181,13 +197,15 @@ set_here : (turns : Turns) (actor other : ℕ) (turn : ClientTurn) → actor ≡
 set_here turns actor other turn is =
     ap (λ (b : Bool). if b then turn else turns other) (ap (λ k. eqb other k) is ∙ same_number other)
 
-pub ready_on : (names : List (List ℕ)) (counts : Counts) (line : Line) (later : List Line) (r t : Racer) → IsReady counts (line ∷ later) r → PlaysOrRests names line r t → IsReady counts later t
+pub ready_on : (names : List (List ℕ)) (counts : Counts) (line : Line) (later : List Line) (r t : Racer) → IsReady counts (line ∷ later) r
+    → PlaysOrRests names line r t → IsReady counts later t
 ready_on names counts (lines.Client client actor act) later r t ready (inl w) =
     subst (λ (x : Racer). IsReady counts later x) (sym w.1) (record {
       counts_are = ready.counts_are;
       turns = with_turn ready.turns actor (turn_after act);
       in_turn = ready.in_turn.3;
-      turn = subst (λ (x : ClientTurn). AtTurn x (state_in r.client)) (sym (set_there ready.turns actor r.client.actor (turn_after act) w.0)) ready.turn;
+      turn = subst (λ (x : ClientTurn). AtTurn x (state_in r.client))
+          (sym (set_there ready.turns actor r.client.actor (turn_after act) w.0)) ready.turn;
       few = (let f = ready.few in omega arith);
     })
 ready_on names counts (lines.Client client actor act) later r t ready (inr w) =
@@ -197,7 +215,8 @@ ready_on names counts (lines.Client client actor act) later r t ready (inr w) =
       counts_are = adds_counts names r t plays.news plays.more plays.adds ∙ ready.counts_are;
       turns = with_turn ready.turns actor (turn_after act);
       in_turn = ready.in_turn.3;
-      turn = subst (λ (x : ClientTurn). AtTurn x (state_in t.client)) (sym (set_here ready.turns actor t.client.actor (turn_after act) (w.0 ∙ sym own))) plays.turn;
+      turn = subst (λ (x : ClientTurn). AtTurn x (state_in t.client))
+          (sym (set_here ready.turns actor t.client.actor (turn_after act) (w.0 ∙ sym own))) plays.turn;
       few = (let f = ready.few in let g = plays.few in omega arith);
     }
 ready_on names counts lines.Dump later r t ready w = absurd w

@@ -1,5 +1,6 @@
 -- Where the racer of a client stands, and lists of which one item is changed.
-use Rattle.std.proofs.Common.{◌⊎◌, ◌≡◌, ◌≢◌, ℕ, zero, suc, ◌+◌, ◌*◌, ◌/◌, ◌%◌, ◌<◌, Some, List, [], ◌∷◌, ◌++◌, length, set, refl, sym, ap, ◌∙◌, arith, slice_get}
+use Rattle.std.proofs.Common.{◌⊎◌, ◌≡◌, ◌≢◌, ℕ, zero, suc, ◌+◌, ◌*◌, ◌/◌, ◌%◌, ◌<◌, Some, List, [], ◌∷◌, ◌++◌, length, set, refl, sym, ap}
+use Rattle.std.proofs.Common.{◌∙◌, arith, slice_get}
 use Rattle.std.proofs.lemmas.Option.{slice_get_within, same_Some}
 use Rattle.std.proofs.Math.Nat.{mod-add-div'}
 use Rattle.std.proofs.lemmas.Bool.{cases_eq}
@@ -11,7 +12,8 @@ some_at (x ∷ xs) zero l = (x, refl)
 some_at (x ∷ xs) (suc n) l = some_at xs n (omega arith)
 
 -- as long a list has an item there too
-pub also_at : {A B : Type 0} → (xs : List A) (ys : List B) (n : ℕ) (x : A) → slice_get xs n ≡ Some x → length ys ≡ length xs → (y : B) × (slice_get ys n ≡ Some y)
+pub also_at : {A B : Type 0} → (xs : List A) (ys : List B) (n : ℕ) (x : A) → slice_get xs n ≡ Some x → length ys ≡ length xs → (y : B)
+    × (slice_get ys n ≡ Some y)
 also_at xs ys n x e l = let h = slice_get_within xs n x e in some_at ys n (omega arith)
 
 pub same_at : {A : Type 0} → (xs : List A) (n : ℕ) (x y : A) → slice_get xs n ≡ Some x → slice_get xs n ≡ Some y → x ≡ y

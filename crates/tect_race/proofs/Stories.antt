@@ -1,5 +1,6 @@
 -- The stories of all clients, when a part is done and when it ends.
-use Rattle.std.proofs.Common.{◌≡◌, ℕ, ◌<◌, ◌≤◌, true, None, List, [], ◌∷◌, ◌++◌, filter, refl, sym, ap, subst, ◌∙◌, arith, ◌⊎◌, inl, inr, append_assoc}
+use Rattle.std.proofs.Common.{◌≡◌, ℕ, ◌<◌, ◌≤◌, true, None, List, [], ◌∷◌, ◌++◌, filter, refl, sym, ap, subst, ◌∙◌, arith, ◌⊎◌, inl, inr}
+use Rattle.std.proofs.Common.{append_assoc}
 use Rattle.std.specs.List.{All, AllByRecursion}
 use Rattle.std.proofs.lemmas.Grind.{common_steps}
 use Rattle.std.proofs.lemmas.List.{append-nil}
@@ -25,7 +26,8 @@ use Rattle.tect_race.proofs.RacerLines.{adds_actor, adds_counts, adds_moments, a
 
 -- ---- one list for all parts
 
-silent_with : (ps : List Part) (p : Part) (more : List Event) (q : Part) → q.silent ≡ p.silent ++ more → all_silent ps q ≡ all_silent ps p ++ more
+silent_with : (ps : List Part) (p : Part) (more : List Event) (q : Part) → q.silent ≡ p.silent ++ more
+    → all_silent ps q ≡ all_silent ps p ++ more
 silent_with [] p more q e = e
 silent_with (x ∷ xs) p more q e = ap (λ l. x.silent ++ l) (silent_with xs p more q e) ∙ sym (append_assoc x.silent (all_silent xs p) more)
 
@@ -41,29 +43,37 @@ moments_more : (ps : List Part) (p q : Part) (news : List Moment) → q.news ≡
 moments_more [] p q news e = e
 moments_more (x ∷ xs) p q news e = ap (λ l. x.news ++ l) (moments_more xs p q news e) ∙ sym (append_assoc x.news (all_moments xs p) news)
 
-events_more : (ps : List Part) (p q : Part) (es : List Event) → part_events q ≡ part_events p ++ es → all_events ps q ≡ all_events ps p ++ es
+events_more : (ps : List Part) (p q : Part) (es : List Event) → part_events q ≡ part_events p ++ es
+    → all_events ps q ≡ all_events ps p ++ es
 events_more [] p q es e = e
-events_more (x ∷ xs) p q es e = ap (λ l. part_events x ++ l) (events_more xs p q es e) ∙ sym (append_assoc (part_events x) (all_events xs p) es)
+events_more (x ∷ xs) p q es e = ap (λ l. part_events x ++ l) (events_more xs p q es e) ∙ sym
+    (append_assoc (part_events x) (all_events xs p) es)
 
 dumps_more : (ps : List Part) (p q : Part) (es : List Event) → part_events q ≡ part_events p ++ es → with_dumps ps q ≡ with_dumps ps p ++ es
 dumps_more [] p q es e = e
-dumps_more (x ∷ xs) p q es e = ap (λ l. part_events x ++ Dumped ∷ l) (dumps_more xs p q es e) ∙ sym (append_assoc (part_events x) (Dumped ∷ with_dumps xs p) es)
+dumps_more (x ∷ xs) p q es e = ap (λ l. part_events x ++ Dumped ∷ l) (dumps_more xs p q es e) ∙ sym
+    (append_assoc (part_events x) (Dumped ∷ with_dumps xs p) es)
 
-timely_more : (low : ℕ) (clocks : List ℕ) (ps : List Part) (p q : Part) (news : List Moment) → q.news ≡ p.news ++ news → All (λ m. last_clock low clocks < stamp_of m) news → Timely low clocks ps p → Timely low clocks ps q
-timely_more low [] [] p q news e late t = subst (All (λ m. low < stamp_of m)) (sym e) (All-append (λ m. low < stamp_of m) p.news news t late)
+timely_more : (low : ℕ) (clocks : List ℕ) (ps : List Part) (p q : Part) (news : List Moment) → q.news ≡ p.news ++ news
+    → All (λ m. last_clock low clocks < stamp_of m) news → Timely low clocks ps p → Timely low clocks ps q
+timely_more low [] [] p q news e late t = subst (All (λ m. low < stamp_of m)) (sym e)
+    (All-append (λ m. low < stamp_of m) p.news news t late)
 timely_more low (k ∷ ks) (x ∷ xs) p q news e late t = (t.0, t.1, timely_more k ks xs p q news e late t.2)
 timely_more low [] (x ∷ xs) p q news e late t = absurd t
 timely_more low (k ∷ ks) [] p q news e late t = absurd t
 
-answers_more : (counts : Counts) (names : List (List ℕ)) (actor : ℕ) (before : List Event) (ps : List Part) (p q : Part) (es : List Event) → part_events q ≡ part_events p ++ es
-    → q.answers ≡ p.answers ++ own_lines counts names actor (before ++ all_events ps p) es → Answers counts names actor before ps p → Answers counts names actor before ps q
+answers_more : (counts : Counts) (names : List (List ℕ)) (actor : ℕ) (before : List Event) (ps : List Part) (p q : Part) (es : List Event)
+    → part_events q ≡ part_events p ++ es
+    → q.answers ≡ p.answers ++ own_lines counts names actor (before ++ all_events ps p) es → Answers counts names actor before ps p
+    → Answers counts names actor before ps q
 answers_more counts names actor before [] p q es e f a =
     f ∙ ap (λ (l : List ReportLine). l ++ own_lines counts names actor (before ++ part_events p) es) a
     ∙ sym (own_lines-append counts names actor before (part_events p) es) ∙ ap (own_lines counts names actor before) (sym e)
 answers_more counts names actor before (x ∷ xs) p q es e f a = (
   a.0,
   answers_more counts names actor (before ++ part_events x) xs p q es e
-      (f ∙ ap (λ (l : List Event). p.answers ++ own_lines counts names actor l es) (sym (append_assoc before (part_events x) (all_events xs p)))) a.1,
+      (f ∙ ap (λ (l : List Event). p.answers ++ own_lines counts names actor l es)
+      (sym (append_assoc before (part_events x) (all_events xs p)))) a.1,
 )
 
 -- ---- stamps
@@ -94,7 +104,8 @@ weaker a b ms le all = λ k d l. (let h = all k d l in omega arith)
 
 -- ---- a part is done
 
-module _ (counts : Counts) (names : List (List ℕ)) (done ls : List Line) (clocks : List ℕ) (r t : Racer) (s : Story) (is : Stands counts names done clocks r s) (ran : Ran names ls r t) where
+module _ (counts : Counts) (names : List (List ℕ)) (done ls : List Line) (clocks : List ℕ) (r t : Racer) (s : Story)
+    (is : Stands counts names done clocks r s) (ran : Ran names ls r t) where
   abbrev es : List Event
   es = news_events ran.news ran.more
 
@@ -124,7 +135,8 @@ module _ (counts : Counts) (names : List (List ℕ)) (done ls : List Line) (cloc
   does_all =
       let part : DoesLines s.actor (busy_in r.client) (filter (line_concerns s.actor) ls) es (busy_in t.client) =
       subst (λ k. DoesLines k (busy_in r.client) (filter (line_concerns k) ls) es (busy_in t.client)) (sym is.actor) ran.does in
-      let all = does_lines-append s.actor None (busy_in r.client) (busy_in t.client) (filter (line_concerns s.actor) done) (filter (line_concerns s.actor) ls) (with_dumps s.ended s.last) es is.does part in
+      let all = does_lines-append s.actor None (busy_in r.client) (busy_in t.client) (filter (line_concerns s.actor) done)
+      (filter (line_concerns s.actor) ls) (with_dumps s.ended s.last) es is.does part in
       rw (filter-append (line_concerns s.actor) done ls, dumps_more s.ended s.last grown_part es part_more) all
 
   clock_up : r.client.clock ≤ t.client.clock
@@ -135,17 +147,23 @@ module _ (counts : Counts) (names : List (List ℕ)) (done ls : List Line) (cloc
   stands_grown = record {
     counts_are = adds_counts names r t ran.news ran.more ran.adds ∙ is.counts_are;
     actor = is.actor ∙ sym (adds_actor names r t ran.news ran.more ran.adds);
-    moments = moments_more s.ended s.last grown_part ran.news refl ∙ ap (λ l. l ++ ran.news) is.moments ∙ sym (adds_moments names r t ran.news ran.more ran.adds);
-    silent = silent_with s.ended s.last ran.more grown_part refl ∙ ap (λ l. l ++ ran.more) is.silent ∙ sym (adds_silent names r t ran.news ran.more ran.adds);
-    events = events_more s.ended s.last grown_part es part_more ∙ ap (λ l. l ++ es) is.events ∙ sym (adds_events names r t ran.news ran.more ran.adds);
+    moments = moments_more s.ended s.last grown_part ran.news refl ∙ ap (λ l. l ++ ran.news) is.moments ∙ sym
+        (adds_moments names r t ran.news ran.more ran.adds);
+    silent = silent_with s.ended s.last ran.more grown_part refl ∙ ap (λ l. l ++ ran.more) is.silent ∙ sym
+        (adds_silent names r t ran.news ran.more ran.adds);
+    events = events_more s.ended s.last grown_part es part_more ∙ ap (λ l. l ++ es) is.events ∙ sym
+        (adds_events names r t ran.news ran.more ran.adds);
     does = does_all;
     timely = timely_more 0 clocks s.ended s.last grown_part ran.news refl
-        (All-from_recursion (λ m. last_clock 0 clocks < stamp_of m) ran.news (above (last_clock 0 clocks) r.client.clock t.client.clock ran.news is.floor ran.adds.stamps)) is.timely;
-    below = All-append (λ m. stamp_of m ≤ t.client.clock) (s.last).news ran.news (weaker r.client.clock t.client.clock (s.last).news clock_up is.below)
+        (All-from_recursion (λ m. last_clock 0 clocks < stamp_of m) ran.news
+        (above (last_clock 0 clocks) r.client.clock t.client.clock ran.news is.floor ran.adds.stamps)) is.timely;
+    below = All-append (λ m. stamp_of m ≤ t.client.clock) (s.last).news ran.news
+        (weaker r.client.clock t.client.clock (s.last).news clock_up is.below)
         (All-from_recursion (λ m. stamp_of m ≤ t.client.clock) ran.news (up_to r.client.clock t.client.clock ran.news ran.adds.stamps));
     floor = (let f = is.floor in let u = clock_up in omega arith);
     answers = answers_more counts names s.actor [] s.ended s.last grown_part es part_more refl is.answers;
-    told = ran.adds.answers ∙ ap (λ l. l ++ own_lines r.client.counts names r.client.actor (events_in r.client) es) is.told ∙ ap (λ l. (s.last).answers ++ l) shown_is;
+    told = ran.adds.answers ∙ ap (λ l. l ++ own_lines r.client.counts names r.client.actor (events_in r.client) es) is.told ∙ ap
+        (λ l. (s.last).answers ++ l) shown_is;
     parts = is.parts;
   }
 

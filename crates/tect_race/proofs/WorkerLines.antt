@@ -1,5 +1,6 @@
 -- What a worker does in some lines, and then in one more.
-use Rattle.std.proofs.Common.{◌≡◌, ◌≢◌, ℕ, ◌+◌, ◌-◌, ◌*◌, ◌/◌, ◌%◌, ◌^◌, ◌<◌, ◌≤◌, Some, Result, Ok, Err, OnOk, IsOk, List, [], ◌∷◌, ◌++◌, length, set, refl, sym, ap, subst, ◌∙◌, arith, ◌⊎◌, inl, inr, slice_get, slice_index_or, length-set}
+use Rattle.std.proofs.Common.{◌≡◌, ◌≢◌, ℕ, ◌+◌, ◌-◌, ◌*◌, ◌/◌, ◌%◌, ◌^◌, ◌<◌, ◌≤◌, Some, Result, Ok, Err, OnOk, IsOk, List, [], ◌∷◌, ◌++◌}
+use Rattle.std.proofs.Common.{length, set, refl, sym, ap, subst, ◌∙◌, arith, ◌⊎◌, inl, inr, slice_get, slice_index_or, length-set}
 use Rattle.std.proofs.lemmas.Option.{slice_get_read}
 use Rattle.tect_ids.specs.declared.ids.Counts.{Counts}
 use Rattle.tect_ids.specs.declared.script.Act.{Act}
@@ -24,7 +25,8 @@ worker_ran_none names c = record {
   each = λ slot r t e f. subst (λ (x : Racer). Ran names [] r x) (same_at c.racers.items slot r t e f) (ran_none names r);
 }
 
-pub worker_ran_on : (names : List (List ℕ)) (ls : List Line) (line : Line) (a b c : Worker) → WorkerRan names ls a b → WorkerPlays names line b c → WorkerRan names (ls ++ line ∷ []) a c
+pub worker_ran_on : (names : List (List ℕ)) (ls : List Line) (line : Line) (a b c : Worker) → WorkerRan names ls a b
+    → WorkerPlays names line b c → WorkerRan names (ls ++ line ∷ []) a c
 worker_ran_on names ls line a b c ran plays = record {
   number = plays.number ∙ ran.number;
   count = plays.count ∙ ran.count;
@@ -51,7 +53,8 @@ worker_ready_on counts names clients worker_count line later c d is plays = reco
   );
   own = λ slot t f.
       let r = also_at d.racers.items c.racers.items slot t f (sym plays.count) in
-      plays_actor names line r.0 t (plays.each slot r.0 t r.1 f) ∙ is.own slot r.0 r.1 ∙ ap (λ k. slot * worker_count + k + 1) (sym plays.number);
+      plays_actor names line r.0 t (plays.each slot r.0 t r.1 f) ∙ is.own slot r.0 r.1 ∙ ap (λ k. slot * worker_count + k + 1)
+      (sym plays.number);
   ready = λ slot t f.
       let r = also_at d.racers.items c.racers.items slot t f (sym plays.count) in
       ready_on names counts line later r.0 t (is.ready slot r.0 r.1) (plays.each slot r.0 t r.1 f);
@@ -59,7 +62,8 @@ worker_ready_on counts names clients worker_count line later c d is plays = reco
 
 -- ---- a line of a client of another worker
 
-module _ (counts : Counts) (names : List (List ℕ)) (clients worker_count : ℕ) (client : List ℕ) (actor : ℕ) (act : Act) (later : List Line) (c : Worker)
+module _ (counts : Counts) (names : List (List ℕ)) (clients worker_count : ℕ) (client : List ℕ) (actor : ℕ) (act : Act) (later : List Line)
+    (c : Worker)
     (is : IsWorker counts clients worker_count (lines.Client client actor act ∷ later) c) (low : 1 ≤ actor) where
   not_own : (actor - 1) % worker_count ≢ c.number → (slot : ℕ) (r : Racer) → slice_get c.racers.items slot ≡ Some r → actor ≢ r.client.actor
   not_own ne slot r e same =
@@ -95,20 +99,27 @@ module _ (counts : Counts) (names : List (List ℕ)) (clients worker_count : ℕ
         let x : actor - 1 ≡ slot * worker_count + c.number = omega arith in
         ne (sym (ap (λ k. k / worker_count) x ∙ place_slot worker_count c.number slot is.number))
 
-    own_or_other : (r t : Racer) (d : Worker) → slice_get c.racers.items at ≡ Some r → d.racers.items ≡ set c.racers.items at t → Plays names act r t
-        → (slot : ℕ) (x y : Racer) → (slot ≡ at) ⊎ (slot ≢ at) → slice_get c.racers.items slot ≡ Some x → slice_get d.racers.items slot ≡ Some y
+    own_or_other : (r t : Racer) (d : Worker) → slice_get c.racers.items at ≡ Some r → d.racers.items ≡ set c.racers.items at t
+        → Plays names act r t
+        → (slot : ℕ) (x y : Racer) → (slot ≡ at) ⊎ (slot ≢ at) → slice_get c.racers.items slot ≡ Some x
+        → slice_get d.racers.items slot ≡ Some y
         → PlaysOrRests names (lines.Client client actor act) x y
     own_or_other r t d e items plays slot x y (inl here) f g =
         let xr : x ≡ r = same_at c.racers.items at x r (subst (λ k. slice_get c.racers.items k ≡ Some x) here f) e in
         let yt : y ≡ t = same_at d.racers.items at y t (subst (λ k. slice_get d.racers.items k ≡ Some y) here g)
         (subst (λ (l : List Racer). slice_get l at ≡ Some t) (sym items) (set_here c.racers.items at t own_slot)) in
-        inr (sym (own_actor r e) ∙ ap (λ (w : Racer). w.client.actor) (sym xr), subst (λ (w : Racer). Plays names act w y) (sym xr) (subst (λ (w : Racer). Plays names act r w) (sym yt) plays))
+        inr (
+          sym (own_actor r e) ∙ ap (λ (w : Racer). w.client.actor) (sym xr),
+          subst (λ (w : Racer). Plays names act w y) (sym xr)
+              (subst (λ (w : Racer). Plays names act r w) (sym yt) plays),
+        )
     own_or_other r t d e items plays slot x y (inr there) f g =
         let same : slice_get d.racers.items slot ≡ slice_get c.racers.items slot =
         ap (λ (l : List Racer). slice_get l slot) items ∙ set_there c.racers.items at slot t there in
         inl (other slot there x f, same_at c.racers.items slot y x (sym same ∙ g) f)
 
-    pub worker_plays : (r t : Racer) (d : Worker) → slice_get c.racers.items at ≡ Some r → d.number ≡ c.number → d.racers.items ≡ set c.racers.items at t → Plays names act r t
+    pub worker_plays : (r t : Racer) (d : Worker) → slice_get c.racers.items at ≡ Some r → d.number ≡ c.number
+        → d.racers.items ≡ set c.racers.items at t → Plays names act r t
         → WorkerPlays names (lines.Client client actor act) c d
     worker_plays r t d e number items plays = record {
       number = number;
@@ -124,8 +135,10 @@ on_ok (Ok x) (Err e) k f h = tt
 on_ok (Err e) (Ok y) k f h = let w = k refl in cc
 on_ok (Err e) (Err d) k f h = tt
 
-module _ (counts : Counts) (names : List (List ℕ)) (clients worker_count : ℕ) (line : Line) (client : List ℕ) (actor : ℕ) (act : Act) (c : Worker)
-    (is : line ≡ lines.Client client actor act) (of : IsOfClient clients line) (ready : (later : List Line) × IsWorker counts clients worker_count (line ∷ later) c) where
+module _ (counts : Counts) (names : List (List ℕ)) (clients worker_count : ℕ) (line : Line) (client : List ℕ) (actor : ℕ) (act : Act)
+    (c : Worker)
+    (is : line ≡ lines.Client client actor act) (of : IsOfClient clients line)
+    (ready : (later : List Line) × IsWorker counts clients worker_count (line ∷ later) c) where
   abbrev own_line : Line
   own_line = lines.Client client actor act
 
@@ -136,7 +149,8 @@ module _ (counts : Counts) (names : List (List ℕ)) (clients worker_count : ℕ
   worker_is = subst (λ (l : Line). IsWorker counts clients worker_count (l ∷ ready.0) c) is ready.1
 
   pub line_rests : ((actor - 1) % worker_count ≡ c.number → ⊥) → WorkerPlays names line c c
-  line_rests ne = subst (λ (l : Line). WorkerPlays names l c c) (sym is) (worker_rests counts names clients worker_count client actor act ready.0 c worker_is bounds.0 ne)
+  line_rests ne = subst (λ (l : Line). WorkerPlays names l c c) (sym is)
+      (worker_rests counts names clients worker_count client actor act ready.0 c worker_is bounds.0 ne)
 
   module _ (mine : (actor - 1) % worker_count ≡ c.number) where
     pub line_slot : (actor - 1) / worker_count < length c.racers.items
@@ -166,7 +180,10 @@ module _ (counts : Counts) (names : List (List ℕ)) (clients worker_count : ℕ
           let turns = racer_ready.turns in
           (turns actor, subst (λ k. AtTurn (turns k) (state_in r.client)) actor_is racer_ready.turn, racer_ready.in_turn.2)
 
-      pub line_plays : {E F : Type 0} → (o : Result (Unit {0}) E) (q : Result (Unit {0}) F) → (IsOk q → IsOk o) → (t : Racer) (d : Worker) → d.number ≡ c.number → d.racers.items ≡ set c.racers.items ((actor - 1) / worker_count) t
+      pub line_plays : {E F : Type 0} → (o : Result (Unit {0}) E) (q : Result (Unit {0}) F) → (IsOk q → IsOk o) → (t : Racer) (d : Worker)
+          → d.number ≡ c.number → d.racers.items ≡ set c.racers.items ((actor - 1) / worker_count) t
           → OnOk o (Plays names act r t) → OnOk q (WorkerPlays names line c d)
       line_plays o q k t d number items =
-          on_ok o q k (λ plays. subst (λ (l : Line). WorkerPlays names l c d) (sym is) (worker_plays counts names clients worker_count client actor act ready.0 c worker_is bounds.0 mine bounds.1 r t d here number items plays))
+          on_ok o q k (λ plays. subst (λ (l : Line). WorkerPlays names l c d) (sym is)
+          (worker_plays counts names clients worker_count client actor act ready.0 c worker_is bounds.0 mine bounds.1 r t d here number
+          items plays))

@@ -35,7 +35,8 @@ abbrev pub BatchComes : Counts → List (List ℕ) → ℕ → List Line → Lis
 BatchComes counts names worker_count ls later old (Ok new) = AllZip (WorkerEnds counts names worker_count ls later) old new.items
 BatchComes counts names worker_count ls later old (Err e) = IsLossOf counts e
 
-pub record BatchCame (counts : Counts) (names : List (List ℕ)) (worker_count : ℕ) (ls later : List Line) (old : List Worker) (result : Result (Vec Worker Global) RaceFault) : Type 0 where
+pub record BatchCame (counts : Counts) (names : List (List ℕ)) (worker_count : ℕ) (ls later : List Line) (old : List Worker)
+    (result : Result (Vec Worker Global) RaceFault) : Type 0 where
   pub so : BatchComes counts names worker_count ls later old result
 
 -- the workers of a batch that came to the end

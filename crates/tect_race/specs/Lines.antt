@@ -15,7 +15,8 @@ pub record Ran (names : List (List ℕ)) (ls : List Line) (old new : Racer) : Ty
   pub news : List Moment
   pub more : List Event
   pub adds : Adds names old new news more
-  pub does : DoesLines old.client.actor (busy_in old.client) (filter (line_concerns old.client.actor) ls) (news_events news more) (busy_in new.client)
+  pub does : DoesLines old.client.actor (busy_in old.client) (filter (line_concerns old.client.actor) ls) (news_events news more)
+      (busy_in new.client)
 
 -- It did the line if that is its own, and else nothing.
 abbrev pub PlaysOrRests : List (List ℕ) → Line → Racer → Racer → Type 0

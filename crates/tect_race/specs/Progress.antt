@@ -13,7 +13,8 @@ use Rattle.tect_race.specs.Standing.{AllStand, HaveEnded, last_clock}
 use Rattle.tect_race.specs.declared.rounds.Progress.{Progress}
 
 -- These lines are done, and ended parts at their dumps, the last one at that clock. All clients are ready for the lines that are left.
-pub record Stood (counts : Counts) (names : List (List ℕ)) (done left : List Line) (clock : ℕ) (rs : List Racer) (es : List EndedPart) : Type 0 where
+pub record Stood (counts : Counts) (names : List (List ℕ)) (done left : List Line) (clock : ℕ) (rs : List Racer) (es : List EndedPart)
+    : Type 0 where
   pub all : length rs ≡ length names
   pub ready : AreRacers counts left rs
   pub stories : List Story

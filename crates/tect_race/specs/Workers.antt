@@ -16,13 +16,15 @@ use Rattle.tect_race.specs.Ready.{IsWorker}
 pub record WorkerPlays (names : List (List ℕ)) (line : Line) (old new : Worker) : Type 0 where
   pub number : new.number ≡ old.number
   pub count : length new.racers.items ≡ length old.racers.items
-  pub each : (slot : ℕ) (r t : Racer) → slice_get old.racers.items slot ≡ Some r → slice_get new.racers.items slot ≡ Some t → PlaysOrRests names line r t
+  pub each : (slot : ℕ) (r t : Racer) → slice_get old.racers.items slot ≡ Some r → slice_get new.racers.items slot ≡ Some t
+      → PlaysOrRests names line r t
 
 -- some lines
 pub record WorkerRan (names : List (List ℕ)) (ls : List Line) (old new : Worker) : Type 0 where
   pub number : new.number ≡ old.number
   pub count : length new.racers.items ≡ length old.racers.items
-  pub each : (slot : ℕ) (r t : Racer) → slice_get old.racers.items slot ≡ Some r → slice_get new.racers.items slot ≡ Some t → Ran names ls r t
+  pub each : (slot : ℕ) (r t : Racer) → slice_get old.racers.items slot ≡ Some r → slice_get new.racers.items slot ≡ Some t
+      → Ran names ls r t
 
 -- some lines, after which the worker is ready for those that are left
 pub record WorkerEnds (counts : Counts) (names : List (List ℕ)) (worker_count : ℕ) (ls later : List Line) (old new : Worker) : Type 0 where
@@ -34,7 +36,8 @@ abbrev pub WorkerComes : Counts → List (List ℕ) → ℕ → List Line → Li
 WorkerComes counts names worker_count ls later old (Ok new) = WorkerEnds counts names worker_count ls later old new
 WorkerComes counts names worker_count ls later old (Err e) = IsLossOf counts e
 
-pub record WorkerCame (counts : Counts) (names : List (List ℕ)) (worker_count : ℕ) (ls later : List Line) (old : Worker) (result : Result Worker RaceFault) : Type 0 where
+pub record WorkerCame (counts : Counts) (names : List (List ℕ)) (worker_count : ℕ) (ls later : List Line) (old : Worker)
+    (result : Result Worker RaceFault) : Type 0 where
   pub so : WorkerComes counts names worker_count ls later old result
 
 -- all workers

@@ -5,10 +5,10 @@
 mod part_ends;
 mod racing;
 mod rounds;
-mod threads;
-mod workers;
 #[cfg(test)]
 mod tests;
+mod threads;
+mod workers;
 
 pub use race_ends::{RaceFault, Raced};
 pub use racing::race;

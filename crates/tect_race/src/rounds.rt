@@ -109,7 +109,8 @@ fn end_script<R: Threads + Wait + Sync, G: Gate + Sync>(
     requires worker_count { 0 < shared.now.worker_count }
     requires script { IsScript (length shared.now.clients.now) shared.now.lines.now }
     requires come { HasCome shared.now.places.now shared.now.clients.now shared.now.lines.now (length shared.now.lines.now) progress }
-    ensures run { IfOk result (λ run. HaveRun shared.now.places.now shared.now.clients.now shared.now.lines.now run.passes.items run.ended.items run.last.items) }
+    ensures run { IfOk result
+        (λ run. HaveRun shared.now.places.now shared.now.clients.now shared.now.lines.now run.passes.items run.ended.items run.last.items) }
     ensures fault { IfErr result (IsLossOf shared.now.places.now) }
 {
     let Progress {
@@ -138,7 +139,8 @@ pub fn run_script<R: Threads + Wait + Sync, G: Gate + Sync>(
     requires worker_count { 0 < shared.now.worker_count }
     requires clients { length shared.now.clients.now ≤ 64 }
     requires script { IsScript (length shared.now.clients.now) shared.now.lines.now }
-    ensures run { IfOk result (λ run. HaveRun counts shared.now.clients.now shared.now.lines.now run.passes.items run.ended.items run.last.items) }
+    ensures run { IfOk result
+        (λ run. HaveRun counts shared.now.clients.now shared.now.lines.now run.passes.items run.ended.items run.last.items) }
     ensures fault { IfErr result (IsLossOf shared.now.places.now) }
 {
     let mut progress = Progress {

@@ -77,8 +77,11 @@ fn run_batch<R: Wait, G: Gate>(
     requires places { HasPlaces shared.now.places.now }
     requires part { (start ≤ end) × (end ≤ length shared.now.lines.now) }
     requires clients { All (IsOfClient (length shared.now.clients.now)) (slice_range shared.now.lines.now start end) }
-    requires ready { All (IsWorker shared.now.places.now (length shared.now.clients.now) shared.now.worker_count (drop start shared.now.lines.now)) batch.items }
-    ensures { BatchCame shared.now.places.now shared.now.clients.now shared.now.worker_count (slice_range shared.now.lines.now start end) (drop end shared.now.lines.now) batch.items result }
+    requires ready { All
+        (IsWorker shared.now.places.now (length shared.now.clients.now) shared.now.worker_count (drop start shared.now.lines.now))
+        batch.items }
+    ensures { BatchCame shared.now.places.now shared.now.clients.now shared.now.worker_count (slice_range shared.now.lines.now start end)
+        (drop end shared.now.lines.now) batch.items result }
 {
     let mut done = Vec::new(shared.alloc);
     'workers: for worker in batch {
@@ -120,9 +123,13 @@ fn run_workers<R: Threads + Wait + Sync, G: Gate + Sync>(
     requires places { HasPlaces shared.now.places.now }
     requires part { (start ≤ end) × (end ≤ length shared.now.lines.now) }
     requires clients { All (IsOfClient (length shared.now.clients.now)) (slice_range shared.now.lines.now start end) }
-    requires ready { AreWorkers shared.now.places.now (length shared.now.clients.now) shared.now.worker_count (drop start shared.now.lines.now) workers.items }
-    ensures ran { IfOk result (λ now. WorkersRan shared.now.clients.now (slice_range shared.now.lines.now start end) workers.items now.items) }
-    ensures ready { IfOk result (λ now. AreWorkers shared.now.places.now (length shared.now.clients.now) shared.now.worker_count (drop end shared.now.lines.now) now.items) }
+    requires ready { AreWorkers shared.now.places.now (length shared.now.clients.now) shared.now.worker_count
+        (drop start shared.now.lines.now) workers.items }
+    ensures ran { IfOk result
+        (λ now. WorkersRan shared.now.clients.now (slice_range shared.now.lines.now start end) workers.items now.items) }
+    ensures ready { IfOk result
+        (λ now. AreWorkers shared.now.places.now (length shared.now.clients.now) shared.now.worker_count (drop end shared.now.lines.now)
+        now.items) }
     ensures fault { IfErr result (IsLossOf shared.now.places.now) }
 {
     let rt = shared.rt;

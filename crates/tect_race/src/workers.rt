@@ -69,7 +69,9 @@ pub fn assign(alloc: Global, racers: Vec<Racer>, worker_count: u32) -> Result<Ve
 pub fn collect(alloc: Global, workers: Vec<Worker>, clients: usize) -> Result<Vec<Racer>, NoMemory>
     requires some { 0 < length workers.items }
     requires assigned { (racers : List OneRacer) × (length racers ≡ clients) × AreAssigned (length workers.items) racers workers.items }
-    ensures { IfOk result (λ all. (racers : List OneRacer) → length racers ≡ clients → AreAssigned (length workers.items) racers workers.items → all.items ≡ racers) }
+    ensures { IfOk result
+        (λ all. (racers : List OneRacer) → length racers ≡ clients → AreAssigned (length workers.items) racers workers.items
+        → all.items ≡ racers) }
 {
     let mut workers = workers;
     let mut racers = Vec::new(alloc);
@@ -103,7 +105,8 @@ fn play_line<R: Wait, G: Gate>(
 ) -> Result<(), RaceFault>
     requires places { HasPlaces shared.now.places.now }
     requires client { IsOfClient (length shared.now.clients.now) line.now }
-    requires ready { (later : List ScriptLine) × IsWorker shared.now.places.now (length shared.now.clients.now) shared.now.worker_count (line.now ∷ later) worker.old }
+    requires ready { (later : List ScriptLine)
+        × IsWorker shared.now.places.now (length shared.now.clients.now) shared.now.worker_count (line.now ∷ later) worker.old }
     ensures plays { OnOk result (WorkerPlays shared.now.clients.now line.now worker.old worker.new) }
     ensures fault { IfErr result (IsLossOf shared.now.places.now) }
 {
@@ -141,8 +144,10 @@ pub fn run_worker<R: Wait, G: Gate>(
     requires places { HasPlaces shared.now.places.now }
     requires part { (start ≤ end) × (end ≤ length shared.now.lines.now) }
     requires clients { All (IsOfClient (length shared.now.clients.now)) (slice_range shared.now.lines.now start end) }
-    requires ready { IsWorker shared.now.places.now (length shared.now.clients.now) shared.now.worker_count (drop start shared.now.lines.now) worker }
-    ensures { WorkerCame shared.now.places.now shared.now.clients.now shared.now.worker_count (slice_range shared.now.lines.now start end) (drop end shared.now.lines.now) worker result }
+    requires ready { IsWorker shared.now.places.now (length shared.now.clients.now) shared.now.worker_count
+        (drop start shared.now.lines.now) worker }
+    ensures { WorkerCame shared.now.places.now shared.now.clients.now shared.now.worker_count (slice_range shared.now.lines.now start end)
+        (drop end shared.now.lines.now) worker result }
 {
     let mut worker = worker;
     let part = &shared.lines[start..end];

@@ -16,8 +16,10 @@ loop-number-preserved c =
     record {
       machines = rw (c.in_ok-push.ensures.items, map-append)
           (ap (λ (ms : List Files). ms ++ k.machine ∷ []) c.loop-number.invariant.machines
-          ∙ ap (λ (m : Files). replicate c.loop-number.number empty ++ m ∷ []) c.open_files.ensures.state ∙ replicate-append-replicate c.loop-number.number 1 empty);
-      new = rw (c.in_ok-push.ensures.items, map-append) (new_push c.args.counts.now c.args.counts.now.names c.loop-number.number _ (File k) c.loop-number.invariant.new
+          ∙ ap (λ (m : Files). replicate c.loop-number.number empty ++ m ∷ []) c.open_files.ensures.state ∙ replicate-append-replicate
+          c.loop-number.number 1 empty);
+      new = rw (c.in_ok-push.ensures.items, map-append)
+          (new_push c.args.counts.now c.args.counts.now.names c.loop-number.number _ (File k) c.loop-number.invariant.new
           (c.open_files.ensures.label ∙ file_label c.args.counts.now c.loop-number.number (omega (arith, c.requires.names)))
           (ap (λ (h : Logged Entry). h.items) c.open_files.ensures.history.0));
     }

@@ -16,5 +16,7 @@ loop-at-preserved c = record {
       let n = c.len.result in
       let next : n ≡ length kepts = search rules in
       let there : counts.names ≤ n = grind (arith, common_steps) in
-      rw c.in_ok-add.ensures.grown (one_more counts kepts (File c.in_ok-kept.kept) n c.loop-at.invariant.first next c.in_ok-kept.ensures.label (file_place counts n there));
+      rw c.in_ok-add.ensures.grown
+      (one_more counts kepts (File c.in_ok-kept.kept) n c.loop-at.invariant.first next c.in_ok-kept.ensures.label
+      (file_place counts n there));
 }

@@ -15,5 +15,7 @@ loop-at-preserved c = record {
       let n = c.len.result in
       let next : n ≡ length kepts = search rules in
       let there : n < counts.names = grind (arith, common_steps) in
-      rw c.in_ok-add.ensures.grown (one_more counts kepts (Name c.in_ok-kept.kept) n c.loop-at.invariant.first next c.in_ok-kept.ensures.label (name_place counts n there));
+      rw c.in_ok-add.ensures.grown
+      (one_more counts kepts (Name c.in_ok-kept.kept) n c.loop-at.invariant.first next c.in_ok-kept.ensures.label
+      (name_place counts n there));
 }

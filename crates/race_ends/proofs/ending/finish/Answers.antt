@@ -16,7 +16,8 @@ use Rattle.race_ends.proofs.ending.finish.Goals as goal
 
 pub gather_all-requires-clause-places : goal.gather_all-requires-clause-places
 gather_all-requires-clause-places c =
-    subst (λ (ks : List AnyKept). StandInOrder 0 ks) (sym c.as_slice.ensures.value) (started_stand c.args.places c.in_ok-kepts.kepts.items c.in_ok-kepts.ensures.all)
+    subst (λ (ks : List AnyKept). StandInOrder 0 ks) (sym c.as_slice.ensures.value)
+    (started_stand c.args.places c.in_ok-kepts.kepts.items c.in_ok-kepts.ensures.all)
 
 pub gather_all-requires-clause-actors : goal.gather_all-requires-clause-actors
 gather_all-requires-clause-actors c =
@@ -32,7 +33,8 @@ returns-in_err-entries-clause-fault c =
     let started = subst (λ (counts : Counts). AreStarted counts kepts) c.requires.places c.in_ok-kepts.ensures.all in
     let actors = differ plan.counts plan.clients plan.lines passes c.args.ended.items c.args.last.items c.requires.run in
     let split = subst (λ (ks : List AnyKept). IsSplitOf ks passes c.in_err-entries.field-0.0) c.as_slice.ensures.value
-    (subst (λ (ps : List Pass). IsSplitOf c.as_slice.result.now ps c.in_err-entries.field-0.0) c.as_slice-2.ensures.value c.in_err-entries.ensures.split) in
+    (subst (λ (ps : List Pass). IsSplitOf c.as_slice.result.now ps c.in_err-entries.field-0.0) c.as_slice-2.ensures.value
+    c.in_err-entries.ensures.split) in
     let p = err_from_is_err_and c.from_residual-in_err-entries.result c.from_residual-in_err-entries.ensures.1 in
     rw (p.1, p.2) (split_is_fault plan.counts kepts passes c.in_err-entries.field-0.0 started actors split)
 
@@ -48,7 +50,8 @@ tell-requires-clause-dumps c =
     let kepts = c.in_ok-kepts.kepts.items in
     let passes = c.args.passes.items in
     let entries : List Moment = map (λ m. m.now) c.in_ok-entries.entries.items in
-    let gathered = gathered_behind c.as_slice.result.now kepts c.as_slice-2.result.now passes entries c.as_slice.ensures.value c.as_slice-2.ensures.value c.in_ok-entries.ensures.gathered in
+    let gathered = gathered_behind c.as_slice.result.now kepts c.as_slice-2.result.now passes entries c.as_slice.ensures.value
+    c.as_slice-2.ensures.value c.in_ok-entries.ensures.gathered in
     rw c.as_slice-3.ensures.value
     (dumps plan.counts plan.clients plan.lines passes c.args.ended.items c.args.last.items c.requires.run kepts entries gathered)
 
@@ -59,7 +62,8 @@ returns-clause-raced c =
     let passes = c.args.passes.items in
     let entries : List Moment = map (λ m. m.now) c.in_ok-entries.entries.items in
     let started = subst (λ (counts : Counts). AreStarted counts kepts) c.requires.places c.in_ok-kepts.ensures.all in
-    let gathered = gathered_behind c.as_slice.result.now kepts c.as_slice-2.result.now passes entries c.as_slice.ensures.value c.as_slice-2.ensures.value c.in_ok-entries.ensures.gathered in
+    let gathered = gathered_behind c.as_slice.result.now kepts c.as_slice-2.result.now passes entries c.as_slice.ensures.value
+    c.as_slice-2.ensures.value c.in_ok-entries.ensures.gathered in
     let ended = c.args.ended.items in
     let last = c.args.last.items in
     raced plan passes ended last c.requires.run kepts started entries gathered c.in_ok-report.report.items

@@ -13,10 +13,12 @@ returns-then-stamp-clock-clause-store c =
     let n : length ms ≡ length c.args.moments.now = length-map c.args.moments.now (λ m. m.now) in
     let m : Moment = c.index-moments-done.result.now in
     let here : c.args.clock < stamp_of m = omega (arith, c.if-stamp-clock.true, c.stamp.ensures) in
-    let late = subst (λ (m : Moment). c.args.clock < stamp_of m) (read_map (λ m. m.now) c.args.moments.now c.loop-done.done c.index-moments-done.result c.index-moments-done.is) here in
+    let late = subst (λ (m : Moment). c.args.clock < stamp_of m)
+    (read_map (λ m. m.now) c.args.moments.now c.loop-done.done c.index-moments-done.result c.index-moments-done.is) here in
     c.loop-done.invariant.store
     ∙ ap (λ (ns : List Moment). after_all c.args.shards.now ns)
-    (sym (early_are c.args.clock c.loop-done.done ms m c.requires c.loop-done.invariant.early (omega (arith, n, c.loop-done-test.true)) late))
+    (sym (early_are c.args.clock c.loop-done.done ms m c.requires c.loop-done.invariant.early (omega (arith, n, c.loop-done-test.true))
+    late))
 
 pub returns-then-stamp-clock-clause-later : goal.returns-then-stamp-clock-clause-later
 returns-then-stamp-clock-clause-later c =
@@ -24,7 +26,8 @@ returns-then-stamp-clock-clause-later c =
     let n : length ms ≡ length c.args.moments.now = length-map c.args.moments.now (λ m. m.now) in
     let m : Moment = c.index-moments-done.result.now in
     let here : c.args.clock < stamp_of m = omega (arith, c.if-stamp-clock.true, c.stamp.ensures) in
-    let late = subst (λ (m : Moment). c.args.clock < stamp_of m) (read_map (λ m. m.now) c.args.moments.now c.loop-done.done c.index-moments-done.result c.index-moments-done.is) here in
+    let late = subst (λ (m : Moment). c.args.clock < stamp_of m)
+    (read_map (λ m. m.now) c.args.moments.now c.loop-done.done c.index-moments-done.result c.index-moments-done.is) here in
     sym (late_are c.args.clock c.loop-done.done ms m c.requires c.loop-done.invariant.early (omega (arith, n, c.loop-done-test.true)) late)
 
 pub loop-done-preserved : goal.loop-done-preserved
@@ -35,8 +38,10 @@ loop-done-preserved c =
     let at = read_map (λ m. m.now) c.args.moments.now c.loop-done.done c.index-moments-done.result c.index-moments-done.is in
     let inside : c.loop-done.done < length ms = omega (arith, n, c.loop-done-test.true) in
     record {
-      early = next_early c.args.clock c.loop-done.done ms m inside at c.loop-done.invariant.early (omega (arith, c.if-stamp-clock.false, c.stamp.ensures));
-      store = next_shards c.args.shards.now c.loop-done.shards c.redo.new.shards c.loop-done.done ms m inside at c.loop-done.invariant.store c.in_ok-redo.ensures;
+      early = next_early c.args.clock c.loop-done.done ms m inside at c.loop-done.invariant.early
+          (omega (arith, c.if-stamp-clock.false, c.stamp.ensures));
+      store = next_shards c.args.shards.now c.loop-done.shards c.redo.new.shards c.loop-done.done ms m inside at c.loop-done.invariant.store
+          c.in_ok-redo.ensures;
     }
 
 pub returns-clause-store : goal.returns-clause-store

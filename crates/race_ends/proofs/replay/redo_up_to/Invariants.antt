@@ -7,5 +7,6 @@ use Rattle.race_ends.proofs.replay.redo_up_to.Given as goal
 abbrev pub invariant-loop-done : goal.invariant-loop-done
 invariant-loop-done l = record {
   early : AllUpTo l.clock (take l.done (map (λ m. m.now) l.moments));
-  store : l.shards ≡ record l.initial.shards { store = stored_after l.initial.shards.store (events_of (take l.done (map (λ m. m.now) l.moments))) };
+  store : l.shards ≡ record l.initial.shards
+      { store = stored_after l.initial.shards.store (events_of (take l.done (map (λ m. m.now) l.moments))) };
 }

@@ -37,7 +37,8 @@ loop-part-preserved c =
     let clock = c.in-Some.part.clock in
     let behind : drop (done + more) ms ≡ filter (is_late clock) later =
     sym (drop-drop more done ms) ∙ subst (λ (ns : List Moment). drop more ns ≡ filter (is_late clock) ns) read c.in_ok-done.ensures.later in
-    let store = ap (λ (w : WholeStore). w.store) c.in_ok-done.ensures.store ∙ ap (λ (ns : List Moment). stored_up_to clock c.loop-part.shards.store ns) read in
+    let store = ap (λ (w : WholeStore). w.store) c.in_ok-done.ensures.store ∙ ap
+    (λ (ns : List Moment). stored_up_to clock c.loop-part.shards.store ns) read in
     record {
       within = more_within (λ m. m.now) c.args.moments.now done more c.loop-part.invariant.within c.in_ok-done.ensures.within;
       telling =
@@ -50,7 +51,8 @@ loop-part-preserved c =
 pub returns : goal.returns
 returns c =
     let ms : List Moment = map (λ m. m.now) c.args.moments.now in
-    let none : length (into_iter_items c.loop-part.part-iterator) ≡ 0 = sym c.loop-part.part-iterator.rest.ok.0 ∙ c.in-None.ensures.steps.0 in
+    let none : length (into_iter_items c.loop-part.part-iterator) ≡ 0 = sym c.loop-part.part-iterator.rest.ok.0 ∙ c.in-None.ensures.steps.0
+    in
     c.in_ok-append.ensures.items
     ∙ telling_ends ms (drop c.loop-part.done ms) c.loop-part.shards.store c.loop-part.report.items c.args.last.items
     (into_iter_items c.loop-part.part-iterator) c.args.ended.items c.loop-part.invariant.telling none

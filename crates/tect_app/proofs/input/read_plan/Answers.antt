@@ -22,8 +22,10 @@ returns-clause-first g c =
     let left = g.S.Source.left c.args.source.now in
     let rest = g.S.Source.left c.read_input.new.source in
     let calls = g.S.Source.calls c.args.source.now in
-    let whole : Consumes left rest bytes × IsAtEnd rest × (length bytes ≤ 67108864) × (g.S.Source.calls c.read_input.new.source ≤ calls + length bytes + 1) =
+    let whole : Consumes left rest bytes × IsAtEnd rest × (length bytes ≤ 67108864)
+    × (g.S.Source.calls c.read_input.new.source ≤ calls + length bytes + 1) =
     rw (c.in-Ok-Some.field-0-is) at c.in-Ok-Some.ensures.whole in
-    let complete : (plan : Plan) → Spells bytes plan → IsUnlessMemory plan (Err fault) = rw (c.deref.ensures.value) at c.in-Err.ensures.complete in
+    let complete : (plan : Plan) → Spells bytes plan
+    → IsUnlessMemory plan (Err fault) = rw (c.deref.ensures.value) at c.in-Err.ensures.complete in
     let first : IsFirstFault bytes fault = rw (c.deref.ensures.value) at c.in-Err.ensures.first in
     read_fault left rest bytes fault whole.0 whole.1 complete first

@@ -8,7 +8,8 @@ pub returns-in-Ok-clause-write_fault : goal.returns-in-Ok-clause-write_fault
 returns-in-Ok-clause-write_fault g c failed =
     let not_done : c.play.result ≢ Ok = grind (arith, failed) in (
       c.play.ensures.failed failed,
-      inr (inr (inl (cut_script Replay c.in-Ok.plan (g.S.Source.left c.args.source.now) _ _ c.in-Ok.ensures.spelled (c.play.ensures.cut not_done)))),
+      inr (inr (inl (cut_script Replay c.in-Ok.plan (g.S.Source.left c.args.source.now) _ _ c.in-Ok.ensures.spelled
+          (c.play.ensures.cut not_done)))),
     )
 
 pub returns-in-Ok-clause-no_memory : goal.returns-in-Ok-clause-no_memory

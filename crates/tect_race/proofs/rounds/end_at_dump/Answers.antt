@@ -25,10 +25,13 @@ returns-clause-dumped g c =
     let closed : AllClosed e.clock ts us = subst (λ (l : List Racer). AllClosed e.clock l us) value c.in_ok-part.ensures.closed in
     let told = c.in_ok-part.ensures.answers ∙ ap (λ (l : List Racer). flat_map (λ (r : Racer). r.answers.items) l) value in
     let len : length us ≡ c.in_ok-racers.racers.len = zip_length (Closed e.clock) ts us closed ∙ sym c.in_ok-racers.racers.ok.0 in
-    let stood = come_on counts names ls c.args.progress ts us c.args.dump e c.requires.dump c.requires.come c.in_ok-racers.ensures.ran c.in_ok-racers.ensures.ready high closed told in
-    let kept = subst (λ (l : List EndedPart). Stood counts names (take next ls) (drop next ls) e.clock us l) (sym c.in-Ok.ensures.items) stood in
+    let stood = come_on counts names ls c.args.progress ts us c.args.dump e c.requires.dump c.requires.come c.in_ok-racers.ensures.ran
+    c.in_ok-racers.ensures.ready high closed told in
+    let kept = subst (λ (l : List EndedPart). Stood counts names (take next ls) (drop next ls) e.clock us l) (sym c.in-Ok.ensures.items)
+    stood in
     record {
       low = omega arith;
       part = none_yet (IsOfClient (length names)) ls next;
-      stood = subst (λ (l : List Racer). Stood counts names (take next ls) (drop next ls) e.clock l c.push.new.self.items) (sym (with_items_is c.in_ok-racers.racers us len)) kept;
+      stood = subst (λ (l : List Racer). Stood counts names (take next ls) (drop next ls) e.clock l c.push.new.self.items)
+          (sym (with_items_is c.in_ok-racers.racers us len)) kept;
     }

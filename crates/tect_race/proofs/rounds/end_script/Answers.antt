@@ -20,6 +20,8 @@ returns-clause-run g c =
     let closed : AllClosed k ts us = subst (λ (l : List Racer). AllClosed k l us) value c.in_ok-part.ensures.closed in
     let told = c.in_ok-part.ensures.answers ∙ ap (λ (l : List Racer). flat_map (λ (r : Racer). r.answers.items) l) value in
     let len : length us ≡ c.in_ok-racers.racers.len = zip_length (Closed k) ts us closed ∙ sym c.in_ok-racers.racers.ok.0 in
-    let taken : AllZip IsPassOf us ps = subst (λ (l : List Racer). AllZip IsPassOf l ps) (with_items_is c.in_ok-racers.racers us len) c.in_ok-passes.ensures in
-    come_to_end shared.places.now shared.clients.now shared.lines.now c.args.progress ts us ps k c.in_ok-part.part.answers.items c.requires.places c.requires.script.asked c.requires.come
+    let taken : AllZip IsPassOf us ps = subst (λ (l : List Racer). AllZip IsPassOf l ps) (with_items_is c.in_ok-racers.racers us len)
+    c.in_ok-passes.ensures in
+    come_to_end shared.places.now shared.clients.now shared.lines.now c.args.progress ts us ps k c.in_ok-part.part.answers.items
+    c.requires.places c.requires.script.asked c.requires.come
     c.in_ok-racers.ensures.ran c.in_ok-racers.ensures.ready c.in_ok-part.ensures.clock.1 high closed taken told

@@ -15,7 +15,8 @@ lines-init g c =
     let names = c.args.shared.now.clients.now in
     let ls : List Line = c.args.shared.now.lines.now in
     let racers = c.in_ok-new_racers.field-0.items in
-    let stood = subst (λ (es : List EndedPart). Stood c.args.counts names [] ls 0 racers es) (sym c.new.ensures.items) (stood_new c.args.counts names ls racers c.in_ok-new_racers.ensures c.requires.script) in
+    let stood = subst (λ (es : List EndedPart). Stood c.args.counts names [] ls 0 racers es) (sym c.new.ensures.items)
+    (stood_new c.args.counts names ls racers c.in_ok-new_racers.ensures c.requires.script) in
     record {
       low = omega arith;
       part = none_yet (IsOfClient (length names)) ls 0;
@@ -32,6 +33,8 @@ lines-preserved g c =
       | then-matches+in_ok-progress w ↦ subst (HasCome counts names ls next) (sym w.progress-is) w.in_ok-progress.ensures.dumped
       | else-matches w ↦
           let come = come_past counts names ls c.lines.progress c.lines.number c.line-item.result c.lines-test.true c.line-item.is
-          (elim c.match-matches.branch [ in-Dump v ↦ absurd (false≢true (sym w.if-matches.false ∙ v.matches-is)) | in_default v ↦ v.in_default.not-Dump ]) c.requires.script.asked c.lines.invariant in
+          (elim c.match-matches.branch
+          [ in-Dump v ↦ absurd (false≢true (sym w.if-matches.false ∙ v.matches-is)) | in_default v ↦ v.in_default.not-Dump ])
+          c.requires.script.asked c.lines.invariant in
           subst (HasCome counts names ls next) (sym w.progress-is) come
     ]

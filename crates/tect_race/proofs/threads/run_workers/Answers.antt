@@ -21,34 +21,68 @@ map_vec-requires-sync-F g c κs within =
 
 pub map_vec-requires-after_bounds : goal.map_vec-requires-after_bounds
 map_vec-requires-after_bounds g c κs within i x low is =
-    let all : All (IsWorker c.args.shared.now.places.now (length c.args.shared.now.clients.now) c.args.shared.now.worker_count (drop c.args.start c.args.shared.now.lines.now)) (flat_map (λ (b : Vec Worker Global). b.items) c.in_ok-batches.batches.items) =
-    subst (λ (l : List Worker). All (IsWorker c.args.shared.now.places.now (length c.args.shared.now.clients.now) c.args.shared.now.worker_count (drop c.args.start c.args.shared.now.lines.now)) l) (sym c.in_ok-batches.ensures.joined) c.requires.ready.workers in
-    let ready : All (IsWorker c.args.shared.now.places.now (length c.args.shared.now.clients.now) c.args.shared.now.worker_count (drop c.args.start c.args.shared.now.lines.now)) x.items = subst (λ (y : Vec Worker Global). All (IsWorker c.args.shared.now.places.now (length c.args.shared.now.clients.now) c.args.shared.now.worker_count (drop c.args.start c.args.shared.now.lines.now)) y.items) (sym is) (each_batch (IsWorker c.args.shared.now.places.now (length c.args.shared.now.clients.now) c.args.shared.now.worker_count (drop c.args.start c.args.shared.now.lines.now)) c.in_ok-batches.batches.items all i x low) in
+    let all : All (IsWorker c.args.shared.now.places.now (length c.args.shared.now.clients.now) c.args.shared.now.worker_count
+    (drop c.args.start c.args.shared.now.lines.now)) (flat_map (λ (b : Vec Worker Global). b.items) c.in_ok-batches.batches.items) =
+    subst (λ (l : List Worker). All
+    (IsWorker c.args.shared.now.places.now (length c.args.shared.now.clients.now) c.args.shared.now.worker_count
+    (drop c.args.start c.args.shared.now.lines.now)) l) (sym c.in_ok-batches.ensures.joined) c.requires.ready.workers in
+    let ready : All
+    (IsWorker c.args.shared.now.places.now (length c.args.shared.now.clients.now) c.args.shared.now.worker_count
+    (drop c.args.start c.args.shared.now.lines.now)) x.items = subst
+    (λ (y : Vec Worker Global). All
+    (IsWorker c.args.shared.now.places.now (length c.args.shared.now.clients.now) c.args.shared.now.worker_count
+    (drop c.args.start c.args.shared.now.lines.now)) y.items) (sym is)
+    (each_batch
+    (IsWorker c.args.shared.now.places.now (length c.args.shared.now.clients.now) c.args.shared.now.worker_count
+    (drop c.args.start c.args.shared.now.lines.now)) c.in_ok-batches.batches.items all i x low) in
     search rules
 
-came : (g : _) (c : In-Ok g) → AllZip (Came c.args.shared.now.places.now c.args.shared.now.clients.now c.args.shared.now.worker_count (slice_range c.args.shared.now.lines.now c.args.start c.args.end) (drop c.args.end c.args.shared.now.lines.now)) c.in_ok-batches.batches.items c.in-Ok.ran.items
+came : (g : _) (c : In-Ok g)
+    → AllZip (Came c.args.shared.now.places.now c.args.shared.now.clients.now c.args.shared.now.worker_count
+    (slice_range c.args.shared.now.lines.now c.args.start c.args.end) (drop c.args.end c.args.shared.now.lines.now))
+    c.in_ok-batches.batches.items c.in-Ok.ran.items
 came g c =
-    all_came c.args.shared.now.places.now c.args.shared.now.clients.now c.args.shared.now.worker_count (slice_range c.args.shared.now.lines.now c.args.start c.args.end) (drop c.args.end c.args.shared.now.lines.now) c.in_ok-batches.batches.items c.in-Ok.ran.items
+    all_came c.args.shared.now.places.now c.args.shared.now.clients.now c.args.shared.now.worker_count
+    (slice_range c.args.shared.now.lines.now c.args.start c.args.end) (drop c.args.end c.args.shared.now.lines.now)
+    c.in_ok-batches.batches.items c.in-Ok.ran.items
     (sym c.in-Ok.ran.ok.0 ∙ c.in-Ok.ensures.len ∙ c.in_ok-batches.batches.ok.0)
     (λ i b r low.
     let e = c.in-Ok.ensures.each i r low in
     let job : Vec Worker Global = e.1.job in
-    let fact : BatchCame c.args.shared.now.places.now c.args.shared.now.clients.now c.args.shared.now.worker_count (slice_range c.args.shared.now.lines.now c.args.start c.args.end) (drop c.args.end c.args.shared.now.lines.now) job.items (get_or c.in-Ok.ran.items i r) = search rules in
-    subst (λ (y : Vec Worker Global). Came c.args.shared.now.places.now c.args.shared.now.clients.now c.args.shared.now.worker_count (slice_range c.args.shared.now.lines.now c.args.start c.args.end) (drop c.args.end c.args.shared.now.lines.now) y (get_or c.in-Ok.ran.items i r)) (sym (e.1.job_is b)) fact)
+    let fact : BatchCame c.args.shared.now.places.now c.args.shared.now.clients.now c.args.shared.now.worker_count
+    (slice_range c.args.shared.now.lines.now c.args.start c.args.end) (drop c.args.end c.args.shared.now.lines.now) job.items
+    (get_or c.in-Ok.ran.items i r) = search rules in
+    subst (λ (y : Vec Worker Global). Came c.args.shared.now.places.now c.args.shared.now.clients.now c.args.shared.now.worker_count
+    (slice_range c.args.shared.now.lines.now c.args.start c.args.end) (drop c.args.end c.args.shared.now.lines.now) y
+    (get_or c.in-Ok.ran.items i r)) (sym (e.1.job_is b)) fact)
 
 pub finished-requires : goal.finished-requires
-finished-requires g c = strays c.args.shared.now.places.now c.args.shared.now.clients.now c.args.shared.now.worker_count (slice_range c.args.shared.now.lines.now c.args.start c.args.end) (drop c.args.end c.args.shared.now.lines.now) c.in_ok-batches.batches.items c.in-Ok.ran.items (came g c)
+finished-requires g c = strays c.args.shared.now.places.now c.args.shared.now.clients.now c.args.shared.now.worker_count
+    (slice_range c.args.shared.now.lines.now c.args.start c.args.end) (drop c.args.end c.args.shared.now.lines.now)
+    c.in_ok-batches.batches.items c.in-Ok.ran.items (came g c)
 
-ended : (g : _) (c : After-finished g) (ds : Vec Worker Global) → All (λ batch. IsOk batch) c.in-Ok.ran.items → ds.items ≡ flat_map ended_workers c.in-Ok.ran.items
-    → AllZip (WorkerEnds c.args.shared.now.places.now c.args.shared.now.clients.now c.args.shared.now.worker_count (slice_range c.args.shared.now.lines.now c.args.start c.args.end) (drop c.args.end c.args.shared.now.lines.now)) c.args.workers.items ds.items
+ended : (g : _) (c : After-finished g) (ds : Vec Worker Global) → All (λ batch. IsOk batch) c.in-Ok.ran.items
+    → ds.items ≡ flat_map ended_workers c.in-Ok.ran.items
+    → AllZip (WorkerEnds c.args.shared.now.places.now c.args.shared.now.clients.now c.args.shared.now.worker_count
+    (slice_range c.args.shared.now.lines.now c.args.start c.args.end) (drop c.args.end c.args.shared.now.lines.now))
+    c.args.workers.items ds.items
 ended g c ds ok is =
-    workers_ended c.args.shared.now.places.now c.args.shared.now.clients.now c.args.shared.now.worker_count (slice_range c.args.shared.now.lines.now c.args.start c.args.end) (drop c.args.end c.args.shared.now.lines.now) c.args.workers.items ds.items c.in_ok-batches.batches.items c.in-Ok.ran.items c.in_ok-batches.ensures
+    workers_ended c.args.shared.now.places.now c.args.shared.now.clients.now c.args.shared.now.worker_count
+    (slice_range c.args.shared.now.lines.now c.args.start c.args.end) (drop c.args.end c.args.shared.now.lines.now) c.args.workers.items
+    ds.items c.in_ok-batches.batches.items c.in-Ok.ran.items c.in_ok-batches.ensures
     (came g (goal.at.returns-in-Ok-clause-ran g c).In-Ok) ok is
 
 pub returns-in-Ok-clause-ran : goal.returns-in-Ok-clause-ran
 returns-in-Ok-clause-ran g c =
-    if_both c.finished.result (λ ds ok is. ended_ran c.args.shared.now.places.now c.args.shared.now.clients.now c.args.shared.now.worker_count (slice_range c.args.shared.now.lines.now c.args.start c.args.end) (drop c.args.end c.args.shared.now.lines.now) c.args.workers.items ds.items (ended g c ds ok is)) c.finished.ensures.ended c.finished.ensures.joined
+    if_both c.finished.result
+    (λ ds ok is. ended_ran c.args.shared.now.places.now c.args.shared.now.clients.now c.args.shared.now.worker_count
+    (slice_range c.args.shared.now.lines.now c.args.start c.args.end) (drop c.args.end c.args.shared.now.lines.now) c.args.workers.items
+    ds.items (ended g c ds ok is)) c.finished.ensures.ended c.finished.ensures.joined
 
 pub returns-in-Ok-clause-ready : goal.returns-in-Ok-clause-ready
 returns-in-Ok-clause-ready g c =
-    if_both c.finished.result (λ ds ok is. ended_ready c.args.shared.now.places.now c.args.shared.now.clients.now c.args.shared.now.worker_count (slice_range c.args.shared.now.lines.now c.args.start c.args.end) (drop c.args.start c.args.shared.now.lines.now) (drop c.args.end c.args.shared.now.lines.now) c.args.workers.items ds.items c.requires.ready (ended g c ds ok is)) c.finished.ensures.ended c.finished.ensures.joined
+    if_both c.finished.result
+    (λ ds ok is. ended_ready c.args.shared.now.places.now c.args.shared.now.clients.now c.args.shared.now.worker_count
+    (slice_range c.args.shared.now.lines.now c.args.start c.args.end) (drop c.args.start c.args.shared.now.lines.now)
+    (drop c.args.end c.args.shared.now.lines.now) c.args.workers.items ds.items c.requires.ready (ended g c ds ok is))
+    c.finished.ensures.ended c.finished.ensures.joined

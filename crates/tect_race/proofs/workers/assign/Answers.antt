@@ -16,6 +16,9 @@ racers-preserved c =
     (c.index_mut.ensures.value ∙ ap (λ k. get_or c.racers.workers.items (k % c.args.worker_count) old) count) in
     record {
       count = ap (λ k. k + 1) count ∙ sym (length-append c.racers.yielded (c.in-Some.racer ∷ []));
-      assigned = subst (λ k. AreAssigned c.args.worker_count (c.racers.yielded ++ c.in-Some.racer ∷ []) (set c.racers.workers.items (k % c.args.worker_count) new)) (sym count)
-          (assigned_on c.args.worker_count c.requires c.racers.yielded c.racers.workers.items c.racers.invariant.assigned c.in-Some.racer old new here refl c.in_ok-push.ensures.items);
+      assigned = subst
+          (λ k. AreAssigned c.args.worker_count (c.racers.yielded ++ c.in-Some.racer ∷ [])
+          (set c.racers.workers.items (k % c.args.worker_count) new)) (sym count)
+          (assigned_on c.args.worker_count c.requires c.racers.yielded c.racers.workers.items c.racers.invariant.assigned c.in-Some.racer
+          old new here refl c.in_ok-push.ensures.items);
     }

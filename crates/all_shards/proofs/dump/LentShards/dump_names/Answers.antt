@@ -8,5 +8,6 @@ use Rattle.all_shards.proofs.dump.LentShards.dump_names.Goals as goal
 pub returns : goal.returns
 returns c =
     c.loop-dir.invariant
-    ∙ ap (flat_map (dir_dump c.args.self.now.store.names)) (take_all c.loop-dir.dir-index c.deref-dir-items.result.now (omega (arith, c.loop-dir-test.false)))
+    ∙ ap (flat_map (dir_dump c.args.self.now.store.names))
+    (take_all c.loop-dir.dir-index c.deref-dir-items.result.now (omega (arith, c.loop-dir-test.false)))
     ∙ dirs_dump c.args.self.now.store.names _ (c.deref-dir-items.ensures.value ∙ c.in_ok-dirs.ensures)

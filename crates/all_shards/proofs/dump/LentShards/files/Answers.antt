@@ -10,7 +10,10 @@ use Rattle.all_shards.proofs.dump.LentShards.files.Goals as goal
 
 pub returns : goal.returns
 returns c =
-    let all = c.loop-shard.invariant ∙ ap (flat_map (λ s. keys s.now)) (take_all c.loop-shard.shard-index c.deref-shard-items.result.now (omega (arith, c.loop-shard-test.false)) ∙ c.deref-shard-items.ensures.value)
+    let all = c.loop-shard.invariant ∙ ap (flat_map (λ s. keys s.now))
+    (take_all c.loop-shard.shard-index c.deref-shard-items.result.now (omega (arith, c.loop-shard-test.false)) ∙
+    c.deref-shard-items.ensures.value)
     ∙ flat_map-map keys (λ r. r.now) c.self.inside.files.items in
-    files_sorted c.self.inside.counts (map (λ r. r.now) c.self.inside.names.items) (map (λ r. r.now) c.self.inside.files.items) c.self.invariant c.loop-shard.files.items _ all c.sort_unstable.ensures.permutation c.sort_unstable.ensures.sorted
+    files_sorted c.self.inside.counts (map (λ r. r.now) c.self.inside.names.items) (map (λ r. r.now) c.self.inside.files.items)
+    c.self.invariant c.loop-shard.files.items _ all c.sort_unstable.ensures.permutation c.sort_unstable.ensures.sorted
     ∙ ap (λ (w : WholeStore). keys w.store.files) c.self.view_is
