@@ -10,8 +10,8 @@ use Rattle.entry_words.specs.declared.entry.Entry.{Entry}
 use Rattle.entry_words.specs.declared.entry.Moment.TheVariants.{Local}
 use Rattle.entry_words.specs.declared.entry.Note.TheVariants as notes
 use Rattle.entry_words.specs.declared.entry.Refused.{Refused}
-use Rattle.place_kit.specs.declared.pass.Pass.{Pass}
-use Rattle.place_kit.specs.Commits as passes
+use Rattle.passes.specs.declared.pass.Pass.{Pass}
+use Rattle.passes.specs.Commits as passes
 use Rattle.world_runs.specs.Moments.{Actor, begun}
 use Rattle.world_runs.specs.Served.{IsServed}
 use Rattle.clients.specs.ActorState.{ActorState, op_of, next_op_of}

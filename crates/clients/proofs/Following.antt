@@ -21,7 +21,7 @@ use Rattle.world_runs.proofs.Actors.{own_state-append}
 use Rattle.clients.specs.declared.turned.Turned.{Turned}
 use Rattle.clients.specs.declared.turned.Turned.TheVariants.{Going, Done}
 use Rattle.clients.specs.Turns.{turned_by}
-use Rattle.clients.specs.declared.commits.Astray.{Astray}
+use Rattle.passes.specs.declared.commits.Astray.{Astray}
 use Rattle.clients.specs.Lives.{ClientLife, events_in, state_in, op_in, Begins, left_in, IsLife}
 use Rattle.clients.specs.Steps.{entry_in, Tried, Unasked, Did, Denied, EndsSo, state_after, WentAstray, tried_events, end_events, tried_life, ended_with, ended_life, OwnStep}
 use Rattle.clients.specs.PassSteps.{act_count}

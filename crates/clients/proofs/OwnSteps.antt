@@ -13,10 +13,10 @@ use Rattle.entry_words.specs.declared.entry.Moment.TheVariants.{Act, Local}
 use Rattle.entry_words.specs.declared.entry.Note.TheVariants as notes
 use Rattle.entry_words.specs.declared.entry.Refused.{Refused}
 use Rattle.entry_words.specs.declared.entry.Refused.TheVariants as refusals
-use Rattle.place_kit.specs.declared.pass.Pass.{Pass}
-use Rattle.place_kit.specs.Commits as passes
+use Rattle.passes.specs.declared.pass.Pass.{Pass}
+use Rattle.passes.specs.Commits as passes
 use Rattle.entry_words.specs.Moments.{trail_of}
-use Rattle.place_kit.proofs.Pushes.{steps_count-len}
+use Rattle.passes.proofs.Pushes.{steps_count-len}
 use Rattle.world_runs.specs.declared.event.Event.{Event}
 use Rattle.world_runs.specs.declared.event.Event.TheVariants.{Acted}
 use Rattle.world_runs.specs.Moments.{Actor, program_ask, idle_actor}
@@ -25,7 +25,7 @@ use Rattle.world_runs.specs.OwnRuns.{own_state}
 use Rattle.clients.specs.ActorState.{ActorState, op_of}
 use Rattle.clients.specs.Turns.{turned_by}
 use Rattle.clients.specs.declared.steps.Step.{Step}
-use Rattle.clients.specs.Commits.{entry_at}
+use Rattle.passes.specs.Adding.{entry_at}
 use Rattle.clients.specs.Lives.{ClientLife, events_in, state_in, op_in}
 use Rattle.clients.specs.Steps.{Tried, Unasked, Did, Denied, Asks, DidThere, state_after, EndsSo, entry_in, tried_life, ended_life, tried_events, end_events, is_later, OwnStep, WentAstray}
 use Rattle.clients.specs.PassSteps.{Finishes, Tries, act_count, after_try, TookStep, LostStep}

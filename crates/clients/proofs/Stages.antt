@@ -17,8 +17,8 @@ use Rattle.program_rules.specs.Programs.{object_number}
 use Rattle.entry_words.specs.declared.entry.Moment.{Moment}
 use Rattle.entry_words.specs.declared.entry.Moment.TheVariants.{Act, Local}
 use Rattle.entry_words.specs.declared.entry.Note.TheVariants as notes
-use Rattle.place_kit.specs.declared.pass.Pass.{Pass}
-use Rattle.place_kit.specs.Commits as passes
+use Rattle.passes.specs.declared.pass.Pass.{Pass}
+use Rattle.passes.specs.Commits as passes
 use Rattle.world_runs.specs.declared.event.Event.{Event}
 use Rattle.world_runs.specs.declared.event.Event.TheVariants.{Acted, Ended, Failed}
 use Rattle.program_rules.specs.Lacks.{IsLack}
@@ -31,7 +31,7 @@ use Rattle.world_runs.specs.OwnRuns.{OwnMay, OwnRun, own_after, own_state}
 use Rattle.world_runs.specs.Events.{IsPlaced}
 use Rattle.world_runs.proofs.Actors.{same_number}
 use Rattle.clients.specs.ActorState.{ActorState, op_of}
-use Rattle.clients.specs.Commits.{Committed, NotedEnd, entry_at}
+use Rattle.passes.specs.Adding.{Committed, NotedEnd, entry_at}
 use Rattle.program_rules.specs.Asking.{RunsSmoothly, op_running}
 use Rattle.clients.specs.PassSteps.{ended}
 use Rattle.program_rules.proofs.Phases.{smooth_hears, smooth_answers}

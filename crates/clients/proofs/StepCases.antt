@@ -11,12 +11,12 @@ use Rattle.program_rules.specs.Programs.{object_number}
 use Rattle.entry_words.specs.declared.entry.Entry.{Entry}
 use Rattle.entry_words.specs.declared.entry.Note.TheVariants.{Ended}
 use Rattle.entry_words.specs.declared.entry.Refused.{Refused}
-use Rattle.place_kit.specs.declared.pass.Pass.{Pass}
-use Rattle.place_kit.specs.Commits.{IsFull}
+use Rattle.passes.specs.declared.pass.Pass.{Pass}
+use Rattle.passes.specs.Commits.{IsFull}
 use Rattle.world_runs.specs.Moments.{program_ask, program_answer, went_on}
 use Rattle.clients.specs.ActorState.{ActorState, op_of}
 use Rattle.clients.specs.declared.steps.Step.{Step}
-use Rattle.clients.specs.Commits.{entry_at, Committed, NotedEnd}
+use Rattle.passes.specs.Adding.{entry_at, Committed, NotedEnd}
 use Rattle.program_rules.specs.Asking.{RunsSmoothly}
 use Rattle.clients.specs.Steps.{Unasked, Did, Denied, EndsSo}
 use Rattle.clients.specs.PassSteps.{ended, Settles, SettlesSo, Tries, TookStep}

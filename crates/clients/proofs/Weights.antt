@@ -8,10 +8,10 @@ use Rattle.entry_words.specs.declared.entry.Note.{Note}
 use Rattle.entry_words.specs.declared.entry.Note.TheVariants as notes
 use Rattle.entry_words.specs.declared.entry.Moment.{Moment}
 use Rattle.entry_words.specs.declared.entry.Moment.TheVariants.{Act, Local}
-use Rattle.place_kit.specs.declared.pass.Pass.{Pass}
+use Rattle.passes.specs.declared.pass.Pass.{Pass}
 use Rattle.store_rules.specs.ReplyBytes.{reply_bytes}
 use Rattle.entry_words.specs.Moments.{op_of, trail_of, all_of_actor, all_notes_of, all_reply_bytes, moment_cost, moments_cost}
-use Rattle.place_kit.specs.Commits as passes
+use Rattle.passes.specs.Commits as passes
 use Rattle.world_runs.specs.declared.event.Event.{Event}
 use Rattle.world_runs.specs.declared.event.Event.TheVariants.{Began, Refused, Acted, Ended, Stopped, Failed, Dumped}
 use Rattle.world_runs.specs.Events.{end_event, event_of, events_of}

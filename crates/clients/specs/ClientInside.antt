@@ -4,8 +4,8 @@ use Rattle.std.specs.List.{All}
 use Rattle.std.specs.Option.{ForSome}
 use Rattle.tect_ids.specs.Places.{HasPlaces}
 use Rattle.tect_calls.specs.Knowing.{IsActor}
-use Rattle.place_kit.specs.declared.pass.Pass.{Pass}
-use Rattle.place_kit.specs.Commits.{IsFullForBegin}
+use Rattle.passes.specs.declared.pass.Pass.{Pass}
+use Rattle.passes.specs.Commits.{IsFullForBegin}
 use Rattle.world_runs.specs.declared.event.Event.{Event}
 use Rattle.world_runs.specs.Moments.{idle_actor}
 use Rattle.world_runs.specs.Report.{transactions}

@@ -2,7 +2,6 @@ pub mod ActorState
 pub mod ActorInside
 pub mod Turns
 pub mod Lives
-pub mod Commits
 pub mod Phases
 pub mod Steps
 pub mod PassSteps

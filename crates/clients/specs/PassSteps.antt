@@ -9,12 +9,12 @@ use Rattle.entry_words.specs.declared.entry.Entry.{Entry}
 use Rattle.entry_words.specs.declared.entry.Note.TheVariants.{Ended}
 use Rattle.entry_words.specs.declared.entry.Refused.{Refused}
 use Rattle.entry_words.specs.declared.entry.Refused.TheVariants.{NoMemory, HistoryFull, Astray}
-use Rattle.place_kit.specs.declared.pass.Pass.{Pass}
-use Rattle.place_kit.specs.Commits.{IsFull}
+use Rattle.passes.specs.declared.pass.Pass.{Pass}
+use Rattle.passes.specs.Commits.{IsFull}
 use Rattle.world_runs.specs.Moments.{program_ask, program_answer}
 use Rattle.clients.specs.ActorState.{ActorState, op_of}
 use Rattle.clients.specs.declared.steps.Step.{Step}
-use Rattle.clients.specs.Commits.{entry_at, Committed, NotedEnd}
+use Rattle.passes.specs.Adding.{entry_at, Committed, NotedEnd}
 use Rattle.clients.specs.Steps.{Tried, Unasked, Did, Denied, Asks, DidThere, state_after, EndsSo}
 
 abbrev pub ended : ActorState → ActorState

@@ -14,11 +14,10 @@ ghost use Rattle.clients.specs.Lives.{IsLife};
 ghost use Rattle.clients.specs.Steps.{OwnStep, WentAstray};
 
 use crate::actor::Actor;
-use crate::commits::{Astray, Commits};
 use crate::steps::take_step;
 use crate::turned::Turned;
 use entry_words::Note;
-use place_kit::Pass;
+use passes::{Astray, Commits, Pass};
 use std::alloc::Global;
 use std::marker::Model;
 use tect_calls::Asked;

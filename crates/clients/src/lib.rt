@@ -4,14 +4,9 @@
 
 mod actor;
 mod client;
-mod commits;
 mod steps;
 mod turned;
 
 pub use actor::Actor;
 pub use client::Client;
-pub use commits::{Astray, Commits};
 pub use turned::Turned;
-
-#[cfg(test)]
-mod tests;

@@ -7,14 +7,13 @@ ghost use Rattle.entry_words.specs.declared.entry.Note.TheVariants as notes;
 ghost use Rattle.entry_words.specs.declared.entry.Refused.TheVariants as refusals;
 ghost use Rattle.world_runs.specs.Moments.{went_on, program_ask, program_answer};
 ghost use Rattle.clients.specs.ActorState.{op_of};
-ghost use Rattle.clients.specs.Commits.{NotedEnd};
+ghost use Rattle.passes.specs.Adding.{NotedEnd};
 ghost use Rattle.program_rules.specs.Asking.{RunsSmoothly};
 ghost use Rattle.clients.specs.PassSteps.{ended, Settles, TookStep, LostStep};
 
 use crate::actor::Actor;
-use crate::commits::{Astray, Commits};
 use entry_words::{Note, Refused};
-use place_kit::Pass;
+use passes::{Astray, Commits, Pass};
 use store_rules::AnyReply;
 use tect_calls::{Asked, place};
 use tect_ids::{Answer, Counts, NoMemory, Place};

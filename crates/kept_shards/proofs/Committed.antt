@@ -22,9 +22,9 @@ use Rattle.store_rules.specs.Store.{Store, store_step}
 use Rattle.place_kit.specs.declared.any.AnyKept.{AnyKept}
 use Rattle.entry_words.specs.declared.entry.Entry.{Entry}
 use Rattle.entry_words.specs.declared.entry.Label.{Label}
-use Rattle.place_kit.specs.declared.pass.Pass.{Pass}
+use Rattle.passes.specs.declared.pass.Pass.{Pass}
 use Rattle.entry_words.specs.declared.entry.Moment.TheVariants.{Act}
-use Rattle.place_kit.specs.Commits.{entry_of, next_stamp}
+use Rattle.passes.specs.Commits.{entry_of, next_stamp}
 use Rattle.place_kit.specs.Kept.{label_of, history_of}
 use Rattle.place_kit.specs.Replay.{stamps_rise}
 use Rattle.entry_words.specs.Labels.{label_at}

@@ -15,8 +15,8 @@ use Rattle.entry_words.specs.contracts.entry.Entry as entry
 use Rattle.entry_words.specs.declared.entry.Moment.TheVariants.{Act}
 use Rattle.entry_words.specs.declared.entry.Refused.{Refused}
 use Rattle.entry_words.specs.declared.entry.Refused.TheVariants.{NoMemory, HistoryFull, Astray}
-use Rattle.place_kit.specs.declared.pass.Pass.{Pass}
-use Rattle.place_kit.specs.Commits.{entry_of}
+use Rattle.passes.specs.declared.pass.Pass.{Pass}
+use Rattle.passes.specs.Commits.{entry_of}
 use Rattle.entry_words.specs.Labels.{label_at}
 use Rattle.all_shards.specs.Whole.{counts_code}
 

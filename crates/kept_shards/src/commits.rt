@@ -1,7 +1,6 @@
 use crate::shards::KeptShards;
-use clients::Commits;
 use entry_words::Refused;
-use place_kit::Pass;
+use passes::{Commits, Pass};
 use tect_calls::{AnyReply, Asked};
 
 impl Commits for KeptShards {

@@ -2,7 +2,7 @@ ghost use Rattle.std.specs.Prelude.{◌≡◌};
 
 use crate::KeptShards;
 use entry_words::Refused;
-use place_kit::Pass;
+use passes::Pass;
 use std::process::Abort;
 use std::test::Fail;
 use tect_calls::name_check_dir;

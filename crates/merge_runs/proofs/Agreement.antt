@@ -7,7 +7,7 @@ use Rattle.place_kit.specs.declared.any.AnyKept.{AnyKept}
 use Rattle.place_kit.specs.declared.any.AnyKept.TheVariants.{Name, File}
 use Rattle.entry_words.specs.declared.entry.Entry.{Entry}
 use Rattle.entry_words.specs.declared.entry.Moment.TheVariants.{Act}
-use Rattle.place_kit.specs.declared.pass.Pass.{Pass}
+use Rattle.passes.specs.declared.pass.Pass.{Pass}
 use Rattle.place_kit.specs.Kept.{history_of, place_of}
 use Rattle.entry_words.specs.Moments.{steps_count}
 use Rattle.place_kit.specs.Replay.{stamps_rise}

@@ -5,7 +5,7 @@ use Rattle.std.specs.List.Sorted.{IsPermutation, IsSortedBy}
 use Rattle.std.specs.Ordering.{is_lt}
 use Rattle.std.proofs.lemmas.List.{get_or-map, length-map}
 use Rattle.std.proofs.lemmas.List.Sorted.{IsPermutation-map}
-use Rattle.place_kit.specs.declared.pass.Pass.{Pass}
+use Rattle.passes.specs.declared.pass.Pass.{Pass}
 use Rattle.merge_runs.specs.declared.keyed.Keyed.{Keyed}
 use Rattle.merge_runs.specs.Keyed.{moment_in}
 use Rattle.merge_runs.specs.Merged.{moment_cmp, moments_of, IsInOrder, HaveDifferentActors}

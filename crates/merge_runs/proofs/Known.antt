@@ -7,7 +7,7 @@ use Rattle.place_kit.specs.declared.any.AnyKept.{AnyKept}
 use Rattle.entry_words.specs.declared.entry.Entry.{Entry}
 use Rattle.entry_words.specs.declared.entry.Moment.{Moment}
 use Rattle.entry_words.specs.declared.entry.Moment.TheVariants.{Act}
-use Rattle.place_kit.specs.declared.pass.Pass.{Pass}
+use Rattle.passes.specs.declared.pass.Pass.{Pass}
 use Rattle.place_kit.specs.Kept.{history_of}
 use Rattle.merge_runs.specs.Merged.{HaveDifferentActors, StandInOrder, moments_of, entries_of, trails, histories, IsStored}
 use Rattle.merge_runs.specs.Splits.{IsApart}

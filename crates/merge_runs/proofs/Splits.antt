@@ -8,7 +8,7 @@ use Rattle.place_kit.specs.declared.any.AnyKept.{AnyKept}
 use Rattle.entry_words.specs.declared.entry.Entry.{Entry}
 use Rattle.entry_words.specs.declared.entry.Moment.{Moment}
 use Rattle.entry_words.specs.declared.entry.Moment.TheVariants.{Act}
-use Rattle.place_kit.specs.declared.pass.Pass.{Pass}
+use Rattle.passes.specs.declared.pass.Pass.{Pass}
 use Rattle.entry_words.specs.Moments.{steps_count}
 use Rattle.merge_runs.specs.Merged.{HaveDifferentActors, moments_of, entries_of, trails, histories, IsStored}
 use Rattle.merge_runs.specs.Splits.{IsInPass, IsOther, IsInPlace, IsApart}

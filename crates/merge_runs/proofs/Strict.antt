@@ -11,7 +11,7 @@ use Rattle.std.proofs.lemmas.List.Sorted.{sorted_far, ranks_by, sum_by-IsPermuta
 use Rattle.std.proofs.lemmas.List.Sums.{sum_by-cons, sum_by-append}
 use borrow.Author.Tests.{eq-eqb, eqb-true, ltb-true}
 use Rattle.entry_words.specs.declared.entry.Moment.{Moment}
-use Rattle.place_kit.specs.declared.pass.Pass.{Pass}
+use Rattle.passes.specs.declared.pass.Pass.{Pass}
 use Rattle.entry_words.specs.Moments.{stamp_of, actor_of, place_of_moment, rises, all_of_actor}
 use Rattle.merge_runs.specs.Merged.{moment_cmp, Before, BeforeAll, IsInOrder, moments_of}
 use Rattle.merge_runs.proofs.Order.{total, both}

@@ -6,7 +6,7 @@ use Rattle.place_kit.specs.declared.any.AnyKept.{AnyKept}
 use Rattle.entry_words.specs.declared.entry.Entry.{Entry}
 use Rattle.entry_words.specs.declared.entry.Moment.{Moment}
 use Rattle.entry_words.specs.declared.entry.Moment.TheVariants.{Act, Local}
-use Rattle.place_kit.specs.declared.pass.Pass.{Pass}
+use Rattle.passes.specs.declared.pass.Pass.{Pass}
 use Rattle.entry_words.specs.Moments.{trail_of}
 use Rattle.merge_runs.specs.Merged.{moments_of, entries_of, trails, IsStored}
 use Rattle.merge_runs.specs.Splits.{IsStoredMoment}

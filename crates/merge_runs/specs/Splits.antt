@@ -5,7 +5,7 @@ use Rattle.place_kit.specs.declared.any.AnyKept.{AnyKept}
 use Rattle.entry_words.specs.declared.entry.Entry.{Entry}
 use Rattle.entry_words.specs.declared.entry.Moment.{Moment}
 use Rattle.entry_words.specs.declared.entry.Moment.TheVariants.{Act, Local}
-use Rattle.place_kit.specs.declared.pass.Pass.{Pass}
+use Rattle.passes.specs.declared.pass.Pass.{Pass}
 use Rattle.merge_runs.specs.declared.fault.GatherFault.{GatherFault}
 use Rattle.merge_runs.specs.declared.fault.GatherFault.TheVariants.{NoMemory, Split}
 use Rattle.merge_runs.specs.Merged.{trails, histories, entries_of, IsStored}

@@ -6,7 +6,8 @@ ghost use Rattle.merge_runs.specs.Merged.{HaveDifferentActors, StandInOrder, mom
 ghost use Rattle.merge_runs.specs.Splits.{IsApart, IsStoredMoment};
 
 use entry_words::{Entry, Moment};
-use place_kit::{AnyKept, Pass};
+use passes::Pass;
+use place_kit::AnyKept;
 
 /// The pass of that actor.
 pub fn pass_of(passes: &[Pass], actor: u32) -> Option<&Pass>

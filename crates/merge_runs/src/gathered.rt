@@ -10,7 +10,8 @@ use crate::fault::GatherFault;
 use crate::sorted::merged;
 use crate::split::split;
 use entry_words::Moment;
-use place_kit::{AnyKept, Pass};
+use passes::Pass;
+use place_kit::AnyKept;
 use std::alloc::Global;
 use tect_ids::NoMemory;
 

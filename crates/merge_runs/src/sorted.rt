@@ -6,7 +6,7 @@ ghost use Rattle.merge_runs.specs.Keyed.{moment_in, key_in};
 
 use crate::keyed::Keyed;
 use entry_words::Moment;
-use place_kit::Pass;
+use passes::Pass;
 use std::alloc::Global;
 use tect_ids::NoMemory;
 

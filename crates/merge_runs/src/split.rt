@@ -7,7 +7,8 @@ ghost use Rattle.merge_runs.specs.Splits.{IsApart, IsFault, IsInPass, IsInPlace,
 use crate::agree::{is_stored, pass_of};
 use crate::fault::GatherFault;
 use entry_words::{Entry, Moment};
-use place_kit::{AnyKept, Pass};
+use passes::Pass;
+use place_kit::AnyKept;
 use tect_ids::NoMemory;
 
 // The entry of the moment, if it is the one of that step.

@@ -13,14 +13,16 @@ use Rattle.noted_runs.specs.Laws.{ClientsFollow}
 use Rattle.world_runs.proofs.Actors.{same_number}
 
 -- the line is done by its own client
-does_of : (busy : Busy) (actor other : ℕ) (b : Option OpId) (act : Act) (es : List Event) (next : Option OpId) → other ≡ actor → busy actor ≡ b
+does_of : (busy : Busy) (actor other : ℕ) (b : Option OpId) (act : Act) (es : List Event) (next : Option OpId) → other ≡ actor
+    → busy actor ≡ b
     → DoesLine actor b act es next → DoesLine other (busy other) act es next
 does_of busy actor other b act es next is at does = rw (is, at) does
 
 busy_after : (busy : Busy) (actor other : ℕ) (next : Option OpId) → other ≡ actor → with_busy busy other next actor ≡ next
 busy_after busy actor other next is = rw (is, same_number actor) refl
 
-pub lines_follow : (actor : ℕ) (busy : Busy) (b : Option OpId) (ls : List Line) (es : List Event) (last : Option OpId) → busy actor ≡ b → DoesLines actor b ls es last → FollowsFrom busy ls es
+pub lines_follow : (actor : ℕ) (busy : Busy) (b : Option OpId) (ls : List Line) (es : List Event) (last : Option OpId) → busy actor ≡ b
+    → DoesLines actor b ls es last → FollowsFrom busy ls es
 lines_follow actor busy b [] es last at does = does.0
 lines_follow actor busy b (lines.Client client other act ∷ ls) es last at does =
     let next : Option OpId = does.2 in (
@@ -40,7 +42,8 @@ pub clients_follow : ClientsFollow
 clients_follow ls history does actor = lines_follow actor none_busy None (filter (line_concerns actor) ls) (filter (concerns actor) history) (does actor).0 refl (does actor).1
 
 -- some lines, and then further ones
-pub does_lines-append : (actor : ℕ) (a b c : Option OpId) (ls ks : List Line) (es fs : List Event) → DoesLines actor a ls es b → DoesLines actor b ks fs c → DoesLines actor a (ls ++ ks) (es ++ fs) c
+pub does_lines-append : (actor : ℕ) (a b c : Option OpId) (ls ks : List Line) (es fs : List Event) → DoesLines actor a ls es b
+    → DoesLines actor b ks fs c → DoesLines actor a (ls ++ ks) (es ++ fs) c
 does_lines-append actor a b c [] ks es fs first more =
     let behind : DoesLines actor a ks fs c = subst (λ (x : Option OpId). DoesLines actor x ks fs c) first.1 more in
     subst (λ (xs : List Event). DoesLines actor a ks (xs ++ fs) c) (sym first.0) behind

@@ -40,7 +40,8 @@ end_cost actor op answers.NoMemory = refl
 end_cost actor op (answers.HistoryFull p) = refl
 end_cost actor op _ = refl
 
-moment_used : (actor : ℕ) (m : Moment) (ms : List Moment) → all_of_actor actor (m ∷ ms) ≡ true → all_notes_of actor (m ∷ ms) ≡ true → event_cost actor (event_of m) ≡ moment_cost m
+moment_used : (actor : ℕ) (m : Moment) (ms : List Moment) → all_of_actor actor (m ∷ ms) ≡ true → all_notes_of actor (m ∷ ms) ≡ true
+    → event_cost actor (event_of m) ≡ moment_cost m
 moment_used actor (Act e) ms of noted = ap (λ b. if b then 1 else 0) (and_parts _ _ of).0
 moment_used actor (Local stamp by (notes.Began op c)) ms of noted = ap (λ b. if b then 2 else 0) (and_parts _ _ noted).0
 moment_used actor (Local stamp by (notes.Ended op a)) ms of noted = end_cost actor op a
@@ -51,7 +52,8 @@ other_notes actor (Act e) ms noted = noted
 other_notes actor (Local stamp by note) ms noted = (and_parts _ _ noted).1
 
 -- what one actor's moments use is what they cost
-pub used_moments : (actor : ℕ) (ms : List Moment) → all_of_actor actor ms ≡ true → all_notes_of actor ms ≡ true → used (events_of ms) actor ≡ moments_cost ms
+pub used_moments : (actor : ℕ) (ms : List Moment) → all_of_actor actor ms ≡ true → all_notes_of actor ms ≡ true
+    → used (events_of ms) actor ≡ moments_cost ms
 used_moments actor [] of noted = refl
 used_moments actor (m ∷ ms) of noted =
     let rest : used (events_of ms) actor ≡ moments_cost ms = used_moments actor ms (and_parts (eqb (actor_of m) actor) (all_of_actor actor ms) of).1 (other_notes actor m ms noted) in
@@ -69,7 +71,8 @@ note_bytes actor stamp by (notes.Ended op a) = end_bytes actor op a
 note_bytes actor stamp by (notes.Stopped op) = refl
 
 -- the bytes that are kept of one actor's moments are those of its replies
-pub bytes_of_moments : (actor : ℕ) (ms : List Moment) → all_of_actor actor ms ≡ true → kept_bytes (events_of ms) actor ≡ all_reply_bytes (trail_of ms)
+pub bytes_of_moments : (actor : ℕ) (ms : List Moment) → all_of_actor actor ms ≡ true
+    → kept_bytes (events_of ms) actor ≡ all_reply_bytes (trail_of ms)
 bytes_of_moments actor [] of = refl
 bytes_of_moments actor (Act e ∷ ms) of =
     let rest : kept_bytes (events_of ms) actor ≡ all_reply_bytes (trail_of ms) = bytes_of_moments actor ms (and_parts (eqb e.actor actor) (all_of_actor actor ms) of).1 in

@@ -32,7 +32,8 @@ use Rattle.noted_runs.proofs.Weaving.{AreSilentCuts, filter_agree_where, keeps, 
 
 -- ---- by client
 
-pub by_client_agree : (names : List (List ℕ)) (actor : ℕ) (f g : ℕ → List ReportLine) → ((a : ℕ) → f a ≡ g a) → by_client names actor f ≡ by_client names actor g
+pub by_client_agree : (names : List (List ℕ)) (actor : ℕ) (f g : ℕ → List ReportLine) → ((a : ℕ) → f a ≡ g a)
+    → by_client names actor f ≡ by_client names actor g
 by_client_agree [] actor f g same = refl
 by_client_agree (name ∷ names) actor f g same = ap (λ l. l ++ by_client names (actor + 1) f) (same actor) ∙ ap (λ l. g actor ++ l) (by_client_agree names (actor + 1) f g same)
 
@@ -55,7 +56,8 @@ IsNoDump Dumped = ⊥
 
 -- the part has one event more
 grown : (counts : Counts) (clients : List (List ℕ)) (before part : List Event) (e : Event) (es fs : List Event) → {x : List ReportLine}
-    → x ≡ race_report_after counts clients before ((part ++ e ∷ []) ++ es) fs → x ≡ race_report_after counts clients before (part ++ e ∷ es) fs
+    → x ≡ race_report_after counts clients before ((part ++ e ∷ []) ++ es) fs
+    → x ≡ race_report_after counts clients before (part ++ e ∷ es) fs
 grown counts clients before part e es fs h = h ∙ ap (λ p. race_report_after counts clients before p fs) (append_assoc part (e ∷ []) es)
 
 pub part_grows : (counts : Counts) (clients : List (List ℕ)) (before part es fs : List Event) → AllByRecursion IsNoDump es
@@ -105,7 +107,8 @@ no_dump_own actor (Stopped op) is = refl
 no_dump_own actor (Failed op a) is = refl
 no_dump_own actor Dumped is = absurd is
 
-pub own_events : (actor : ℕ) (ms : List Moment) (silent : List Event) → AllByRecursion IsOwnNote ms → AllByRecursion IsSilent silent → own actor (events_of ms ++ silent) ≡ own_part actor ms silent
+pub own_events : (actor : ℕ) (ms : List Moment) (silent : List Event) → AllByRecursion IsOwnNote ms → AllByRecursion IsSilent silent
+    → own actor (events_of ms ++ silent) ≡ own_part actor ms silent
 own_events actor ms silent are quiet =
     filter_agree_where IsNoDump (is_own actor) (concerns actor) (no_dump_own actor) (events_of ms ++ silent) (part_no_dump ms silent quiet)
     ∙ part_concerns actor silent ms are quiet
@@ -113,7 +116,8 @@ own_events actor ms silent are quiet =
 -- ---- the report
 
 module _ (counts : Counts) (clients : List (List ℕ)) where
-  part_shown : (history : List Event) (before : ℕ → List Event) (ms : List Moment) (silent : List Event) → ((a : ℕ) → own a history ≡ before a) → AllByRecursion IsOwnNote ms → AllByRecursion IsSilent silent
+  part_shown : (history : List Event) (before : ℕ → List Event) (ms : List Moment) (silent : List Event)
+      → ((a : ℕ) → own a history ≡ before a) → AllByRecursion IsOwnNote ms → AllByRecursion IsSilent silent
       → part_lines counts clients history (events_of ms ++ silent) ≡ part_report counts clients before ms silent
   part_shown history before ms silent own_before are quiet =
       lines_by_client counts clients clients 1 history (events_of ms ++ silent)
@@ -124,14 +128,16 @@ module _ (counts : Counts) (clients : List (List ℕ)) where
       ∙ ap (λ p. own_lines counts clients a (before a) p) (own_events a ms silent are quiet))
 
   -- the store behind a part, and that behind its dump
-  part_store : (history : List Event) (store : Store) (ms : List Moment) (silent : List Event) → (moment counts history).store ≡ store → AllByRecursion IsSilent silent
+  part_store : (history : List Event) (store : Store) (ms : List Moment) (silent : List Event) → (moment counts history).store ≡ store
+      → AllByRecursion IsSilent silent
       → (moment counts (history ++ (events_of ms ++ silent))).store ≡ stored_after store (events_of ms)
   part_store history store ms silent at quiet =
       let part : List Event = events_of ms ++ silent in
       ap (λ (m : WorldState). m.store) (moment-append counts history part) ∙ store_is_after (moment counts history) part ∙ ap (λ s. stored_after s part) at
       ∙ stored_after-append store (events_of ms) silent ∙ (silent_replies (stored_after store (events_of ms)) silent quiet).1
 
-  own_more : (history : List Event) (before : List Event) (a : ℕ) (ms : List Moment) (silent : List Event) → own a history ≡ before → AllByRecursion IsOwnNote ms → AllByRecursion IsSilent silent
+  own_more : (history : List Event) (before : List Event) (a : ℕ) (ms : List Moment) (silent : List Event) → own a history ≡ before
+      → AllByRecursion IsOwnNote ms → AllByRecursion IsSilent silent
       → own a ((history ++ (events_of ms ++ silent)) ++ Dumped ∷ []) ≡ before ++ own_part a ms silent
   own_more history before a ms silent own_before are quiet =
       let part : List Event = events_of ms ++ silent in

@@ -1,5 +1,6 @@
 -- what is woven of moments, refusals and dumps: what concerns an actor of it, and its replies
-use Rattle.std.proofs.Common.{◌≡◌, ℕ, ◌<◌, ◌≤◌, Bool, true, false, not, if◌then◌else◌, List, [], ◌∷◌, ◌++◌, refl, sym, ap, ◌∙◌, subst, eqb, nat_le, arith}
+use Rattle.std.proofs.Common.{◌≡◌, ℕ, ◌<◌, ◌≤◌, Bool, true, false, not, if◌then◌else◌, List, [], ◌∷◌, ◌++◌, refl, sym, ap, ◌∙◌, subst, eqb}
+use Rattle.std.proofs.Common.{nat_le, arith}
 use Rattle.std.proofs.lemmas.Bool.{lt-leb, leb-false}
 use Rattle.std.proofs.lemmas.List.{map-append}
 use Rattle.std.proofs.lemmas.List.Elements.{All-filter, All-from_recursion, All-head, All-tail, filter-append, recursion_from_All}
@@ -40,7 +41,8 @@ filter-swap p q (x ∷ xs) =
     ] refl
 
 -- two tests that agree where P holds
-pub filter_agree_where : {X : Type 0} (P : X → Type 0) (p q : X → Bool) → ((x : X) → P x → p x ≡ q x) → (xs : List X) → AllByRecursion P xs → filter p xs ≡ filter q xs
+pub filter_agree_where : {X : Type 0} (P : X → Type 0) (p q : X → Bool) → ((x : X) → P x → p x ≡ q x) → (xs : List X) → AllByRecursion P xs
+    → filter p xs ≡ filter q xs
 filter_agree_where P p q same [] all = refl
 filter_agree_where P p q same (x ∷ xs) all = rw (same x all.0, filter_agree_where P p q same xs all.1) refl
 
@@ -57,7 +59,8 @@ moment_concerns actor (Local stamp by (notes.Began op c)) is = ap (λ n. eqb n a
 moment_concerns actor (Local stamp by (notes.Ended op a)) is = end_concerns actor op a ∙ ap (λ n. eqb n actor) is
 moment_concerns actor (Local stamp by (notes.Stopped op)) is = ap (λ n. eqb n actor) is
 
-pub events_concern : (actor : ℕ) (ms : List Moment) → AllByRecursion IsOwnNote ms → filter (concerns actor) (events_of ms) ≡ events_of (filter (is_of actor) ms)
+pub events_concern : (actor : ℕ) (ms : List Moment) → AllByRecursion IsOwnNote ms
+    → filter (concerns actor) (events_of ms) ≡ events_of (filter (is_of actor) ms)
 events_concern actor [] are = refl
 events_concern actor (m ∷ ms) are =
     let same : concerns actor (event_of m) ≡ is_of actor m = moment_concerns actor m are.0 in
@@ -98,7 +101,8 @@ part_concerns actor silent ms are quiet =
     ∙ ap (λ es. es ++ filter (concerns actor) silent) (events_concern actor ms are)
     ∙ ap (λ es. events_of (filter (is_of actor) ms) ++ es) (filter_agree_where IsSilent (concerns actor) (is_own actor) (silent_concerns actor) silent quiet)
 
-woven_concerns-by : (actor : ℕ) (cuts : List Cut) (last : List Event) (ms : List Moment) → AllByRecursion IsOwnNote ms → AreSilentCuts cuts last
+woven_concerns-by : (actor : ℕ) (cuts : List Cut) (last : List Event) (ms : List Moment) → AllByRecursion IsOwnNote ms
+    → AreSilentCuts cuts last
     → filter (concerns actor) (woven cuts last ms) ≡ woven (own_cuts actor cuts) (own actor last) (filter (is_of actor) ms)
 woven_concerns-by actor [] last ms are quiet = part_concerns actor last ms are quiet.1
 woven_concerns-by actor (c ∷ cs) last ms are quiet =
@@ -131,7 +135,8 @@ silent_replies s (Acted op q x ∷ es) quiet = absurd quiet.0
 silent_replies s (Dumped ∷ es) quiet = absurd quiet.0
 
 -- behind a moment that is late all are late
-all_late : (stamp : ℕ) (low : ℕ) (ms : List Moment) → stamp < low → AllByRecursion (λ n. low ≤ stamp_of n) ms → (filter (is_early stamp) ms ≡ []) × (filter (is_late stamp) ms ≡ ms)
+all_late : (stamp : ℕ) (low : ℕ) (ms : List Moment) → stamp < low → AllByRecursion (λ n. low ≤ stamp_of n) ms
+    → (filter (is_early stamp) ms ≡ []) × (filter (is_late stamp) ms ≡ ms)
 all_late stamp low [] above all = (refl, refl)
 all_late stamp low (m ∷ ms) above all =
     let late : nat_le (stamp_of m) stamp ≡ false = lt-leb (stamp_of m) stamp (omega (arith, all.0)) in
@@ -158,12 +163,14 @@ stamps_rise-filter p (m ∷ ms) rise =
     ]
 
 -- what is put behind and says nothing of the store leaves the replies
-quiet_behind : (s : Store) (es silent : List Event) → AllByRecursion IsSilent silent → RepliesAre s es → RepliesAre s (es ++ silent) × (stored_after s (es ++ silent) ≡ stored_after s es)
+quiet_behind : (s : Store) (es silent : List Event) → AllByRecursion IsSilent silent → RepliesAre s es
+    → RepliesAre s (es ++ silent) × (stored_after s (es ++ silent) ≡ stored_after s es)
 quiet_behind s es silent quiet replies =
     let none = silent_replies (stored_after s es) silent quiet in
     (replies-append s es silent replies none.0, stored_after-append s es silent ∙ none.1)
 
-woven_replies-by : (s : Store) (cuts : List Cut) (last : List Event) (ms : List Moment) → StampsRise ms → AreSilentCuts cuts last → RepliesAre s (events_of ms) → RepliesAre s (woven cuts last ms)
+woven_replies-by : (s : Store) (cuts : List Cut) (last : List Event) (ms : List Moment) → StampsRise ms → AreSilentCuts cuts last
+    → RepliesAre s (events_of ms) → RepliesAre s (woven cuts last ms)
 woven_replies-by s [] last ms rise quiet replies = (quiet_behind s (events_of ms) last quiet.1 replies).0
 woven_replies-by s (c ∷ cs) last ms rise quiet replies =
     let early : List Moment = filter (is_early c.stamp) ms in

@@ -19,7 +19,8 @@ use Rattle.world_runs.specs.PartReports.{parts_report}
 
 abbrev pub OwnRunsMakeRun : Type 0
 OwnRunsMakeRun =
-    (counts : Counts) (history : List Event) → ((actor : ℕ) → OwnRun counts idle_actor (own actor history)) → RepliesAre opening_store history
+    (counts : Counts) (history : List Event) → ((actor : ℕ) → OwnRun counts idle_actor (own actor history))
+    → RepliesAre opening_store history
     → IsWorldRun counts history
 
 abbrev pub RunIsOwnRuns : Type 0
@@ -36,7 +37,8 @@ ActorsAreTheirOwn =
 
 abbrev pub OwnLimitsMakeLimits : Type 0
 OwnLimitsMakeLimits =
-    (counts : Counts) (history : List Event) → ((actor : ℕ) → OwnLimits counts [] idle_actor (own actor history)) → KeepsLimits counts history
+    (counts : Counts) (history : List Event) → ((actor : ℕ) → OwnLimits counts [] idle_actor (own actor history))
+    → KeepsLimits counts history
 
 abbrev pub WovenConcerns : Type 0
 WovenConcerns =
@@ -58,5 +60,6 @@ ClientsFollow =
 -- what a report shows of a woven history
 abbrev pub WovenReports : Type 0
 WovenReports =
-    (counts : Counts) (clients : List (List ℕ)) (cuts : List Cut) (last : List Event) (ms : List Moment) → All IsOwnNote ms → AreSilent cuts last
+    (counts : Counts) (clients : List (List ℕ)) (cuts : List Cut) (last : List Event) (ms : List Moment) → All IsOwnNote ms
+    → AreSilent cuts last
     → race_report counts clients (woven cuts last ms) ≡ parts_report counts clients (λ actor. []) opening_store cuts last ms

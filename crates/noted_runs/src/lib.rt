@@ -2,16 +2,8 @@
 //! transactions. Nothing here is called: each function's contract is a law.
 #![tactic(auto)]
 
-ghost use Rattle.noted_runs.specs.Laws.{
-  ActorsAreTheirOwn,
-  ClientsFollow,
-  OwnLimitsMakeLimits,
-  OwnRunsMakeRun,
-  RunIsOwnRuns,
-  WovenConcerns,
-  WovenReplies,
-  WovenReports,
-};
+ghost use Rattle.noted_runs.specs.Laws.{ActorsAreTheirOwn, ClientsFollow, OwnLimitsMakeLimits, OwnRunsMakeRun, RunIsOwnRuns, WovenConcerns};
+ghost use Rattle.noted_runs.specs.Laws.{WovenReplies, WovenReports};
 
 /// Where each actor's own events are a run of its programs, and each reply is the one that the store gives after the requests
 /// before it, the whole is a run of the world.

@@ -5,7 +5,7 @@ use Rattle.store_rules.specs.declared.any.AnyReq.{AnyReq}
 use Rattle.store_rules.specs.declared.any.AnyReply.{AnyReply}
 use Rattle.place_kit.specs.declared.kept.Kept.{Kept}
 use Rattle.place_kit.specs.declared.machine.Machine.{Ghosts}
-use Rattle.place_kit.specs.declared.pass.Pass.{Pass}
+use Rattle.passes.specs.declared.pass.Pass.{Pass}
 use Rattle.place_kit.specs.Committed.{Committed}
 
 module _ {X Y Z R E : Type 0} {g : Ghosts X Y Z} (old new : Kept X Y Z g) (before now : Pass) (req : AnyReq) (wide : R → AnyReply) where

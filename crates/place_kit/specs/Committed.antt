@@ -7,8 +7,8 @@ use Rattle.entry_words.specs.declared.entry.Entry.{Entry}
 use Rattle.entry_words.specs.declared.entry.Moment.TheVariants.{Act}
 use Rattle.place_kit.specs.declared.kept.Kept.{Kept}
 use Rattle.place_kit.specs.declared.machine.Machine.{Ghosts}
-use Rattle.place_kit.specs.declared.pass.Pass.{Pass}
-use Rattle.place_kit.specs.Commits.{entry_of, next_stamp, spare_of}
+use Rattle.passes.specs.declared.pass.Pass.{Pass}
+use Rattle.passes.specs.Commits.{entry_of, next_stamp, spare_of}
 
 -- The machine gave that reply to the request and did it, and its history grew by that entry: the pass's next one, stamped above
 -- both clocks.

@@ -1,7 +1,4 @@
-pub mod Logged
-pub mod Passes
 pub mod Replay
-pub mod Commits
 pub mod Machines
 pub mod Kept
 pub mod Committed

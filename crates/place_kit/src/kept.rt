@@ -1,12 +1,11 @@
 ghost use Rattle.std.specs.Prelude.{◌≡◌, ◌<◌, ◌≤◌, ◌^◌, [], true, false, length, IfOk, OnOk, OnErr, IsOk, ◌↔◌};
 ghost use Rattle.place_kit.specs.Replay.{IsKept, IsKept-prop};
-ghost use Rattle.place_kit.specs.Commits.{HasRoom, IsFull, spare_of};
+ghost use Rattle.passes.specs.Commits.{HasRoom, IsFull, spare_of};
 
-use crate::log::Log;
 use crate::machine::Machine;
-use crate::pass::Pass;
 use crate::prepared::Prepared;
 use entry_words::{Entry, Label, Refused};
+use passes::{Log, Pass};
 use std::alloc::Global;
 use std::snapshot::Snapshot;
 use tect_ids::{NoMemory, Place};
@@ -169,8 +168,8 @@ impl<M: Machine> Kept<M> {
         let Ok(()) = self.history.reserve(1) else {
             return Err(NoMemory);
         };
-        note_that_it_is_short(self.history.as_slice());
-        let stamp = self.clock.max(pass.clock) + 1;
+        note_that_short(self.history.as_slice());
+        let stamp = self.clock.max(pass.clock()) + 1;
         let Ok(()) = change(&mut self.machine, &req) else {
             self.history.lower(room);
             return Err(NoMemory);
@@ -200,7 +199,7 @@ fn change<M: Machine>(machine: &mut M, req: &M::Req) -> Result<(), NoMemory>
 }
 
 /// Stands for its contract alone: a history is short, since its entries take room.
-fn note_that_it_is_short(history: &[Entry])
+fn note_that_short(history: &[Entry])
     ensures { length history.now < 2 ^ 59 }
 {
     let _len = history.len();

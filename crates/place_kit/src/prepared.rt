@@ -1,8 +1,8 @@
 ghost use Rattle.std.specs.Prelude.{◌≡◌, ◌<◌, ◌≤◌, true, IfOk, OnOk, OnErr, IsOk};
-ghost use Rattle.place_kit.specs.Commits.{spare_of};
+ghost use Rattle.passes.specs.Commits.{spare_of};
 
 use crate::machine::Machine;
-use crate::pass::Pass;
+use passes::Pass;
 use tect_calls::AnyReq;
 use tect_ids::NoMemory;
 

@@ -1,9 +1,10 @@
 ghost use Rattle.std.specs.Prelude.{◌≡◌, None, OnOk};
 
-use crate::{AnyKept, AnyMachine, Kept, MOST_MOMENTS, Pass};
+use crate::{AnyKept, AnyMachine, Kept};
 use entry_words::{Note, Refused};
 use file_shard::FileShard;
 use name_shard::NameShard;
+use passes::{MOST_MOMENTS, Pass};
 use std::alloc::Global;
 use std::test::Fail;
 use store_rules::{AnyReply, AnyReq, FileReply, FileReq, NameReply, NameReq};

@@ -8,11 +8,11 @@ use Rattle.name_shard.proofs.shard.NameShard.TheSendSync as names
 use Rattle.entry_words.specs.contracts.entry.Entry as Entry
 use Rattle.place_kit.specs.contracts.files.FileShardMachine.TheImpl as FileMachine
 use Rattle.place_kit.specs.contracts.kept.Kept as Kept
-use Rattle.place_kit.specs.contracts.log.Log as Log
+use Rattle.passes.specs.contracts.log.Log as Log
 use Rattle.place_kit.specs.contracts.names.NameShardMachine.TheImpl as NameMachine
 use Rattle.entry_words.proofs.entry.Entry.TheSendSync as entry
 use Rattle.entry_words.proofs.entry.Label.TheSendSync as label
-use Rattle.place_kit.proofs.log.Log.TheSendSync as log
+use Rattle.passes.proofs.log.Log.TheSendSync as log
 use Rattle.store_rules.specs.contracts.files.FileReq as FileReq
 use Rattle.store_rules.specs.contracts.files.FileReply as FileReply
 use Rattle.store_rules.specs.contracts.names.NameReq as NameReq

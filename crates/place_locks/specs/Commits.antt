@@ -7,8 +7,8 @@ use Rattle.entry_words.specs.declared.entry.Label.{Label}
 use Rattle.entry_words.specs.declared.entry.Moment.TheVariants.{Act}
 use Rattle.entry_words.specs.declared.entry.Refused.{Refused}
 use Rattle.entry_words.specs.declared.entry.Refused.TheVariants.{NoMemory, HistoryFull, Astray}
-use Rattle.place_kit.specs.declared.pass.Pass.{Pass}
-use Rattle.place_kit.specs.Commits.{op_number}
+use Rattle.passes.specs.declared.pass.Pass.{Pass}
+use Rattle.passes.specs.Commits.{op_number}
 use Rattle.store_rules.specs.ReplyBytes.{reply_bytes}
 
 -- the pass grew by the one entry of that request at that place, with that reply; its stamp alone is left open, and rises

@@ -4,8 +4,8 @@ use Rattle.tect_ids.specs.declared.ids.Place.{Place}
 use Rattle.store_rules.specs.declared.any.AnyReq.{AnyReq}
 use Rattle.store_rules.specs.declared.any.AnyReply.{AnyReply}
 use Rattle.entry_words.specs.declared.entry.Entry.{Entry}
-use Rattle.place_kit.specs.declared.pass.Pass.{Pass}
-use Rattle.place_kit.specs.Commits.{op_number}
+use Rattle.passes.specs.declared.pass.Pass.{Pass}
+use Rattle.passes.specs.Commits.{op_number}
 
 -- the next step of the pass's actor: that request at that place, with that reply; its stamp alone is left open, above the clock
 pub record IsNext (pass : Pass) (place : Place) (req : AnyReq) (reply : AnyReply) (entry : Entry) : Type 0 where

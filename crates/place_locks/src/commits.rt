@@ -1,11 +1,12 @@
 ghost use Rattle.std.specs.Prelude.{◌≡◌, ◌↔◌, ◌<◌, ◌^◌, IfOk, IfErr, OnErr};
-ghost use Rattle.place_kit.specs.Commits.{HasRoom, IsFull};
+ghost use Rattle.passes.specs.Commits.{HasRoom, IsFull};
 ghost use Rattle.place_kit.specs.Committed.{Served};
 ghost use Rattle.place_locks.specs.Commits.{HasCommitted, IsMissOf, IsRefusalFor};
 ghost use Rattle.place_locks.specs.Serving.{IsNext};
 
 use entry_words::{Entry, Label, Refused};
-use place_kit::{Kept, Machine, Pass, Prepared};
+use passes::Pass;
+use place_kit::{Kept, Machine, Prepared};
 use std::hint::spin_loop;
 use std::sync::{Mutex, MutexGuard, Wait};
 use tect_edge::Gate;

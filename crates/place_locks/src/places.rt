@@ -1,7 +1,7 @@
 ghost use Rattle.std.specs.Prelude.{◌≡◌, ◌↔◌, IfOk, IfErr, OnErr};
 ghost use Rattle.store_rules.specs.Places.{request_place};
 ghost use Rattle.tect_ids.specs.Places.{HasPlaces};
-ghost use Rattle.place_kit.specs.Commits.{IsFull};
+ghost use Rattle.passes.specs.Commits.{IsFull};
 ghost use Rattle.place_locks.specs.Commits.{HasCommitted, IsRefusalFor};
 ghost use Rattle.entry_words.specs.Labels.{label_at};
 ghost use Rattle.place_kit.specs.Started.{AreStarted};
@@ -14,7 +14,8 @@ use crossbeam_utils::CachePadded;
 use entry_words::{Refused, label_at};
 use file_shard::FileShard;
 use name_shard::NameShard;
-use place_kit::{AnyKept, Kept, Pass};
+use passes::Pass;
+use place_kit::{AnyKept, Kept};
 use std::alloc::Global;
 use std::marker::Model;
 use std::sync::{Mutex, Wait};

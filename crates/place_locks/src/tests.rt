@@ -2,7 +2,8 @@ ghost use Rattle.std.specs.Prelude.{◌≡◌, IfOk};
 
 use crate::Places;
 use entry_words::Refused;
-use place_kit::{AnyKept, MOST_MOMENTS, Pass};
+use passes::{MOST_MOMENTS, Pass};
+use place_kit::AnyKept;
 use std::alloc::Global;
 use std::process::Abort;
 use std::sync::Wait;

@@ -2,7 +2,8 @@ ghost use Rattle.std.specs.Prelude.{◌≡◌};
 
 use crate::fault::RacerFault;
 use crate::player::Player;
-use clients::{Astray, Client, Commits, Turned};
+use clients::{Client, Turned};
+use passes::{Astray, Commits};
 use tect_ids::{Command, NoMemory};
 
 impl<C: Commits> Player<C> for Client {

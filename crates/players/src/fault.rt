@@ -1,5 +1,5 @@
-use clients::Astray;
 use entry_words::Label;
+use passes::Astray;
 use tect_ids::NoMemory;
 
 /// Why a client did not do its line.

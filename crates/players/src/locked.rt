@@ -1,8 +1,7 @@
 ghost use Rattle.std.specs.Prelude.{◌≡◌};
 
-use clients::Commits;
 use entry_words::Refused;
-use place_kit::Pass;
+use passes::{Commits, Pass};
 use place_locks::Places;
 use std::sync::Wait;
 use store_rules::AnyReply;

@@ -7,7 +7,8 @@ ghost use Rattle.players.specs.Players.{told_lines};
 
 use crate::acts::play;
 use crate::fault::RacerFault;
-use clients::{Client, Commits};
+use clients::Client;
+use passes::Commits;
 use std::alloc::Global;
 use tect_ids::{Act, Name, NoMemory, ReportLine};
 

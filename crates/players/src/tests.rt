@@ -1,7 +1,8 @@
 ghost use Rattle.std.specs.Prelude.{◌≡◌, ◌≤◌, length, IfOk, OnOk, vec_len};
 
 use crate::{Locked, Racer, play_act};
-use clients::{Client, Commits};
+use clients::Client;
+use passes::Commits;
 use place_locks::Places;
 use std::alloc::Global;
 use std::test::Fail;

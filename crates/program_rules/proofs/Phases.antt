@@ -27,7 +27,9 @@ use Rattle.store_rules.specs.Views.{as_found, as_listing, as_parent, as_bound, a
 use Rattle.program_rules.specs.declared.program.Phase.{Phase}
 use Rattle.program_rules.specs.declared.program.Phase.TheVariants.{Walk, Bind, Grant, Swap, Release, End}
 use Rattle.program_rules.specs.Paths.{last_name}
-use Rattle.program_rules.specs.Programs.{phase_ask, phase_answer, phase_hear, name_refusal, file_refusal, refusal, dir_refusal, walked, looked, checked, entries_heard, made_heard, unbound_heard, source_heard, first_hear, then_release, bound_heard, swapped_heard, first_phase}
+use Rattle.program_rules.specs.Programs.{phase_ask, phase_answer, phase_hear, name_refusal, file_refusal, refusal, dir_refusal, walked}
+use Rattle.program_rules.specs.Programs.{looked, checked, entries_heard, made_heard, unbound_heard, source_heard, first_hear, then_release}
+use Rattle.program_rules.specs.Programs.{bound_heard, swapped_heard, first_phase}
 use Rattle.program_rules.specs.Lacks.{IsLack}
 use Rattle.program_rules.specs.Asking.{HasFirstAsk, GivesName, IsSmooth}
 
@@ -131,7 +133,8 @@ module _ (place : Place) (x : AnyReply) where
   bound_smooth c op k n None = plain_refusal place k x
   bound_smooth c op k n (Some old) = released_smooth c old (answers.Found n) (λ lack. lack)
 
-  swapped_smooth : (c : Command) (op : OpId) (k : Key) (n : Node) (o : Option (Hold × Option Replaced)) → IsSmooth c (swapped_heard place op k n x o)
+  swapped_smooth : (c : Command) (op : OpId) (k : Key) (n : Node) (o : Option (Hold × Option Replaced))
+      → IsSmooth c (swapped_heard place op k n x o)
   swapped_smooth c op k n None = plain_refusal place k x
   swapped_smooth c op k n (Some p) = λ lack. lack
 
@@ -173,7 +176,8 @@ swap_asks op number k n (commands.Rename p []) gives none = gives
 swap_asks op number k n (commands.Rename p (m ∷ to)) gives none = cc
 swap_asks op number k n _ gives none = gives
 
-pub smooth_goes : (op : OpId) (number : ℕ) (c : Command) (at : Phase) → IsSmooth c at → phase_ask op number c at ≡ None → phase_answer at ≡ None → ⊥
+pub smooth_goes : (op : OpId) (number : ℕ) (c : Command) (at : Phase) → IsSmooth c at → phase_ask op number c at ≡ None
+    → phase_answer at ≡ None → ⊥
 smooth_goes op number c (Walk d (n ∷ ns)) smooth asks answers = cc
 smooth_goes op number c (Walk d []) smooth asks answers = first_asks op number d c smooth asks
 smooth_goes op number c (Bind k n o) smooth asks answers = cc

@@ -9,7 +9,7 @@ use Rattle.tect_ids.specs.declared.script.Line.{Line}
 use Rattle.tect_ids.specs.declared.script.ReportLine.{ReportLine}
 use Rattle.place_kit.specs.declared.any.AnyKept.{AnyKept}
 use Rattle.entry_words.specs.declared.entry.Moment.{Moment}
-use Rattle.place_kit.specs.declared.pass.Pass.{Pass}
+use Rattle.passes.specs.declared.pass.Pass.{Pass}
 use Rattle.entry_words.specs.Moments.{actor_of, is_of}
 use Rattle.place_kit.specs.Started.{AreStarted}
 use Rattle.merge_runs.specs.Merged.{HaveDifferentActors, moments_of}

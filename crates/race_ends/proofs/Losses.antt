@@ -2,7 +2,7 @@
 use Rattle.std.proofs.Common.{List}
 use Rattle.tect_ids.specs.declared.ids.Counts.{Counts}
 use Rattle.place_kit.specs.declared.any.AnyKept.{AnyKept}
-use Rattle.place_kit.specs.declared.pass.Pass.{Pass}
+use Rattle.passes.specs.declared.pass.Pass.{Pass}
 use Rattle.place_kit.specs.Started.{AreStarted}
 use Rattle.merge_runs.specs.Merged.{HaveDifferentActors}
 use Rattle.race_ends.specs.declared.fault.RaceFault.{RaceFault}

@@ -4,7 +4,7 @@ use Rattle.std.specs.List.{All, AllZip, slice_get}
 use Rattle.merge_runs.proofs.Order.{In}
 use Rattle.merge_runs.proofs.Trails.{in_all}
 use Rattle.race_runs.specs.Stories.{Story}
-use Rattle.place_kit.specs.declared.pass.Pass.{Pass}
+use Rattle.passes.specs.declared.pass.Pass.{Pass}
 
 pub in_from_place : {X : Type 0} (xs : List X) (i : ℕ) (x : X) → slice_get xs i ≡ Some x → In x xs
 in_from_place [] i x e = absurd cc

@@ -2,7 +2,7 @@
 use Rattle.std.specs.Prelude.{List}
 use Rattle.tect_ids.specs.declared.ids.Counts.{Counts}
 use Rattle.place_kit.specs.declared.any.AnyKept.{AnyKept}
-use Rattle.place_kit.specs.declared.pass.Pass.{Pass}
+use Rattle.passes.specs.declared.pass.Pass.{Pass}
 use Rattle.entry_words.specs.declared.entry.Refused.TheVariants as refused
 use Rattle.place_kit.specs.Started.{AreStarted}
 use Rattle.place_locks.specs.Losses.{IsLoss}

@@ -7,7 +7,7 @@ use Rattle.tect_ids.specs.declared.script.ReportLine.{ReportLine}
 use Rattle.tect_ids.specs.Places.{HasPlaces}
 use Rattle.race_runs.specs.Stories.{Story, IsStory, all_moments}
 use Rattle.race_runs.specs.Gathered.{IsLineOf, is_dump, answers_now, answers_last, rest_of}
-use Rattle.place_kit.specs.declared.pass.Pass.{Pass}
+use Rattle.passes.specs.declared.pass.Pass.{Pass}
 use Rattle.race_ends.specs.declared.ended.EndedPart.{EndedPart}
 
 -- the story is of what the client noted, and a story of these lines

@@ -1,5 +1,6 @@
 -- what a client's lines ask for concerns that client alone; and the dumps alone follow the lines of an actor that is no client
-use Rattle.std.proofs.Common.{◌≡◌, ◌≢◌, ◌⊎◌, inl, inr, ℕ, ◌<◌, ◌≤◌, true, Option, Some, None, List, [], ◌∷◌, ◌++◌, length, refl, sym, ap, ◌∙◌, subst, eqb, map, arith}
+use Rattle.std.proofs.Common.{◌≡◌, ◌≢◌, ◌⊎◌, inl, inr, ℕ, ◌<◌, ◌≤◌, true, Option, Some, None, List, [], ◌∷◌, ◌++◌, length, refl, sym, ap}
+use Rattle.std.proofs.Common.{◌∙◌, subst, eqb, map, arith}
 use Rattle.std.proofs.lemmas.List.Sums.{length-filter}
 use Rattle.std.specs.List.{AllByRecursion, filter, count_by}
 use Rattle.tect_ids.specs.declared.ids.OpId.{OpId}
@@ -69,7 +70,8 @@ none_concern a es e = same_events a es [] e tt
 next_is_of : (a : ℕ) (o next : Option OpId) → next ≡ o → BusyIsOf a o → BusyIsOf a next
 next_is_of a o next e h = subst (λ (p : Option OpId). BusyIsOf a p) (sym e) h
 
-line_concern : (a : ℕ) (busy : Option OpId) (act : Act) (es : List Event) (next : Option OpId) → BusyIsOf a busy → DoesLine a busy act es next
+line_concern : (a : ℕ) (busy : Option OpId) (act : Act) (es : List Event) (next : Option OpId) → BusyIsOf a busy
+    → DoesLine a busy act es next
     → AllConcern a es × BusyIsOf a next
 line_concern a None (acts.Do c) es next k ((op, begin, rest, own, is, begins, runs), last) =
     (same_events a es (begin ∷ rest) is (begin_concerns a op c begin own begins, ends_concern a op runs.0 rest own runs.1), next_is_of a None next last tt)
@@ -88,7 +90,8 @@ line_concern a (Some op) (acts.Step n) es next k h =
 line_concern a (Some op) acts.Run es next k h = (ends_concern a op h.0.0 es k h.0.1, next_is_of a None next h.1 tt)
 line_concern a (Some op) acts.Stop es next k h = (same_events a es (Stopped op ∷ []) h.0 (is_theirs a op op refl k, tt), next_is_of a None next h.1 tt)
 
-pub lines_concern : (a : ℕ) (busy : Option OpId) (ls : List Line) (es : List Event) (next : Option OpId) → BusyIsOf a busy → DoesLines a busy ls es next
+pub lines_concern : (a : ℕ) (busy : Option OpId) (ls : List Line) (es : List Event) (next : Option OpId) → BusyIsOf a busy
+    → DoesLines a busy ls es next
     → AllConcern a es
 lines_concern a busy [] es next k h = none_concern a es h.0
 lines_concern a busy (lines.Client client other act ∷ ls) es next k (part, rest, then, own, is, does, others) =
@@ -107,7 +110,8 @@ dumps_at clocks = map (λ k. Dumped) clocks
 no_client : (n a b : ℕ) → (b ≡ 0) ⊎ (n < b) → (1 ≤ a) × (a ≤ n) → a ≢ b
 no_client n a b out in_range e = elim out [ inl h ↦ omega arith | inr h ↦ omega arith ]
 
-dumps_do : (n b : ℕ) (ls : List Line) (clocks : List ℕ) → (b ≡ 0) ⊎ (n < b) → AllByRecursion (IsLineOf n) ls → length (filter is_dump ls) ≡ length clocks
+dumps_do : (n b : ℕ) (ls : List Line) (clocks : List ℕ) → (b ≡ 0) ⊎ (n < b) → AllByRecursion (IsLineOf n) ls
+    → length (filter is_dump ls) ≡ length clocks
     → DoesLines b None (filter (line_concerns b) ls) (dumps_at clocks) None
 dumps_do n b [] [] out h e = (refl, refl)
 dumps_do n b [] (k ∷ ks) out h e = absurd (omega arith)
@@ -118,6 +122,7 @@ dumps_do n b (lines.Store counts ∷ ls) clocks out h e = absurd h.0
 dumps_do n b (lines.Sweep ∷ ls) clocks out h e = absurd h.0
 dumps_do n b (lines.Lose disk ∷ ls) clocks out h e = absurd h.0
 
-pub dumps_follow : (n b : ℕ) (ls : List Line) (clocks : List ℕ) → (b ≡ 0) ⊎ (n < b) → AllByRecursion (IsLineOf n) ls → count_by is_dump ls ≡ length clocks
+pub dumps_follow : (n b : ℕ) (ls : List Line) (clocks : List ℕ) → (b ≡ 0) ⊎ (n < b) → AllByRecursion (IsLineOf n) ls
+    → count_by is_dump ls ≡ length clocks
     → DoesLines b None (filter (line_concerns b) ls) (dumps_at clocks) None
 dumps_follow n b ls clocks out h e = dumps_do n b ls clocks out h (length-filter is_dump ls ∙ e)

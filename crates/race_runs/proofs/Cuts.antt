@@ -45,26 +45,31 @@ now_silent : (counts : Counts) (names : List (List ℕ)) (low k : ℕ) (ks : Lis
     → AllGoOn counts names low (k ∷ ks) before ms ss → EachHas (λ s. (part_of s).silent) 1 ss
 now_silent counts names low k ks before ms ss go i s e = ((go i s e).0, (now_own counts names low k ks before ms s (go i s e).1).silent)
 
-last_silent : (counts : Counts) (names : List (List ℕ)) (low : ℕ) (clocks : List ℕ) (before : List Event) (ms : List Moment) (ss : List Story)
+last_silent : (counts : Counts) (names : List (List ℕ)) (low : ℕ) (clocks : List ℕ) (before : List Event) (ms : List Moment)
+    (ss : List Story)
     → AllGoOn counts names low clocks before ms ss → EachHas (λ s. s.last.silent) 1 ss
 last_silent counts names low clocks before ms ss go i s e = ((go i s e).0, (go i s e).1.owned.1.silent)
 
-pub quiet_now : (counts : Counts) (names : List (List ℕ)) (low k : ℕ) (ks : List ℕ) (before : List Event) (ms : List Moment) (ss : List Story)
+pub quiet_now : (counts : Counts) (names : List (List ℕ)) (low k : ℕ) (ks : List ℕ) (before : List Event) (ms : List Moment)
+    (ss : List Story)
     → AllGoOn counts names low (k ∷ ks) before ms ss → AllByRecursion IsSilent (silent_now ss)
 quiet_now counts names low k ks before ms ss go = every_piece IsSilent (λ s. (part_of s).silent) ss (λ i s e. (now_own counts names low k ks before ms s (go i s e).1).quiet)
 
-pub quiet_last : (counts : Counts) (names : List (List ℕ)) (low : ℕ) (clocks : List ℕ) (before : List Event) (ms : List Moment) (ss : List Story)
+pub quiet_last : (counts : Counts) (names : List (List ℕ)) (low : ℕ) (clocks : List ℕ) (before : List Event) (ms : List Moment)
+    (ss : List Story)
     → AllGoOn counts names low clocks before ms ss → AllByRecursion IsSilent (silent_last ss)
 quiet_last counts names low clocks before ms ss go = every_piece IsSilent (λ s. s.last.silent) ss (λ i s e. (go i s e).1.owned.1.quiet)
 
 with_silent : (ms : List Moment) (silent : List Event) → AllByRecursion IsSilent silent → ArePlain (events_of ms ++ silent)
 with_silent ms silent q = every-append IsNoDump (events_of ms) silent (moments_are_plain ms) (every_weaker IsSilent IsNoDump silent_no_dump silent q)
 
-pub plain_now : (counts : Counts) (names : List (List ℕ)) (low k : ℕ) (ks : List ℕ) (before : List Event) (ms : List Moment) (ss : List Story)
+pub plain_now : (counts : Counts) (names : List (List ℕ)) (low k : ℕ) (ks : List ℕ) (before : List Event) (ms : List Moment)
+    (ss : List Story)
     → AllGoOn counts names low (k ∷ ks) before ms ss → ArePlain (part_now k ms ss)
 plain_now counts names low k ks before ms ss go = with_silent (filter (is_early k) ms) (silent_now ss) (quiet_now counts names low k ks before ms ss go)
 
-pub plain_last : (counts : Counts) (names : List (List ℕ)) (low : ℕ) (clocks : List ℕ) (before : List Event) (ms : List Moment) (ss : List Story)
+pub plain_last : (counts : Counts) (names : List (List ℕ)) (low : ℕ) (clocks : List ℕ) (before : List Event) (ms : List Moment)
+    (ss : List Story)
     → AllGoOn counts names low clocks before ms ss → ArePlain (part_last ms ss)
 plain_last counts names low clocks before ms ss go = with_silent ms (silent_last ss) (quiet_last counts names low clocks before ms ss go)
 
@@ -101,7 +106,8 @@ pub history_next : (k : ℕ) (ks : List ℕ) (ss : List Story) (ms : List Moment
 history_next k ks ss ms =
     ap (λ (es : List Event). part_now k ms ss ++ Dumped ∷ woven (cuts_of ks (map rest_of ss)) es (filter (is_late k) ms)) (sym (last_stays ss))
 
-pub all_go_on : (counts : Counts) (names : List (List ℕ)) (low k : ℕ) (ks : List ℕ) (before : List Event) (ms : List Moment) (ss : List Story)
+pub all_go_on : (counts : Counts) (names : List (List ℕ)) (low k : ℕ) (ks : List ℕ) (before : List Event) (ms : List Moment)
+    (ss : List Story)
     → AllGoOn counts names low (k ∷ ks) before ms ss → AllByRecursion IsOwnNote ms
     → AllGoOn counts names k ks ((before ++ part_now k ms ss) ++ Dumped ∷ []) (filter (is_late k) ms) (map rest_of ss)
 all_go_on counts names low k ks before ms ss go notes i t e =
@@ -113,8 +119,10 @@ all_go_on counts names low k ks before ms ss go notes i t e =
     subst (λ (r : Story). (r.actor ≡ 1 + i) × GoesOn counts names k ks ((before ++ part_now k ms ss) ++ Dumped ∷ []) (filter (is_late k) ms) r) (sym at.2) (here.0, next)
 
 -- the events of refused ops before each dump
-pub quiet_cuts : (counts : Counts) (names : List (List ℕ)) (low : ℕ) (clocks : List ℕ) (before : List Event) (ms : List Moment) (ss : List Story)
-    → AllGoOn counts names low clocks before ms ss → AllByRecursion IsOwnNote ms → AllByRecursion (λ c. AllByRecursion IsSilent c.silent) (cuts_of clocks ss)
+pub quiet_cuts : (counts : Counts) (names : List (List ℕ)) (low : ℕ) (clocks : List ℕ) (before : List Event) (ms : List Moment)
+    (ss : List Story)
+    → AllGoOn counts names low clocks before ms ss → AllByRecursion IsOwnNote ms
+    → AllByRecursion (λ c. AllByRecursion IsSilent c.silent) (cuts_of clocks ss)
 quiet_cuts counts names low [] before ms ss go notes = tt
 quiet_cuts counts names low (k ∷ ks) before ms ss go notes = (
   quiet_now counts names low k ks before ms ss go,
@@ -128,7 +136,8 @@ quiet_cuts counts names low (k ∷ ks) before ms ss go notes = (
 abbrev pub IsStranger : ℕ → List Story → Type 0
 IsStranger b ss = (i : ℕ) (s : Story) → slice_get ss i ≡ Some s → b ≢ s.actor
 
-concerns_dump : (a : ℕ) (part es : List Event) → ArePlain part → filter (concerns a) (part ++ Dumped ∷ es) ≡ own a part ++ Dumped ∷ filter (concerns a) es
+concerns_dump : (a : ℕ) (part es : List Event) → ArePlain part
+    → filter (concerns a) (part ++ Dumped ∷ es) ≡ own a part ++ Dumped ∷ filter (concerns a) es
 concerns_dump a part es plain = filter-append (concerns a) part (Dumped ∷ es) ∙ ap (λ (fs : List Event). fs ++ Dumped ∷ filter (concerns a) es) (plain_own a part plain)
 
 mapped_here : (ss : List Story) (i : ℕ) (s : Story) → slice_get ss i ≡ Some s → slice_get (map rest_of ss) i ≡ Some (rest_of s)
@@ -141,7 +150,8 @@ stranger_stays b ss h i t e =
     λ d. apart (d ∙ ap (λ (r : Story). r.actor) at.2)
 
 -- a client's own events with the dumps
-pub client_concerns : (counts : Counts) (names : List (List ℕ)) (low : ℕ) (clocks : List ℕ) (before : List Event) (ms : List Moment) (ss : List Story)
+pub client_concerns : (counts : Counts) (names : List (List ℕ)) (low : ℕ) (clocks : List ℕ) (before : List Event) (ms : List Moment)
+    (ss : List Story)
     → AllGoOn counts names low clocks before ms ss → AllByRecursion IsOwnNote ms → (i : ℕ) (s : Story) → slice_get ss i ≡ Some s
     → filter (concerns s.actor) (history_of_race clocks ss ms) ≡ with_dumps s.ended s.last
 client_concerns counts names low [] before ms ss go notes i s e =
@@ -157,12 +167,15 @@ client_concerns counts names low (k ∷ ks) before ms ss go notes i s e =
     ∙ concerns_dump s.actor (part_now k ms ss) (history_of_race ks (map rest_of ss) (filter (is_late k) ms)) (plain_now counts names low k ks before ms ss go)
     ∙ rw (own_now counts names low k ks before ms ss go notes i s e, rest) (ap (λ (ps : List Part). with_dumps ps s.last) (sym (ended_is low k ks s (go i s e).1.timely)))
 
-own_stranger : (b : ℕ) (ms : List Moment) (silent : List Event) → AllByRecursion IsOwnNote ms → AllByRecursion (λ m. is_of b m ≡ false) ms → own b silent ≡ []
+own_stranger : (b : ℕ) (ms : List Moment) (silent : List Event) → AllByRecursion IsOwnNote ms → AllByRecursion (λ m. is_of b m ≡ false) ms
+    → own b silent ≡ []
     → own b (events_of ms ++ silent) ≡ []
 own_stranger b ms silent notes others none = own-append b (events_of ms) silent ∙ rw (own_moments b ms notes, filter_none (is_of b) ms others, none) refl
 
-pub stranger_concerns : (counts : Counts) (names : List (List ℕ)) (low : ℕ) (clocks : List ℕ) (before : List Event) (ms : List Moment) (ss : List Story)
-    → AllGoOn counts names low clocks before ms ss → AllByRecursion IsOwnNote ms → (b : ℕ) → IsStranger b ss → AllByRecursion (λ m. is_of b m ≡ false) ms
+pub stranger_concerns : (counts : Counts) (names : List (List ℕ)) (low : ℕ) (clocks : List ℕ) (before : List Event) (ms : List Moment)
+    (ss : List Story)
+    → AllGoOn counts names low clocks before ms ss → AllByRecursion IsOwnNote ms → (b : ℕ) → IsStranger b ss
+    → AllByRecursion (λ m. is_of b m ≡ false) ms
     → filter (concerns b) (history_of_race clocks ss ms) ≡ dumps_at clocks
 stranger_concerns counts names low [] before ms ss go notes b stranger others =
     plain_own b (part_last ms ss) (plain_last counts names low [] before ms ss go)

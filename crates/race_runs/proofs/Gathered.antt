@@ -1,5 +1,6 @@
 -- the stories of all clients, gathered, are one run
-use Rattle.std.proofs.Common.{◌≡◌, ◌⊎◌, inl, inr, ℕ, ◌+◌, ◌-◌, ◌<◌, ◌≤◌, false, Option, Some, None, List, [], ◌∷◌, length, refl, sym, ap, ◌∙◌, subst, arith}
+use Rattle.std.proofs.Common.{◌≡◌, ◌⊎◌, inl, inr, ℕ, ◌+◌, ◌-◌, ◌<◌, ◌≤◌, false, Option, Some, None, List, [], ◌∷◌, length, refl, sym, ap}
+use Rattle.std.proofs.Common.{◌∙◌, subst, arith}
 use Rattle.std.proofs.lemmas.Bool.{cases_lt}
 use Rattle.std.proofs.lemmas.List.Elements.{recursion_from_All, All-from_recursion, All-weaker}
 use Rattle.std.proofs.lemmas.Option.{slice_get_within}
@@ -82,7 +83,8 @@ module _ (counts : Counts) (names : List (List ℕ)) (lines : List Line) (clocks
       (b - 1, at.0, at.1, omega (arith, n))
 
   -- what holds of all that each client noted holds of all moments
-  of_all : (P : Moment → Type 0) → ((i : ℕ) (s : Story) → slice_get ss i ≡ Some s → All P (all_moments s.ended s.last)) → AllByRecursion P ms
+  of_all : (P : Moment → Type 0) → ((i : ℕ) (s : Story) → slice_get ss i ≡ Some s → All P (all_moments s.ended s.last))
+      → AllByRecursion P ms
   of_all P h =
       every_kind P actor_of IsClient ms
       (λ b k. let of : (i : ℕ) × (s : Story) × (slice_get ss i ≡ Some s) × (s.actor ≡ b) = story_of b k in
@@ -202,6 +204,7 @@ pub gathered_stories_are_run : GatheredStoriesAreRun
 gathered_stories_are_run counts names lines clocks ss ks ms g = gathered counts names lines clocks ss ks ms g
 
 -- what no moment notes is of refused ops
-pub gathered_silent : (counts : Counts) (names : List (List ℕ)) (lines : List Line) (clocks : List ℕ) (ss : List Story) (ks : List AnyKept) (ms : List Moment)
+pub gathered_silent : (counts : Counts) (names : List (List ℕ)) (lines : List Line) (clocks : List ℕ) (ss : List Story) (ks : List AnyKept)
+    (ms : List Moment)
     → AreGathered counts names lines clocks ss ks ms → AreSilent (cuts_of clocks ss) (silent_last ss)
 gathered_silent counts names lines clocks ss ks ms g = silent counts names lines clocks ss ks ms g

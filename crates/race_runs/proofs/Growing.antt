@@ -72,7 +72,8 @@ dumps_dumped (q ∷ qs) p =
 
 -- ---- clocks
 
-pub timely_with : (low : ℕ) (clocks : List ℕ) (ended : List Part) (p : Part) → Timely low clocks ended no_part → All (λ m. last_clock low clocks < stamp_of m) p.news
+pub timely_with : (low : ℕ) (clocks : List ℕ) (ended : List Part) (p : Part) → Timely low clocks ended no_part
+    → All (λ m. last_clock low clocks < stamp_of m) p.news
     → Timely low clocks ended p
 timely_with low [] [] p t late = late
 timely_with low (k ∷ ks) (q ∷ qs) p t late = (t.0, t.1, timely_with k ks qs p t.2 late)
@@ -84,7 +85,8 @@ between : (low k : ℕ) (ms : List Moment) → AllByRecursion (λ m. low < stamp
 between low k [] above up = tt
 between low k (m ∷ ms) above up = ((above.0, up.0), between low k ms above.1 up.1)
 
-pub timely_dumped : (low : ℕ) (clocks : List ℕ) (k : ℕ) (ended : List Part) (p : Part) → Timely low clocks ended p → last_clock low clocks ≤ k → All (λ m. stamp_of m ≤ k) p.news
+pub timely_dumped : (low : ℕ) (clocks : List ℕ) (k : ℕ) (ended : List Part) (p : Part) → Timely low clocks ended p
+    → last_clock low clocks ≤ k → All (λ m. stamp_of m ≤ k) p.news
     → Timely low (clocks ++ k ∷ []) (ended ++ p ∷ []) no_part
 timely_dumped low [] k [] p t rise up = (
   rise,
@@ -98,8 +100,10 @@ timely_dumped low (j ∷ js) k [] p t rise up = absurd t
 
 -- ---- answers
 
-pub answers_with : (counts : Counts) (names : List (List ℕ)) (actor : ℕ) (before : List Event) (ended : List Part) (p : Part) → Answers counts names actor before ended no_part
-    → p.answers ≡ own_lines counts names actor (before ++ all_events ended no_part) (part_events p) → Answers counts names actor before ended p
+pub answers_with : (counts : Counts) (names : List (List ℕ)) (actor : ℕ) (before : List Event) (ended : List Part) (p : Part)
+    → Answers counts names actor before ended no_part
+    → p.answers ≡ own_lines counts names actor (before ++ all_events ended no_part) (part_events p)
+    → Answers counts names actor before ended p
 answers_with counts names actor before [] p a shown = shown ∙ ap (λ (es : List Event). own_lines counts names actor es (part_events p)) (append-nil before)
 answers_with counts names actor before (q ∷ qs) p a shown = (
   a.0,
@@ -107,7 +111,8 @@ answers_with counts names actor before (q ∷ qs) p a shown = (
       (shown ∙ ap (λ (es : List Event). own_lines counts names actor es (part_events p)) (sym (append_assoc before (part_events q) (all_events qs no_part)))),
 )
 
-pub answers_dumped : (counts : Counts) (names : List (List ℕ)) (actor : ℕ) (before : List Event) (ended : List Part) (p : Part) → Answers counts names actor before ended p
+pub answers_dumped : (counts : Counts) (names : List (List ℕ)) (actor : ℕ) (before : List Event) (ended : List Part) (p : Part)
+    → Answers counts names actor before ended p
     → Answers counts names actor before (ended ++ p ∷ []) no_part
 answers_dumped counts names actor before [] p a = (a, refl)
 answers_dumped counts names actor before (q ∷ qs) p a = (a.0, answers_dumped counts names actor (before ++ part_events q) qs p a.1)
@@ -139,8 +144,10 @@ pub record AddsPart (counts : Counts) (names : List (List ℕ)) (lines : List Li
   pub noted : All IsOwnNote p.news
   pub silent : AllSilent p
 
-pub story_with_part : (counts : Counts) (names : List (List ℕ)) (done ls : List Line) (clocks : List ℕ) (s : Story) (t : IsStory counts names done clocks (with_part s no_part))
-    → (next : Option OpId) (p : Part) → AddsPart counts names ls clocks s t.busy next p → IsStory counts names (done ++ ls) clocks (with_part s p)
+pub story_with_part : (counts : Counts) (names : List (List ℕ)) (done ls : List Line) (clocks : List ℕ) (s : Story)
+    (t : IsStory counts names done clocks (with_part s no_part))
+    → (next : Option OpId) (p : Part) → AddsPart counts names ls clocks s t.busy next p
+    → IsStory counts names (done ++ ls) clocks (with_part s p)
 story_with_part counts names done ls clocks s t next p a =
     let own_lines_are : filter (line_concerns s.actor) (done ++ ls) ≡ filter (line_concerns s.actor) done ++ filter (line_concerns s.actor) ls = filter-append (line_concerns s.actor) done ls in
     let does : DoesLines s.actor None (filter (line_concerns s.actor) done ++ filter (line_concerns s.actor) ls) (with_dumps s.ended no_part ++ part_events p) next =
@@ -158,8 +165,10 @@ story_with_part counts names done ls clocks s t next p a =
     }
 
 -- A dump at a clock that is no less than the one before, nor than any stamp so far, ends the part.
-pub story_dumped : (counts : Counts) (names : List (List ℕ)) (done : List Line) (clocks : List ℕ) (k : ℕ) (s : Story) → IsStory counts names done clocks s
-    → last_clock 0 clocks ≤ k → All (λ m. stamp_of m ≤ k) s.last.news → IsStory counts names (done ++ lines.Dump ∷ []) (clocks ++ k ∷ []) (dumped s)
+pub story_dumped : (counts : Counts) (names : List (List ℕ)) (done : List Line) (clocks : List ℕ) (k : ℕ) (s : Story)
+    → IsStory counts names done clocks s
+    → last_clock 0 clocks ≤ k → All (λ m. stamp_of m ≤ k) s.last.news
+    → IsStory counts names (done ++ lines.Dump ∷ []) (clocks ++ k ∷ []) (dumped s)
 story_dumped counts names done clocks k s t rise up =
     let own_lines_are : filter (line_concerns s.actor) (done ++ lines.Dump ∷ []) ≡ filter (line_concerns s.actor) done ++ lines.Dump ∷ [] =
     filter-append (line_concerns s.actor) done (lines.Dump ∷ []) in

@@ -1,5 +1,6 @@
 -- facts of each element of a list, by recursion on it; and filters
-use Rattle.std.proofs.Common.{◌≡◌, ℕ, ◌<◌, Bool, true, false, if◌then◌else◌, Some, List, [], ◌∷◌, ◌++◌, length, refl, ap, subst, map, zero, suc, eqb, arith}
+use Rattle.std.proofs.Common.{◌≡◌, ℕ, ◌<◌, Bool, true, false, if◌then◌else◌, Some, List, [], ◌∷◌, ◌++◌, length, refl, ap, subst, map, zero}
+use Rattle.std.proofs.Common.{suc, eqb, arith}
 use Rattle.std.specs.List.{AllByRecursion, All, filter, slice_get, flat_map}
 use Rattle.std.proofs.lemmas.List.Elements.{filter_passes, recursion_from_All}
 use Rattle.world_runs.proofs.Actors.{same_number}
@@ -25,7 +26,8 @@ pub every_always : {X : Type 0} (P : X → Type 0) → ((x : X) → P x) → (xs
 every_always P f [] = tt
 every_always P f (x ∷ xs) = (f x, every_always P f xs)
 
-pub every_cond : {X : Type 0} (P : X → Type 0) (b : Bool) (x : X) (xs : List X) → P x → AllByRecursion P xs → AllByRecursion P (if b then x ∷ xs else xs)
+pub every_cond : {X : Type 0} (P : X → Type 0) (b : Bool) (x : X) (xs : List X) → P x → AllByRecursion P xs
+    → AllByRecursion P (if b then x ∷ xs else xs)
 every_cond P true x xs h k = (h, k)
 every_cond P false x xs h k = k
 
@@ -51,12 +53,14 @@ passes p xs = recursion_from_All (λ x. p x ≡ true) (filter p xs) (filter_pass
 pub at_place : {X : Type 0} (P : X → Type 0) (xs : List X) (i : ℕ) (x : X) → All P xs → slice_get xs i ≡ Some x → P x
 at_place P xs i x h e = subst P (get_or_from_slice_get xs i x x e) (h i x (slice_get_within xs i x e))
 
-pub mapped_at : {X Y : Type 0} (f : X → Y) (xs : List X) (i : ℕ) (y : Y) → slice_get (map f xs) i ≡ Some y → (x : X) × (slice_get xs i ≡ Some x) × (y ≡ f x)
+pub mapped_at : {X Y : Type 0} (f : X → Y) (xs : List X) (i : ℕ) (y : Y) → slice_get (map f xs) i ≡ Some y
+    → (x : X) × (slice_get xs i ≡ Some x) × (y ≡ f x)
 mapped_at f [] i y e = absurd (cc)
 mapped_at f (x ∷ xs) zero y e = (x, refl, (cc))
 mapped_at f (x ∷ xs) (suc i) y e = mapped_at f xs i y e
 
-pub every_piece : {X Y : Type 0} (P : Y → Type 0) (f : X → List Y) (xs : List X) → ((i : ℕ) (x : X) → slice_get xs i ≡ Some x → AllByRecursion P (f x)) → AllByRecursion P (flat_map f xs)
+pub every_piece : {X Y : Type 0} (P : Y → Type 0) (f : X → List Y) (xs : List X)
+    → ((i : ℕ) (x : X) → slice_get xs i ≡ Some x → AllByRecursion P (f x)) → AllByRecursion P (flat_map f xs)
 every_piece P f [] h = tt
 every_piece P f (x ∷ xs) h = every-append P (f x) (flat_map f xs) (h 0 x refl) (every_piece P f xs (λ i y e. h (suc i) y e))
 
@@ -67,15 +71,18 @@ has_place (x ∷ xs) zero h = (x, refl)
 has_place (x ∷ xs) (suc i) h = has_place xs i (omega arith)
 
 -- what holds of the elements of each kind holds of all, where the kinds are all that there are
-every_of_kinds : {X : Type 0} (P : X → Type 0) (b : Bool) (x : X) (xs : List X) → AllByRecursion P (if b then x ∷ xs else xs) → AllByRecursion P xs
+every_of_kinds : {X : Type 0} (P : X → Type 0) (b : Bool) (x : X) (xs : List X) → AllByRecursion P (if b then x ∷ xs else xs)
+    → AllByRecursion P xs
 every_of_kinds P true x xs h = h.1
 every_of_kinds P false x xs h = h
 
-first_of_kind : {X : Type 0} (P : X → Type 0) (b : Bool) (x : X) (xs : List X) → b ≡ true → AllByRecursion P (if b then x ∷ xs else xs) → P x
+first_of_kind : {X : Type 0} (P : X → Type 0) (b : Bool) (x : X) (xs : List X) → b ≡ true → AllByRecursion P (if b then x ∷ xs else xs)
+    → P x
 first_of_kind P true x xs e h = h.0
 first_of_kind P false x xs e h = absurd (cc)
 
-pub every_kind : {X : Type 0} (P : X → Type 0) (kind : X → ℕ) (K : ℕ → Type 0) (xs : List X) → ((n : ℕ) → K n → AllByRecursion P (filter (λ x. eqb (kind x) n) xs))
+pub every_kind : {X : Type 0} (P : X → Type 0) (kind : X → ℕ) (K : ℕ → Type 0) (xs : List X)
+    → ((n : ℕ) → K n → AllByRecursion P (filter (λ x. eqb (kind x) n) xs))
     → AllByRecursion (λ x. K (kind x)) xs → AllByRecursion P xs
 every_kind P kind K [] h known = tt
 every_kind P kind K (x ∷ xs) h known = (

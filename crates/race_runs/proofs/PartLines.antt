@@ -18,8 +18,10 @@ later_place : (n i : ℕ) → n + 1 + i ≡ n + suc i
 later_place n i = omega arith
 
 -- the lines of a part, where those of each client are known
-pub lines_by_client : (counts : Counts) (clients names : List (List ℕ)) (n : ℕ) (before part : List Event) (shown : Story → List ReportLine) (ss : List Story) → length ss ≡ length names
-    → ((i : ℕ) (s : Story) → slice_get ss i ≡ Some s → own_lines counts clients (n + i) before part ≡ shown s) → lines_from counts clients names n before part ≡ flat_map shown ss
+pub lines_by_client : (counts : Counts) (clients names : List (List ℕ)) (n : ℕ) (before part : List Event)
+    (shown : Story → List ReportLine) (ss : List Story) → length ss ≡ length names
+    → ((i : ℕ) (s : Story) → slice_get ss i ≡ Some s → own_lines counts clients (n + i) before part ≡ shown s)
+    → lines_from counts clients names n before part ≡ flat_map shown ss
 lines_by_client counts clients [] n before part shown [] l h = refl
 lines_by_client counts clients [] n before part shown (s ∷ ss) l h = absurd (omega arith)
 lines_by_client counts clients (name ∷ names) n before part shown [] l h = absurd (omega arith)

@@ -36,7 +36,8 @@ own_part a p quiet all = record {
   quiet = quiet;
 }
 
-pub own_parts : (a : ℕ) (ended : List Part) (last : Part) → AllByRecursion (λ p. AllByRecursion IsSilent p.silent) ended → AllByRecursion IsSilent last.silent
+pub own_parts : (a : ℕ) (ended : List Part) (last : Part) → AllByRecursion (λ p. AllByRecursion IsSilent p.silent) ended
+    → AllByRecursion IsSilent last.silent
     → AllConcern a (with_dumps ended last) → OwnParts a ended last
 own_parts a [] last quiet q all = (tt, own_part a last q all)
 own_parts a (p ∷ ps) last quiet q all =
@@ -48,7 +49,8 @@ part_own : (a : ℕ) (p : Part) → OwnPart a p → own a (part_events p) ≡ pa
 part_own a p h = own_of_own a (part_events p) (every-append (λ e. is_own a e ≡ true) (events_of p.news) p.silent h.noted h.silent)
 
 -- the client's own events, without the dumps
-pub own_with_dumps : (a : ℕ) (ended : List Part) (last : Part) → OwnParts a ended last → own a (with_dumps ended last) ≡ all_events ended last
+pub own_with_dumps : (a : ℕ) (ended : List Part) (last : Part) → OwnParts a ended last
+    → own a (with_dumps ended last) ≡ all_events ended last
 own_with_dumps a [] last h = part_own a last h.1
 own_with_dumps a (p ∷ ps) last h =
     own-append a (part_events p) (Dumped ∷ with_dumps ps last) ∙ rw (part_own a p h.0.0, own_with_dumps a ps last (h.0.1, h.1)) refl
@@ -112,7 +114,8 @@ EachHas f n ss = (i : ℕ) (s : Story) → slice_get ss i ≡ Some s → (s.acto
 each_later : (f : Story → List Event) (n : ℕ) (s : Story) (ss : List Story) → EachHas f n (s ∷ ss) → EachHas f (n + 1) ss
 each_later f n s ss h i t e = let k : (t.actor ≡ n + suc i) × AreOwn t.actor (f t) = h (suc i) t e in (omega (arith, k.0), k.1)
 
-pub own_of_none : (f : Story → List Event) (n : ℕ) (ss : List Story) → EachHas f n ss → (b : ℕ) → ((i : ℕ) (s : Story) → slice_get ss i ≡ Some s → b ≢ s.actor)
+pub own_of_none : (f : Story → List Event) (n : ℕ) (ss : List Story) → EachHas f n ss → (b : ℕ)
+    → ((i : ℕ) (s : Story) → slice_get ss i ≡ Some s → b ≢ s.actor)
     → own b (flat_map f ss) ≡ []
 own_of_none f n [] h b d = refl
 own_of_none f n (s ∷ ss) h b d =

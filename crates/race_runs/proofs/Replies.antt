@@ -1,5 +1,6 @@
 -- where each place's moments are a legal history of its shard, the replies are those of the whole store
-use Rattle.std.proofs.Common.{◌≡◌, ◌≢◌, ℕ, zero, suc, ◌+◌, ◌<◌, ◌≤◌, Bool, true, false, if◌then◌else◌, Some, List, [], ◌∷◌, length, refl, sym, ap, ◌∙◌, subst, map, eqb, nat_lt, arith}
+use Rattle.std.proofs.Common.{◌≡◌, ◌≢◌, ℕ, zero, suc, ◌+◌, ◌<◌, ◌≤◌, Bool, true, false, if◌then◌else◌, Some, List, [], ◌∷◌, length, refl}
+use Rattle.std.proofs.Common.{sym, ap, ◌∙◌, subst, map, eqb, nat_lt, arith}
 use Rattle.std.proofs.lemmas.Bool.{ltb-true, ltb-false}
 use Rattle.std.proofs.lemmas.List.Elements.{All-filter, filter_passes, recursion_from_All}
 use Rattle.std.proofs.lemmas.Option.{get_or_from_slice_get}
@@ -51,20 +52,24 @@ name_part s = record { names = s; files = empty }
 abbrev file_part : Files → Store
 file_part s = record { names = no_names; files = s }
 
-name_part_step : (s : Names) (n : Names) (b : Bool) → (if b then record (name_part s) { names = n } else name_part s) ≡ name_part (if b then n else s)
+name_part_step : (s : Names) (n : Names) (b : Bool)
+    → (if b then record (name_part s) { names = n } else name_part s) ≡ name_part (if b then n else s)
 name_part_step s n true = refl
 name_part_step s n false = refl
 
-file_part_step : (s : Files) (n : Files) (b : Bool) → (if b then record (file_part s) { files = n } else file_part s) ≡ file_part (if b then n else s)
+file_part_step : (s : Files) (n : Files) (b : Bool)
+    → (if b then record (file_part s) { files = n } else file_part s) ≡ file_part (if b then n else s)
 file_part_step s n true = refl
 file_part_step s n false = refl
 
 -- a name place gets requests about names alone
-name_steps : (c : Counts) (s : Names) (q : AnyReq) → (request_place c q).0 < c.names → store_step (name_part s) q ≡ name_part (name_after s q)
+name_steps : (c : Counts) (s : Names) (q : AnyReq) → (request_place c q).0 < c.names
+    → store_step (name_part s) q ≡ name_part (name_after s q)
 name_steps c s (any.Name r) low = name_part_step s (name_change s r) (changes (name_answer s r))
 name_steps c s (any.File r) low = absurd (omega arith)
 
-file_steps : (c : Counts) (s : Files) (q : AnyReq) → HasPlaces c → c.names ≤ (request_place c q).0 → store_step (file_part s) q ≡ file_part (file_after s q)
+file_steps : (c : Counts) (s : Files) (q : AnyReq) → HasPlaces c → c.names ≤ (request_place c q).0
+    → store_step (file_part s) q ≡ file_part (file_after s q)
 file_steps c s (any.File r) has high = file_part_step s (file_change s r) (changes (file_answer s r))
 file_steps c s (any.Name r) has high = absurd (let shard = request_shard c (any.Name r) has in omega (arith, shard.1))
 
@@ -75,7 +80,8 @@ AreAt c n ms = AllByRecursion (λ m. is_at n m ≡ true) ms × AllByRecursion (I
 place_at : (c : Counts) (n : ℕ) (e : Entry) → is_at n (Act e) ≡ true → IsPlaced c (Act e) → (request_place c e.req).0 ≡ n
 place_at c n e at placed = ap (λ (p : Place). p.0) (sym placed) ∙ one_number e.place.0 n at
 
-name_history : (c : Counts) (n : ℕ) (s : Names) (es : List Entry) → n < c.names → AreAt c n (map Act es) → IsLegal name_after name_replies s es
+name_history : (c : Counts) (n : ℕ) (s : Names) (es : List Entry) → n < c.names → AreAt c n (map Act es)
+    → IsLegal name_after name_replies s es
     → RepliesAre (name_part s) (events_of (map Act es))
 name_history c n s [] low at legal = tt
 name_history c n s (e ∷ es) low at legal =
@@ -83,7 +89,8 @@ name_history c n s (e ∷ es) low at legal =
     let steps : store_step (name_part s) e.req ≡ name_part (name_after s e.req) = name_steps c s e.req (omega arith) in
     (legal.0, subst (λ t. RepliesAre t (events_of (map Act es))) (sym steps) (name_history c n (name_after s e.req) es low (at.0.1, at.1.1) legal.1))
 
-file_history : (c : Counts) (n : ℕ) (s : Files) (es : List Entry) → HasPlaces c → c.names ≤ n → AreAt c n (map Act es) → IsLegal file_after file_replies s es
+file_history : (c : Counts) (n : ℕ) (s : Files) (es : List Entry) → HasPlaces c → c.names ≤ n → AreAt c n (map Act es)
+    → IsLegal file_after file_replies s es
     → RepliesAre (file_part s) (events_of (map Act es))
 file_history c n s [] has high at legal = tt
 file_history c n s (e ∷ es) has high at legal =
@@ -97,7 +104,8 @@ module _ (c : Counts) (has : HasPlaces c) (n : ℕ) where
   abbrev the_place : Place
   the_place = record { 0 = n }
 
-  opens_names : (s : Names) → n < c.names → s ≡ name_opening (eqb n (place_number c layers.Names 1)) → name_part s ≡ opening_parts c the_place
+  opens_names : (s : Names) → n < c.names → s ≡ name_opening (eqb n (place_number c layers.Names 1))
+      → name_part s ≡ opening_parts c the_place
   opens_names s low opened = ap name_part opened
 
   opens_files : (s : Files) → c.names ≤ n → s ≡ empty → file_part s ≡ opening_parts c the_place
@@ -130,7 +138,8 @@ ends_reply s op answers.NoMemory es r = r
 ends_reply s op (answers.HistoryFull p) es r = r
 ends_reply s op _ es r = r
 
-note_replies : (s : Store) (stamp actor : ℕ) (note : Note) (es : List Event) → RepliesAre s es → RepliesAre s (event_of (Local stamp actor note) ∷ es)
+note_replies : (s : Store) (stamp actor : ℕ) (note : Note) (es : List Event) → RepliesAre s es
+    → RepliesAre s (event_of (Local stamp actor note) ∷ es)
 note_replies s stamp actor (notes.Began op c) es r = r
 note_replies s stamp actor (notes.Ended op a) es r = ends_reply s op a es r
 note_replies s stamp actor (notes.Stopped op) es r = r
@@ -143,21 +152,25 @@ request_within : (c : Counts) (q : AnyReq) → HasPlaces c → (request_place c 
 request_within c (any.Name r) has = let shard = request_shard c (any.Name r) has in omega (arith, shard.1)
 request_within c (any.File r) has = let shard = request_shard c (any.File r) has in omega (arith, shard.1)
 
-rest_part : (s : Store) (e : Entry) (ms : List Moment) (b : Bool) → RepliesAre s (events_of (if b then Act e ∷ ms else ms)) → RepliesAre (if b then store_step s e.req else s) (events_of ms)
+rest_part : (s : Store) (e : Entry) (ms : List Moment) (b : Bool) → RepliesAre s (events_of (if b then Act e ∷ ms else ms))
+    → RepliesAre (if b then store_step s e.req else s) (events_of ms)
 rest_part s e ms true r = r.1
 rest_part s e ms false r = r
 
-first_part : (s : Store) (e : Entry) (ms : List Moment) (b : Bool) → b ≡ true → RepliesAre s (events_of (if b then Act e ∷ ms else ms)) → e.reply ≡ store_reply s e.req
+first_part : (s : Store) (e : Entry) (ms : List Moment) (b : Bool) → b ≡ true → RepliesAre s (events_of (if b then Act e ∷ ms else ms))
+    → e.reply ≡ store_reply s e.req
 first_part s e ms true h r = r.0
 first_part s e ms false h r = absurd cc
 
-rest_places : (c : Counts) (parts : Parts) (e : Entry) (ms : List Moment) → IsPlaced c (Act e) → PlacesReplyFrom c parts (Act e ∷ ms) → PlacesReplyFrom c (parts_step c parts e.req) ms
+rest_places : (c : Counts) (parts : Parts) (e : Entry) (ms : List Moment) → IsPlaced c (Act e) → PlacesReplyFrom c parts (Act e ∷ ms)
+    → PlacesReplyFrom c (parts_step c parts e.req) ms
 rest_places c parts e ms placed replies p low =
     let same : eqb e.place.0 p.0 ≡ place_eq p (request_place c e.req) = flipped e.place.0 p.0 ∙ ap (λ (r : Place). eqb p.0 r.0) placed in
     subst (λ b. RepliesAre (if b then store_step (parts p) e.req else parts p) (events_of (filter (is_at p.0) ms))) same
     (rest_part (parts p) e (filter (is_at p.0) ms) (eqb e.place.0 p.0) (replies p low))
 
-pub parts_make_replies : (c : Counts) (parts : Parts) (whole : Store) (ms : List Moment) → HasPlaces c → AreWhole c parts whole → PlacesReplyFrom c parts ms
+pub parts_make_replies : (c : Counts) (parts : Parts) (whole : Store) (ms : List Moment) → HasPlaces c → AreWhole c parts whole
+    → PlacesReplyFrom c parts ms
     → AllByRecursion (IsPlaced c) ms → RepliesAre whole (events_of ms)
 parts_make_replies c parts whole [] has is replies placed = tt
 parts_make_replies c parts whole (Local stamp actor note ∷ ms) has is replies placed =
@@ -175,7 +188,8 @@ item_at [] n low = absurd (omega arith)
 item_at (x ∷ xs) zero low = (x, refl)
 item_at (x ∷ xs) (suc n) low = item_at xs n (omega arith)
 
-place_replies : (c : Counts) (ks : List AnyKept) (ms : List Moment) → HasPlaces c → AreStarted c ks → All (λ k. filter (is_at (place_of k)) ms ≡ map Act (history_of k)) ks
+place_replies : (c : Counts) (ks : List AnyKept) (ms : List Moment) → HasPlaces c → AreStarted c ks
+    → All (λ k. filter (is_at (place_of k)) ms ≡ map Act (history_of k)) ks
     → All (IsPlaced c) ms → PlacesReplyFrom c (opening_parts c) ms
 place_replies c ks ms has started histories placed p low =
     let there : p.0 < length ks = omega (arith, started.number) in

@@ -31,7 +31,8 @@ part_stores s before past now silent quiet e =
     ∙ sym (stored_after-append s (events_of past) (events_of now))
     ∙ ap (λ (es : List Event). stored_after s es) (sym (map-append event_of past now))
 
-pub part_store : (k : ℕ) (before : List Event) (past rest : List Moment) (silent : List Event) → AllByRecursion IsSilent silent → AllUpTo k past
+pub part_store : (k : ℕ) (before : List Event) (past rest : List Moment) (silent : List Event) → AllByRecursion IsSilent silent
+    → AllUpTo k past
     → stored_after opening_store before ≡ stored_after opening_store (events_of past)
     → stored_after opening_store (before ++ (events_of (filter (is_early k) rest) ++ silent)) ≡ store_at k (past ++ rest)
 part_store k before past rest silent quiet up e =
@@ -49,7 +50,8 @@ dumped_store k before past rest silent quiet e =
 
 -- ---- the moments before a dump, and those behind it
 
-pub all_moments_stay : (k : ℕ) (past rest : List Moment) → StampsRise rest → (past ++ filter (is_early k) rest) ++ filter (is_late k) rest ≡ past ++ rest
+pub all_moments_stay : (k : ℕ) (past rest : List Moment) → StampsRise rest
+    → (past ++ filter (is_early k) rest) ++ filter (is_late k) rest ≡ past ++ rest
 all_moments_stay k past rest rise =
     append_assoc past (filter (is_early k) rest) (filter (is_late k) rest) ∙ ap (λ (ms : List Moment). past ++ ms) (stamps_split k rest rise)
 
@@ -61,7 +63,8 @@ abbrev pub ClocksRise : List Moment → ℕ → List ℕ → Type 0
 ClocksRise ms low [] = Unit {0}
 ClocksRise ms low (k ∷ ks) = AllByRecursion (λ m. stamp_of m ≤ low → stamp_of m ≤ k) ms × ClocksRise ms k ks
 
-pub next_up_to : (low k : ℕ) (past rest : List Moment) → AllByRecursion (λ m. stamp_of m ≤ low → stamp_of m ≤ k) (past ++ rest) → AllUpTo low past → AllUpTo k past
+pub next_up_to : (low k : ℕ) (past rest : List Moment) → AllByRecursion (λ m. stamp_of m ≤ low → stamp_of m ≤ k) (past ++ rest)
+    → AllUpTo low past → AllUpTo k past
 next_up_to low k [] rest rises up = tt
 next_up_to low k (m ∷ past) rest rises up = (rises.0 up.0, next_up_to low k past rest rises.1 up.1)
 
@@ -69,7 +72,8 @@ pub no_clocks_fall : (low : ℕ) (clocks : List ℕ) → ClocksRise [] low clock
 no_clocks_fall low [] = tt
 no_clocks_fall low (k ∷ ks) = (tt, no_clocks_fall k ks)
 
-pub timely_clocks_rise : (ms : List Moment) (low : ℕ) (clocks : List ℕ) (ended : List Part) (last : Part) → Timely low clocks ended last → ClocksRise ms low clocks
+pub timely_clocks_rise : (ms : List Moment) (low : ℕ) (clocks : List ℕ) (ended : List Part) (last : Part) → Timely low clocks ended last
+    → ClocksRise ms low clocks
 timely_clocks_rise ms low [] ended last t = tt
 timely_clocks_rise ms low (k ∷ ks) [] last t = absurd t
 timely_clocks_rise ms low (k ∷ ks) (p ∷ ps) last (rises, news, rest) =

@@ -19,7 +19,8 @@ use Rattle.world_runs.proofs.OwnLines.{own_lines_own}
 use Rattle.noted_runs.proofs.Weaving.{stamps_rise-filter}
 use Rattle.race_runs.specs.Stories.{Part, Story, Answers, part_events}
 use Rattle.race_runs.specs.Gathered.{part_of, rest_of, silent_now, answers_now, answers_last, history_of_race, store_at, told}
-use Rattle.race_runs.proofs.Cuts.{AllGoOn, part_now, part_last, plain_now, plain_last, quiet_now, own_now, own_last, history_next, all_go_on}
+use Rattle.race_runs.proofs.Cuts.{AllGoOn, part_now, part_last, plain_now, plain_last, quiet_now, own_now, own_last, history_next}
+use Rattle.race_runs.proofs.Cuts.{all_go_on}
 use Rattle.race_runs.proofs.Lists.{every-filter}
 use Rattle.race_runs.proofs.PartLines.{lines_by_client, report_end, report_dump}
 use Rattle.race_runs.proofs.Parts.{GoesOn, ended_is, none_ended}
@@ -27,14 +28,16 @@ use Rattle.race_runs.proofs.Stores.{ClocksRise, next_up_to, part_store, dumped_s
 use Rattle.race_runs.proofs.Timing.{AllUpTo}
 
 -- one client's lines of a part are its answers
-shown_now : (counts : Counts) (names : List (List ℕ)) (low k : ℕ) (ks : List ℕ) (before part : List Event) (ms : List Moment) (s : Story) → GoesOn counts names low (k ∷ ks) before ms s
+shown_now : (counts : Counts) (names : List (List ℕ)) (low k : ℕ) (ks : List ℕ) (before part : List Event) (ms : List Moment) (s : Story)
+    → GoesOn counts names low (k ∷ ks) before ms s
     → own s.actor part ≡ part_events (part_of s) → own_lines counts names s.actor before part ≡ (part_of s).answers
 shown_now counts names low k ks before part ms s g own_is =
     let a : Answers counts names s.actor (own s.actor before) (part_of s ∷ (rest_of s).ended) s.last =
     subst (λ (ps : List Part). Answers counts names s.actor (own s.actor before) ps s.last) (ended_is low k ks s g.timely) g.answers in
     sym (own_lines_own counts names s.actor before part) ∙ ap (λ (es : List Event). own_lines counts names s.actor (own s.actor before) es) own_is ∙ sym a.0
 
-shown_last : (counts : Counts) (names : List (List ℕ)) (low : ℕ) (before part : List Event) (ms : List Moment) (s : Story) → GoesOn counts names low [] before ms s
+shown_last : (counts : Counts) (names : List (List ℕ)) (low : ℕ) (before part : List Event) (ms : List Moment) (s : Story)
+    → GoesOn counts names low [] before ms s
     → own s.actor part ≡ part_events s.last → own_lines counts names s.actor before part ≡ s.last.answers
 shown_last counts names low before part ms s g own_is =
     let a : Answers counts names s.actor (own s.actor before) [] s.last =
@@ -58,9 +61,11 @@ lines_last counts names low before ms ss number go notes =
     ∙ shown_last counts names low before (part_last ms ss) ms s (go i s e).1 (own_last counts names low before ms ss go notes i s e))
 
 -- What is yet to be shown, behind these events, which are those of the moments that have passed.
-pub report_is_told : (counts : Counts) (names : List (List ℕ)) (low : ℕ) (clocks : List ℕ) (before : List Event) (past ms : List Moment) (ss : List Story)
+pub report_is_told : (counts : Counts) (names : List (List ℕ)) (low : ℕ) (clocks : List ℕ) (before : List Event) (past ms : List Moment)
+    (ss : List Story)
     → length ss ≡ length names → AllGoOn counts names low clocks before ms ss → AllByRecursion IsOwnNote ms → StampsRise ms
-    → ClocksRise (past ++ ms) low clocks → AllUpTo low past → stored_after opening_store before ≡ stored_after opening_store (events_of past)
+    → ClocksRise (past ++ ms) low clocks → AllUpTo low past
+    → stored_after opening_store before ≡ stored_after opening_store (events_of past)
     → race_report_after counts names before [] (history_of_race clocks ss ms) ≡ told clocks ss (past ++ ms)
 report_is_told counts names low [] before past ms ss number go notes rise clocks_rise up store =
     report_end counts names before (part_last ms ss) (plain_last counts names low [] before ms ss go) ∙ lines_last counts names low before ms ss number go notes

@@ -78,7 +78,8 @@ is_dump (script_lines.Lose disk) = false
 
 -- These are the stories of all clients, in their order, and one list of all their moments in the order of the stamps; and what each
 -- place keeps is what this list says of it.
-pub record AreGathered (counts : Counts) (names : List (List ℕ)) (lines : List Line) (clocks : List ℕ) (ss : List Story) (ks : List AnyKept) (ms : List Moment) : Type 0 where
+pub record AreGathered (counts : Counts) (names : List (List ℕ)) (lines : List Line) (clocks : List ℕ)
+    (ss : List Story) (ks : List AnyKept) (ms : List Moment) : Type 0 where
   pub places : HasPlaces counts
   pub asked : All (IsLineOf (length names)) lines
   pub dumps : count_by is_dump lines ≡ length clocks
@@ -92,7 +93,8 @@ pub record AreGathered (counts : Counts) (names : List (List ℕ)) (lines : List
   pub histories : All (λ k. filter (is_at (place_of k)) ms ≡ map Act (history_of k)) ks
 
 -- Then the history is a run of the world that keeps the limits and follows the script by client, and its report is what is told.
-pub record IsRaceRun (counts : Counts) (names : List (List ℕ)) (lines : List Line) (history : List Event) (told : List ReportLine) : Type 0 where
+pub record IsRaceRun (counts : Counts) (names : List (List ℕ)) (lines : List Line)
+    (history : List Event) (told : List ReportLine) : Type 0 where
   pub run : IsWorldRun counts history
   pub limits : KeepsLimits counts history
   pub follows : FollowsByClient lines history

@@ -17,4 +17,5 @@ use Rattle.world_runs.specs.OwnRuns.{RepliesAre}
 abbrev pub PlacesReply : Type 0
 PlacesReply =
     (counts : Counts) (ks : List AnyKept) (ms : List Moment) → HasPlaces counts → AreStarted counts ks
-    → All (λ k. filter (is_at (place_of k)) ms ≡ map Act (history_of k)) ks → All (IsPlaced counts) ms → RepliesAre opening_store (events_of ms)
+    → All (λ k. filter (is_at (place_of k)) ms ≡ map Act (history_of k)) ks → All (IsPlaced counts) ms
+    → RepliesAre opening_store (events_of ms)

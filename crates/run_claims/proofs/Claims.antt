@@ -9,7 +9,7 @@ use Rattle.tect_ids.specs.declared.answer.Answer.TheVariants.{Odd}
 use Rattle.world_runs.specs.declared.event.Event.{Event}
 use Rattle.world_runs.specs.declared.event.Event.TheVariants.{Ended}
 use Rattle.world_runs.specs.Moments.{WorldState, IsWorldRun, May, RunFrom, after, after_all, answered, moment, opening}
-use Rattle.world_runs.proofs.Histories.{front_runs}
+use Rattle.script_runs.proofs.Histories.{front_runs}
 use Rattle.sound_runs.proofs.RunsKeep.{no_run_answers_odd, sound_at_each_moment}
 use Rattle.tree_runs.proofs.Headlines.{run_headline}
 use Rattle.run_claims.proofs.RunsShort.{each_is_short}
@@ -21,7 +21,8 @@ may_at m [] n e run at = absurd cc
 may_at m (f ∷ es) zero e run at = let same : f ≡ e = cc in subst (λ (x : Event). May m x) same run.0
 may_at m (f ∷ es) (suc n) e run at = may_at (after m f) es n e run.1 at
 
-no_end_is_odd : (counts : Counts) (history : List Event) → IsWorldRun counts history → (op : OpId) (a : Answer) (n : ℕ) → slice_get history n ≡ Some (Ended op a)
+no_end_is_odd : (counts : Counts) (history : List Event) → IsWorldRun counts history → (op : OpId) (a : Answer) (n : ℕ)
+    → slice_get history n ≡ Some (Ended op a)
     → (place : Place) → a ≢ Odd place
 no_end_is_odd counts history run op a n at place odd =
     let front : IsWorldRun counts (take n history) = front_runs n history (opening counts) run in

@@ -1,5 +1,6 @@
 -- how many looks and other transactions a command may still take in a phase; each transaction leaves one less
-use Rattle.std.proofs.Common.{◌≡◌, ℕ, ◌+◌, ◌≤◌, Bool, true, false, not, cond, if◌then◌else◌, Option, Some, None, List, [], ◌∷◌, length, refl, arith}
+use Rattle.std.proofs.Common.{◌≡◌, ℕ, ◌+◌, ◌≤◌, Bool, true, false, not, cond, if◌then◌else◌, Option, Some, None, List, [], ◌∷◌, length}
+use Rattle.std.proofs.Common.{refl, arith}
 use Rattle.tect_ids.specs.declared.ids.DirId.{DirId}
 use Rattle.tect_ids.specs.declared.ids.Hold.{Hold}
 use Rattle.tect_ids.specs.declared.ids.Node.{Node}
@@ -22,7 +23,9 @@ use Rattle.store_rules.specs.Views.{as_found, as_listing, is_made, is_granted, a
 use Rattle.program_rules.specs.declared.program.Phase.{Phase}
 use Rattle.program_rules.specs.declared.program.Phase.TheVariants.{Walk, Bind, Grant, Swap, Release, End}
 use Rattle.program_rules.specs.Paths.{but_last, last_name}
-use Rattle.program_rules.specs.Programs.{new_path, at_last, grant_ask, release_ask, phase_ask, phase_hear, first_ask, first_phase, walked, looked, checked, entries_heard, made_heard, unbound_heard, source_heard, first_hear, then_release, bound_heard, swapped_heard, refusal}
+use Rattle.program_rules.specs.Programs.{new_path, at_last, grant_ask, release_ask, phase_ask, phase_hear, first_ask, first_phase, walked}
+use Rattle.program_rules.specs.Programs.{looked, checked, entries_heard, made_heard, unbound_heard, source_heard, first_hear, then_release}
+use Rattle.program_rules.specs.Programs.{bound_heard, swapped_heard, refusal}
 use Rattle.run_claims.specs.Bounds.{is_look, most_looks}
 
 -- a look at the last name comes after the walk
@@ -111,7 +114,8 @@ module _ (c : Command) (place : Place) where
       ]
 
   -- a look on the way
-  walked_leaves : (k : Key) (ns : List (List ℕ)) (x : AnyReply) (o : Option Node) → Leaves c (walked place k ns x o) (length ns + own_looks c) 4
+  walked_leaves : (k : Key) (ns : List (List ℕ)) (x : AnyReply) (o : Option Node)
+      → Leaves c (walked place k ns x o) (length ns + own_looks c) 4
   walked_leaves k ns x None = record { looks = omega arith; others = omega arith }
   walked_leaves k ns x (Some (nodes.Dir d)) = record { looks = omega arith; others = omega arith }
   walked_leaves k ns x (Some (nodes.File f)) = record { looks = omega arith; others = omega arith }
@@ -127,12 +131,14 @@ module _ (c : Command) (place : Place) where
   release_leaves (Some old) a = record { looks = omega arith; others = omega arith }
 
   -- a bind
-  bound_leaves : (op : OpId) (k : Key) (n : Node) (x : AnyReply) (o : Option (Option Replaced)) → Leaves c (bound_heard place op k n x o) 0 1
+  bound_leaves : (op : OpId) (k : Key) (n : Node) (x : AnyReply) (o : Option (Option Replaced))
+      → Leaves c (bound_heard place op k n x o) 0 1
   bound_leaves op k n x None = record { looks = omega arith; others = omega arith }
   bound_leaves op k n x (Some old) = release_leaves old (answers.Found n)
 
   -- a swap
-  swapped_leaves : (op : OpId) (k : Key) (n : Node) (x : AnyReply) (o : Option (Hold × Option Replaced)) → Leaves c (swapped_heard place op k n x o) 0 2
+  swapped_leaves : (op : OpId) (k : Key) (n : Node) (x : AnyReply) (o : Option (Hold × Option Replaced))
+      → Leaves c (swapped_heard place op k n x o) 0 2
   swapped_leaves op k n x None = record { looks = omega arith; others = omega arith }
   swapped_leaves op k n x (Some (h, None)) = record { looks = omega arith; others = omega arith }
   swapped_leaves op k n x (Some (h, Some old)) = record { looks = omega arith; others = omega arith }
@@ -140,15 +146,18 @@ module _ (c : Command) (place : Place) where
 -- ---- and beside what was asked
 
 -- after a look
-by_look : (c : Command) (q : AnyReq) (next : Phase) (looks others : ℕ) → is_look q ≡ true → Leaves c next looks others → Falls c (Some q) next (looks + 1) others
+by_look : (c : Command) (q : AnyReq) (next : Phase) (looks others : ℕ) → is_look q ≡ true → Leaves c next looks others
+    → Falls c (Some q) next (looks + 1) others
 by_look c q next looks others is l = record { looks = rw is (omega (arith, l.looks)); others = rw is (omega (arith, l.others)) }
 
 -- after another transaction
-by_other : (c : Command) (q : AnyReq) (next : Phase) (looks others : ℕ) → is_look q ≡ false → Leaves c next looks others → Falls c (Some q) next looks (others + 1)
+by_other : (c : Command) (q : AnyReq) (next : Phase) (looks others : ℕ) → is_look q ≡ false → Leaves c next looks others
+    → Falls c (Some q) next looks (others + 1)
 by_other c q next looks others is l = record { looks = rw is (omega (arith, l.looks)); others = rw is (omega (arith, l.others)) }
 
 -- more may be left before
-at_most : (c : Command) (asked : Option AnyReq) (next : Phase) (looks others looks2 others2 : ℕ) → looks ≤ looks2 → others ≤ others2 → Falls c asked next looks others → Falls c asked next looks2 others2
+at_most : (c : Command) (asked : Option AnyReq) (next : Phase) (looks others looks2 others2 : ℕ) → looks ≤ looks2 → others ≤ others2
+    → Falls c asked next looks others → Falls c asked next looks2 others2
 at_most c asked next looks others looks2 others2 l o f = record { looks = omega (arith, l, f.looks); others = omega (arith, o, f.others) }
 
 -- what asks nothing has come to its end
@@ -166,12 +175,14 @@ release_is_no_look (nodes.Dir d) h = refl
 release_is_no_look (nodes.File f) h = refl
 
 -- a request for a last name, where there may be none
-by_last : (c : Command) (p : List (List ℕ)) (f : List ℕ → AnyReq) (next : Phase) (looks others : ℕ) → ((n : List ℕ) → is_look (f n) ≡ false) → Leaves c next looks others → Falls c (at_last p f) next looks (others + 1)
+by_last : (c : Command) (p : List (List ℕ)) (f : List ℕ → AnyReq) (next : Phase) (looks others : ℕ)
+    → ((n : List ℕ) → is_look (f n) ≡ false) → Leaves c next looks others → Falls c (at_last p f) next looks (others + 1)
 by_last c [] f next looks others is l = record { looks = omega (arith, l.looks); others = omega (arith, l.others) }
 by_last c (n ∷ ns) f next looks others is l = by_other c (f (last_name (n ∷ ns))) next looks others (is _) l
 
 -- a command's first own request
-first_falls : (place : Place) (op : OpId) (number : ℕ) (d : DirId) (c : Command) (x : AnyReply) → Falls c (first_ask op number d c) (first_hear place number d c x) (own_looks c) 4
+first_falls : (place : Place) (op : OpId) (number : ℕ) (d : DirId) (c : Command) (x : AnyReply)
+    → Falls c (first_ask op number d c) (first_hear place number d c x) (own_looks c) 4
 first_falls place op number d (commands.Look []) x = at_most _ _ _ 1 0 _ _ (omega arith) (omega arith) (by_look _ _ _ 0 0 refl (checked_leaves _ place d x _))
 first_falls place op number d (commands.Look (n ∷ ns)) x = at_most _ _ _ 1 0 _ _ (omega arith) (omega arith) (by_look _ _ _ 0 0 refl (looked_leaves _ place _ x (as_found x)))
 first_falls place op number d (commands.List p) x = at_most _ _ _ 0 1 _ _ (omega arith) (omega arith) (by_other _ _ _ 0 0 refl (entries_leaves _ place x (as_listing x)))
@@ -186,7 +197,8 @@ first_falls place op number d (commands.Rename (n ∷ ns) to) x = by_look _ _ _ 
 first_falls place op number d c x = by_none _ _ _ _
 
 -- a transaction in a phase
-pub phase_falls : (place : Place) (op : OpId) (number : ℕ) (c : Command) (at : Phase) (x : AnyReply) → Falls c (phase_ask op number c at) (phase_hear place op number c at x) (looks_left c at) (others_left at)
+pub phase_falls : (place : Place) (op : OpId) (number : ℕ) (c : Command) (at : Phase) (x : AnyReply)
+    → Falls c (phase_ask op number c at) (phase_hear place op number c at x) (looks_left c at) (others_left at)
 phase_falls place op number c (Walk d (n ∷ ns)) x = at_most _ _ _ (length ns + own_looks c + 1) 4 _ _ (omega arith) (omega arith) (by_look _ _ _ _ 4 refl (walked_leaves c place _ ns x (as_found x)))
 phase_falls place op number c (Walk d []) x = at_most _ _ _ (own_looks c) 4 _ _ (omega arith) (omega arith) (first_falls place op number d c x)
 phase_falls place op number c (Grant k n) x = by_last c (new_path c) _ _ 0 3 (λ to. grant_is_no_look n _ _) (granted_leaves c place k n x (is_granted x))

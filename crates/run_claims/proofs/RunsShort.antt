@@ -1,5 +1,6 @@
 -- each command of a run is short
-use Rattle.std.proofs.Common.{◌≡◌, ◌⊎◌, inl, inr, ℕ, zero, suc, ◌+◌, ◌<◌, ◌≤◌, Bool, true, false, not, ◌&&◌, Option, Some, None, List, [], ◌∷◌, refl, subst, arith}
+use Rattle.std.proofs.Common.{◌≡◌, ◌⊎◌, inl, inr, ℕ, zero, suc, ◌+◌, ◌<◌, ◌≤◌, Bool, true, false, not, ◌&&◌, Option, Some, None, List, []}
+use Rattle.std.proofs.Common.{◌∷◌, refl, subst, arith}
 use Rattle.std.proofs.lemmas.List.Sums.{sum_by-cons}
 use Rattle.tect_ids.specs.declared.ids.Counts.{Counts}
 use Rattle.tect_ids.specs.declared.ids.OpId.{OpId}
@@ -10,7 +11,7 @@ use Rattle.program_rules.specs.Programs.{started, first_phase}
 use Rattle.world_runs.specs.declared.event.Event.{Event}
 use Rattle.world_runs.specs.declared.event.Event.TheVariants.{Began, Refused, Acted, Ended, Stopped, Failed, Dumped}
 use Rattle.world_runs.specs.Moments.{WorldState, RunFrom, IsWorldRun, opening, after}
-use Rattle.world_runs.specs.Headline.{or_later, command_of}
+use Rattle.claim_words.specs.Headline.{or_later, command_of}
 use Rattle.world_runs.specs.Report.{is_act_of, transactions}
 use Rattle.run_claims.specs.Bounds.{is_look, is_look_of, is_other_of, looks_of, others_of, most_looks, IsShort}
 use Rattle.run_claims.proofs.PhasesLeft.{looks_left, others_left, one_if, Leaves, first_leaves}
@@ -43,7 +44,8 @@ transactions_more : (op : OpId) (e : Event) (es : List Event) → transactions (
 transactions_more op e es = sum_by-cons (λ x. one_if (is_act_of op x)) e es
 
 -- one event more that is none of them
-none_more : (op : OpId) (e : Event) (es : List Event) (looks others : ℕ) → IsNone op e → Takes es op looks others → Takes (e ∷ es) op looks others
+none_more : (op : OpId) (e : Event) (es : List Event) (looks others : ℕ) → IsNone op e → Takes es op looks others
+    → Takes (e ∷ es) op looks others
 none_more op e es looks others none rest =
     let no_look : one_if (is_look_of op e) ≡ 0 = rw none.looks refl in
     let no_other : one_if (is_other_of op e) ≡ 0 = rw none.others refl in
@@ -59,7 +61,8 @@ past_takes (e ∷ es) m op run past =
 -- ---- an op that runs
 
 -- an op that runs takes at most what its phase leaves
-running_takes : (es : List Event) (m : WorldState) (op : OpId) (p : Program) → RunFrom m es → Runs m op p → Takes es op (looks_left p.command p.phase) (others_left p.phase)
+running_takes : (es : List Event) (m : WorldState) (op : OpId) (p : Program) → RunFrom m es → Runs m op p
+    → Takes es op (looks_left p.command p.phase) (others_left p.phase)
 running_takes [] m op p run r = nothing_takes op _ _
 running_takes (e ∷ es) m op p run r =
     elim (running_step m e run.0 op p r) [
@@ -74,19 +77,22 @@ running_takes (e ∷ es) m op p run r =
 -- ---- an op that has not begun
 
 -- a command that just began takes no more than its most
-begun_takes : (es : List Event) (op : OpId) (c : Command) → Takes es op (looks_left c (first_phase c)) (others_left (first_phase c)) → Takes es op (most_looks c) 4
+begun_takes : (es : List Event) (op : OpId) (c : Command) → Takes es op (looks_left c (first_phase c)) (others_left (first_phase c))
+    → Takes es op (most_looks c) 4
 begun_takes es op c t =
     let l : Leaves c (first_phase c) (most_looks c) 4 = first_leaves c in
     record { looks = omega (arith, l.looks, t.looks); others = omega (arith, l.others, t.others) }
 
 -- an op that is refused takes nothing
-declined_takes : (es : List Event) (m : WorldState) (e : Event) (op : OpId) → RunFrom (after m e) es → Declines m e op → Takes (e ∷ es) op 0 0
+declined_takes : (es : List Event) (m : WorldState) (e : Event) (op : OpId) → RunFrom (after m e) es → Declines m e op
+    → Takes (e ∷ es) op 0 0
 declined_takes es m e op run d =
     let rest : Takes es op (looks_left d.program.command d.program.phase) (others_left d.program.phase) = running_takes es (after m e) op d.program run d.runs in
     none_more op e es 0 0 d.none record { looks = omega (arith, rest.looks, d.looks); others = omega (arith, rest.others, d.others) }
 
 -- an op that has not begun takes at most the most of the command that it will begin
-ahead_takes : (es : List Event) (m : WorldState) (op : OpId) (c : Command) → RunFrom m es → IsAhead m op → command_of es op ≡ Some c → Takes es op (most_looks c) 4
+ahead_takes : (es : List Event) (m : WorldState) (op : OpId) (c : Command) → RunFrom m es → IsAhead m op → command_of es op ≡ Some c
+    → Takes es op (most_looks c) 4
 ahead_takes [] m op c run ahead began = nothing_takes op _ _
 ahead_takes (e ∷ es) m op c run ahead began =
     elim (ahead_step m e run.0 op ahead) [
@@ -145,7 +151,8 @@ zero_or_more zero = inl (omega arith)
 zero_or_more (suc n) = inr (omega arith)
 
 -- what the op takes in a whole run
-run_takes : (counts : Counts) (history : List Event) → IsWorldRun counts history → (op : OpId) (c : Command) → command_of history op ≡ Some c → Takes history op (most_looks c) 4
+run_takes : (counts : Counts) (history : List Event) → IsWorldRun counts history → (op : OpId) (c : Command)
+    → command_of history op ≡ Some c → Takes history op (most_looks c) 4
 run_takes counts history run op c began =
     elim (zero_or_more op.number) [
       | inl none ↦
@@ -155,13 +162,15 @@ run_takes counts history run op c began =
     ]
 
 -- each command of a run is short
-pub each_is_short : (counts : Counts) (history : List Event) → IsWorldRun counts history → (op : OpId) (c : Command) → command_of history op ≡ Some c → IsShort history op c
+pub each_is_short : (counts : Counts) (history : List Event) → IsWorldRun counts history → (op : OpId) (c : Command)
+    → command_of history op ≡ Some c → IsShort history op c
 each_is_short counts history run op c began =
     let t : Takes history op (most_looks c) 4 = run_takes counts history run op c began in
     record { looks = t.looks; others = t.others; all = omega (arith, transactions_split history op, t.looks, t.others) }
 
 -- an op that began no command has no transaction
-pub idle_has_none : (counts : Counts) (history : List Event) → IsWorldRun counts history → (op : OpId) → command_of history op ≡ None → transactions history op ≡ 0
+pub idle_has_none : (counts : Counts) (history : List Event) → IsWorldRun counts history → (op : OpId) → command_of history op ≡ None
+    → transactions history op ≡ 0
 idle_has_none counts history run op idle =
     let t : Takes history op 0 0 = elim (zero_or_more op.number) [
       | inl none ↦ past_takes history (opening counts) op run record { old = none; idle = refl }

@@ -1,5 +1,6 @@
 -- where an op stands at a moment, and what an event changes of that
-use Rattle.std.proofs.Common.{◌≡◌, ◌≢◌, ◌⊎◌, inl, inr, ℕ, ◌+◌, ◌<◌, ◌≤◌, true, false, if◌then◌else◌, Option, Some, None, refl, sym, ◌∙◌, subst, arith, eqb}
+use Rattle.std.proofs.Common.{◌≡◌, ◌≢◌, ◌⊎◌, inl, inr, ℕ, ◌+◌, ◌<◌, ◌≤◌, true, false, if◌then◌else◌, Option, Some, None, refl, sym, ◌∙◌}
+use Rattle.std.proofs.Common.{subst, arith, eqb}
 use Rattle.tect_ids.specs.declared.ids.Counts.{Counts}
 use Rattle.tect_ids.specs.declared.ids.OpId.{OpId}
 use Rattle.tect_ids.specs.declared.command.Command.{Command}
@@ -15,11 +16,12 @@ use Rattle.program_rules.specs.Programs.{object_number, phase_ask, phase_hear, s
 use Rattle.world_runs.specs.declared.event.Event.{Event}
 use Rattle.world_runs.specs.declared.event.Event.TheVariants.{Began, Refused, Acted, Ended, Stopped, Failed, Dumped}
 use Rattle.program_rules.specs.Lacks.{no_room}
-use Rattle.world_runs.specs.Moments.{WorldState, Actor, May, after, program_of, running, program_ask, program_answer, begun, refused, went_on, heard}
-use Rattle.world_runs.specs.Headline.{begun_by}
+use Rattle.world_runs.specs.Moments.{WorldState, Actor, May, after, program_of, running, program_ask, program_answer, begun, refused}
+use Rattle.world_runs.specs.Moments.{went_on, heard}
+use Rattle.claim_words.specs.Headline.{begun_by}
 use Rattle.world_runs.proofs.Actors.{changed}
-use Rattle.world_runs.proofs.Running.{RunsAs, runs_as}
-use Rattle.world_runs.proofs.Histories.{numbers_grow}
+use Rattle.script_runs.proofs.Running.{RunsAs, runs_as}
+use Rattle.script_runs.proofs.Histories.{numbers_grow}
 use Rattle.run_claims.specs.Bounds.{is_look_of, is_other_of}
 use Rattle.run_claims.proofs.PhasesLeft.{looks_left, others_left, one_if, looks_asked, others_asked, Falls, phase_falls}
 
@@ -48,14 +50,14 @@ HasOp Dumped = ⊥
 HasOp _ = Unit {0}
 
 -- whose event it is, where it has an op
-abbrev pub op_of : Event → OpId
-op_of (Began op c) = op
-op_of (Refused op c) = op
-op_of (Acted op q x) = op
-op_of (Ended op a) = op
-op_of (Stopped op) = op
-op_of (Failed op a) = op
-op_of Dumped = record { actor = 0; number = 0 }
+abbrev pub event_op : Event → OpId
+event_op (Began op c) = op
+event_op (Refused op c) = op
+event_op (Acted op q x) = op
+event_op (Ended op a) = op
+event_op (Stopped op) = op
+event_op (Failed op a) = op
+event_op Dumped = record { actor = 0; number = 0 }
 
 -- the event is no transaction of the op
 pub record IsNone (op : OpId) (e : Event) : Type 0 where
@@ -63,7 +65,7 @@ pub record IsNone (op : OpId) (e : Event) : Type 0 where
   pub others : is_other_of op e ≡ false
 
 -- no event of another op is one
-other_none : (op : OpId) (e : Event) → op_eq (op_of e) op ≡ false → IsNone op e
+other_none : (op : OpId) (e : Event) → op_eq (event_op e) op ≡ false → IsNone op e
 other_none op (Began other c) t = record { looks = refl; others = refl }
 other_none op (Refused other c) t = record { looks = refl; others = refl }
 other_none op (Acted other q x) t = record { looks = rw t refl; others = rw t refl }
@@ -87,7 +89,8 @@ answers_runs None a e = absurd (let k : None ≡ Some a = e in cc)
 answers_runs (Some p) a e = (p, refl)
 
 -- an actor runs one op at a time
-runs_alone : (m : WorldState) (other op : OpId) (p : Program) → running m other ≡ Some p → op_eq other op ≡ false → op.actor ≡ other.actor → running m op ≡ None
+runs_alone : (m : WorldState) (other op : OpId) (p : Program) → running m other ≡ Some p → op_eq other op ≡ false → op.actor ≡ other.actor
+    → running m op ≡ None
 runs_alone m other op p e t same =
     let r : RunsAs (m.actors other.actor).running other p = runs_as (m.actors other.actor).running other p e in
     let there : (m.actors op.actor).running ≡ Some p = rw same r.is in
@@ -95,7 +98,8 @@ runs_alone m other op p e t same =
     rw (there, no) refl
 
 -- an actor's program that hears a reply is still the same op's
-heard_alone : (counts : Counts) (serial : ℕ) (q : AnyReq) (x : AnyReply) (o : Option Program) (other op : OpId) (p : Program) → program_of o other ≡ Some p → op_eq other op ≡ false → program_of (heard counts serial q x o) op ≡ None
+heard_alone : (counts : Counts) (serial : ℕ) (q : AnyReq) (x : AnyReply) (o : Option Program) (other op : OpId) (p : Program)
+    → program_of o other ≡ Some p → op_eq other op ≡ false → program_of (heard counts serial q x o) op ≡ None
 heard_alone counts serial q x o other op p e t =
     let r : RunsAs o other p = runs_as o other p e in
     let there : o ≡ Some p = r.is in
@@ -103,7 +107,7 @@ heard_alone counts serial q x o other op p e t =
     rw (there, no) refl
 
 -- an event of another op leaves the op's program
-other_keeps : (m : WorldState) (e : Event) → May m e → (op : OpId) → op_eq (op_of e) op ≡ false → running (after m e) op ≡ running m op
+other_keeps : (m : WorldState) (e : Event) → May m e → (op : OpId) → op_eq (event_op e) op ≡ false → running (after m e) op ≡ running m op
 other_keeps m (Began other c) may op t =
     changed (λ st. program_of st.running op ≡ running m op) m.actors other.actor (begun (m.actors other.actor) other c) op.actor
     (λ same. let idle : (m.actors op.actor).running ≡ None = rw same (may.0).idle in rw (t, idle) refl) (λ d. refl)
@@ -133,7 +137,7 @@ own_actor P actors a state h = changed P actors a state a (λ e. h) (λ d. absur
 -- ---- an op that is past
 
 -- an op that is past has no event of its own
-own_not_past : (m : WorldState) (e : Event) → HasOp e → May m e → IsPast m (op_of e) → ⊥
+own_not_past : (m : WorldState) (e : Event) → HasOp e → May m e → IsPast m (event_op e) → ⊥
 own_not_past m (Began op c) has may past = omega (arith, (may.0).next, past.old)
 own_not_past m (Refused op c) has may past = omega (arith, (may.0).next, past.old)
 own_not_past m (Acted op q x) has may past =
@@ -154,7 +158,7 @@ pub record Rests (m : WorldState) (e : Event) (op : OpId) : Type 0 where
 -- so it is after each event of an op
 op_past_step : (m : WorldState) (e : Event) → HasOp e → May m e → (op : OpId) → IsPast m op → Rests m e op
 op_past_step m e has may op past =
-    elim (op_eq_cases (op_of e) op) [
+    elim (op_eq_cases (event_op e) op) [
       | inl (t, same) ↦ absurd (own_not_past m e has may (subst (λ (o : OpId). IsPast m o) (sym same) past))
       | inr (t, differs) ↦ record {
         past = record { old = omega (arith, past.old, numbers_grow m e may op.actor); idle = other_keeps m e may op t ∙ past.idle };
@@ -185,8 +189,10 @@ abbrev hears : WorldState → OpId → AnyReq → AnyReply → Program → Progr
 hears m op q x p = record p { phase = phase_hear (request_place m.counts q) p.op (object_number p.op.actor (m.actors op.actor).serial) p.command p.phase x }
 
 -- the op runs on when its program heard a reply
-heard_runs : (counts : Counts) (serial : ℕ) (q : AnyReq) (x : AnyReply) (o : Option Program) (op : OpId) (p : Program) → program_of o op ≡ Some p
-    → program_of (heard counts serial q x o) op ≡ Some record p { phase = phase_hear (request_place counts q) p.op (object_number p.op.actor serial) p.command p.phase x }
+heard_runs : (counts : Counts) (serial : ℕ) (q : AnyReq) (x : AnyReply) (o : Option Program) (op : OpId) (p : Program)
+    → program_of o op ≡ Some p
+    → program_of (heard counts serial q x o) op
+    ≡ Some record p { phase = phase_hear (request_place counts q) p.op (object_number p.op.actor serial) p.command p.phase x }
 heard_runs counts serial q x o op p e =
     let r : RunsAs o op p = runs_as o op p e in
     let there : o ≡ Some p = r.is in
@@ -194,7 +200,8 @@ heard_runs counts serial q x o op p e =
     rw (there, yes) refl
 
 -- the op's own transaction
-pub own_acts : (m : WorldState) (op : OpId) (q : AnyReq) (x : AnyReply) → May m (Acted op q x) → (p : Program) → Runs m op p → GoesOn m (Acted op q x) op p
+pub own_acts : (m : WorldState) (op : OpId) (q : AnyReq) (x : AnyReply) → May m (Acted op q x) → (p : Program) → Runs m op p
+    → GoesOn m (Acted op q x) op p
 own_acts m op q x may p r =
     let serial : ℕ = (m.actors op.actor).serial in
     let f : Falls p.command (phase_ask p.op (object_number p.op.actor serial) p.command p.phase) (hears m op q x p).phase (looks_left p.command p.phase) (others_left p.phase) =
@@ -212,7 +219,7 @@ own_acts m op q x may p r =
     }
 
 -- the op's own event
-own_step : (m : WorldState) (e : Event) → HasOp e → May m e → (p : Program) → Runs m (op_of e) p → Steps m e (op_of e) p
+own_step : (m : WorldState) (e : Event) → HasOp e → May m e → (p : Program) → Runs m (event_op e) p → Steps m e (event_op e) p
 own_step m (Began op c) has may p r =
     let none : running m op ≡ None = rw (may.0).idle refl in
     let k : None ≡ Some p = sym none ∙ r.is in absurd (cc)
@@ -246,7 +253,7 @@ own_step m Dumped has may p r = absurd has
 -- any event of an op
 op_running_step : (m : WorldState) (e : Event) → HasOp e → May m e → (op : OpId) (p : Program) → Runs m op p → Steps m e op p
 op_running_step m e has may op p r =
-    elim (op_eq_cases (op_of e) op) [
+    elim (op_eq_cases (event_op e) op) [
       | inl (t, same) ↦ subst (λ (o : OpId). Steps m e o p) same (own_step m e has may p (subst (λ (o : OpId). Runs m o p) (sym same) r))
       | inr (t, differs) ↦
           let none : IsNone op e = other_none op e t in
@@ -295,7 +302,7 @@ pub record Waits (m : WorldState) (e : Event) (op : OpId) : Type 0 where
   pub none : IsNone op e
 
 -- the op's own event is its begin or its refusal
-own_starts : (m : WorldState) (e : Event) → HasOp e → May m e → IsAhead m (op_of e) → Starts m e (op_of e)
+own_starts : (m : WorldState) (e : Event) → HasOp e → May m e → IsAhead m (event_op e) → Starts m e (event_op e)
 own_starts m (Began op c) has may ahead =
     let own : op_eq op op ≡ true = same_op op op refl in
     inl record {
@@ -335,7 +342,8 @@ unfolding op_eq
 numbers_differ a b t same e = grind (arith, t, same, e)
 
 -- another op's event leaves the number of one that waits ahead
-still_new : (m : WorldState) (e : Event) → May m e → (op : OpId) → op_eq (op_of e) op ≡ false → (m.actors op.actor).number < op.number → ((after m e).actors op.actor).number < op.number
+still_new : (m : WorldState) (e : Event) → May m e → (op : OpId) → op_eq (event_op e) op ≡ false → (m.actors op.actor).number < op.number
+    → ((after m e).actors op.actor).number < op.number
 still_new m (Began other c) may op t new =
     changed (λ st. st.number < op.number) m.actors other.actor (begun (m.actors other.actor) other c) op.actor
     (λ same.
@@ -359,7 +367,7 @@ still_new m (Failed other a) may op t new =
 still_new m Dumped may op t new = new
 
 -- another op's event is not its begin
-other_begins : (op : OpId) (e : Event) → op_eq (op_of e) op ≡ false → begun_by e op ≡ None
+other_begins : (op : OpId) (e : Event) → op_eq (event_op e) op ≡ false → begun_by e op ≡ None
 other_begins op (Began other c) t = rw t refl
 other_begins op (Refused other c) t = refl
 other_begins op (Acted other q x) t = refl
@@ -371,7 +379,7 @@ other_begins op Dumped t = refl
 -- any event of an op
 op_ahead_step : (m : WorldState) (e : Event) → HasOp e → May m e → (op : OpId) → IsAhead m op → Starts m e op ⊎ Waits m e op
 op_ahead_step m e has may op ahead =
-    elim (op_eq_cases (op_of e) op) [
+    elim (op_eq_cases (event_op e) op) [
       | inl (t, same) ↦ inl (subst (λ (o : OpId). Starts m e o) same (own_starts m e has may (subst (λ (o : OpId). IsAhead m o) (sym same) ahead)))
       | inr (t, differs) ↦ inr record {
         begins = other_begins op e t;

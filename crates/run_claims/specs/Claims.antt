@@ -8,9 +8,9 @@ use Rattle.tect_ids.specs.declared.answer.Answer.TheVariants.{Odd}
 use Rattle.tect_ids.specs.declared.command.Command.{Command}
 use Rattle.world_runs.specs.declared.event.Event.{Event}
 use Rattle.world_runs.specs.declared.event.Event.TheVariants.{Ended}
-use Rattle.world_runs.specs.Headline.{Headline, command_of}
+use Rattle.claim_words.specs.Headline.{Headline, command_of}
 use Rattle.world_runs.specs.Moments.{AtEachMoment, IsWorldRun}
-use Rattle.world_runs.specs.Sound.{IsSound}
+use Rattle.claim_words.specs.Sound.{IsSound}
 use Rattle.world_runs.specs.Limits.{KeepsLimits}
 use Rattle.run_claims.specs.Bounds.{IsShort}
 
@@ -26,4 +26,5 @@ pub record IsHistory (counts : Counts) (history : List Event) : Type 0 where
   pub short : (op : OpId) (c : Command) → command_of history op ≡ Some c → IsShort history op c
 
 abbrev pub EveryRunIsClaimed : Type 0
-EveryRunIsClaimed = (counts : Counts) (history : List Event) → IsWorldRun counts history → KeepsLimits counts history → IsHistory counts history
+EveryRunIsClaimed =
+    (counts : Counts) (history : List Event) → IsWorldRun counts history → KeepsLimits counts history → IsHistory counts history

@@ -8,7 +8,7 @@ ghost use Rattle.tect_ids.specs.declared.ids.OpId.{OpId};
 ghost use Rattle.tect_ids.specs.declared.command.Command.{Command};
 ghost use Rattle.world_runs.specs.declared.event.Event.{Event};
 ghost use Rattle.world_runs.specs.Moments.{IsWorldRun};
-ghost use Rattle.world_runs.specs.Headline.{command_of};
+ghost use Rattle.claim_words.specs.Headline.{command_of};
 ghost use Rattle.world_runs.specs.Report.{transactions};
 ghost use Rattle.run_claims.specs.Bounds.{IsShort};
 ghost use Rattle.run_claims.specs.Claims.{EveryRunIsClaimed};

@@ -22,4 +22,4 @@ read-map g limited (done value) words = refl
 read-map g limited (word fit next) [] = refl
 read-map g limited (word fit next) (w ∷ words) =
     ap (λ o. by_fit limited (fit w) (w ∷ words) o) (read-map g limited (next w) words) ∙ by_fit-map g limited (fit w) (w ∷ words)
-        (read limited (next w) words)
+    (read limited (next w) words)

@@ -27,23 +27,23 @@ column_of text rest = length text + 1 - spaced_length rest
 abbrev pub IsTextFault : Counts → Seen → ℕ → List ℕ → List (List ℕ) → ScriptFault → Type 0
 IsTextFault counts seen number text others fault =
     (((is_comment text ≡ true) ⊎ ((line : Line) × MayStand counts seen line × (text ≡ line_text line))) × (others ≡ [])
-        × (fault ≡ faults.Bad number (length text + 1)))
+    × (fault ≡ faults.Bad number (length text + 1)))
     ⊎ (((is_comment text ≡ false)
-        × ((rest : List (List ℕ)) × IsWrongLine counts seen (parts 32 text) rest × (fault ≡ faults.Bad number (column_of text rest))))
+    × ((rest : List (List ℕ)) × IsWrongLine counts seen (parts 32 text) rest × (fault ≡ faults.Bad number (column_of text rest))))
     ⊎ ((is_comment text ≡ false)
-        × ((limit : Limit) × (rest : List (List ℕ)) × IsLargeLine counts seen (parts 32 text) limit rest × (fault ≡ too_large limit))))
+    × ((limit : Limit) × (rest : List (List ℕ)) × IsLargeLine counts seen (parts 32 text) limit rest × (fault ≡ too_large limit))))
 
 -- A text that is none of a store line: the form of store lines says its first wrong or too large word.
 abbrev pub IsStoreFault : ℕ → List ℕ → List (List ℕ) → ScriptFault → Type 0
 IsStoreFault number text others fault =
     (((is_comment text ≡ true) ⊎ ((counts : Counts) × AreCounts counts × (text ≡ line_text (lines.Store counts)))) × (others ≡ [])
-        × (fault ≡ faults.Bad number (length text + 1)))
+    × (fault ≡ faults.Bad number (length text + 1)))
     ⊎ (((is_comment text ≡ false)
-        × ((rest : List (List ℕ)) × (ended (read true store_form (parts 32 text)) ≡ Wrong rest)
-        × (fault ≡ faults.Bad number (column_of text rest))))
+    × ((rest : List (List ℕ)) × (ended (read true store_form (parts 32 text)) ≡ Wrong rest)
+    × (fault ≡ faults.Bad number (column_of text rest))))
     ⊎ ((is_comment text ≡ false)
-        × ((limit : Limit) × (rest : List (List ℕ)) × (ended (read true store_form (parts 32 text)) ≡ Large limit rest)
-        × (fault ≡ too_large limit))))
+    × ((limit : Limit) × (rest : List (List ℕ)) × (ended (read true store_form (parts 32 text)) ≡ Large limit rest)
+    × (fault ≡ too_large limit))))
 
 -- the limits of lines come first
 abbrev pub IsMeasuredFault : ℕ → List ℕ → ScriptFault → Type 0 → Type 0
@@ -56,10 +56,10 @@ IsMeasuredFault number text fault words =
 abbrev pub IsFaultBehind : List (List ℕ) → List ℕ → List (List ℕ) → ScriptFault → Type 0
 IsFaultBehind before text others fault =
     ((filter is_told before ≡ [])
-        × (((text ≡ []) × (others ≡ []) × (fault ≡ faults.Bad (length before + 1) 1))
-        ⊎ IsMeasuredFault (length before + 1) text fault (IsStoreFault (length before + 1) text others fault)))
+    × (((text ≡ []) × (others ≡ []) × (fault ≡ faults.Bad (length before + 1) 1))
+    ⊎ IsMeasuredFault (length before + 1) text fault (IsStoreFault (length before + 1) text others fault)))
     ⊎ ((counts : Counts) × (ls : List Line) × (filter is_told before ≡ map line_text (lines.Store counts ∷ ls)) × AreCounts counts
-        × AreLines counts [] ls
+    × AreLines counts [] ls
     × IsMeasuredFault (length before + 1) text fault (IsTextFault counts (seen_of [] ls) (length before + 1) text others fault))
 
 pub record IsFaultAt (bytes : List ℕ) (fault : ScriptFault) : Type 0 where

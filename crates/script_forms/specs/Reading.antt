@@ -1,6 +1,26 @@
 -- Reading a script, with the place of its first fault.
-use Rattle.std.specs.Prelude.{ℕ, ◌+◌, ◌-◌, ◌==◌, nat_lt, Bool, true, false, not, List, [], ◌∷◌, length, Option, Some, None, Result, Ok, Err,
-    if◌then◌else◌}
+use Rattle.std.specs.Prelude.{
+  ℕ,
+  ◌+◌,
+  ◌-◌,
+  ◌==◌,
+  nat_lt,
+  Bool,
+  true,
+  false,
+  not,
+  List,
+  [],
+  ◌∷◌,
+  length,
+  Option,
+  Some,
+  None,
+  Result,
+  Ok,
+  Err,
+  if◌then◌else◌,
+}
 use Rattle.std.specs.Map.{keys_of}
 use Rattle.tect_ids.specs.declared.ids.Counts.{Counts}
 use Rattle.tect_ids.specs.declared.script.Act.{Act}
@@ -101,7 +121,7 @@ lines_read counts seen number [] = Ok ([], seen)
 lines_read counts seen number ([] ∷ []) = Ok ([], seen)
 lines_read counts seen number (line ∷ more) =
     go_on (text_read counts seen number line)
-        (λ read. ended_by number line more (add_line read (lines_read counts (seen_behind seen read) (number + 1) more)))
+    (λ read. ended_by number line more (add_line read (lines_read counts (seen_behind seen read) (number + 1) more)))
 
 -- ---- the whole script
 
@@ -127,8 +147,8 @@ store_read number [] = Err (faults.Bad number 1)
 store_read number ([] ∷ []) = Err (faults.Bad number 1)
 store_read number (line ∷ more) =
     go_on (store_text_read number line)
-        (λ read. ended_by number line more
-        (behind_store read (store_read (number + 1) more) (λ counts. plan_of counts (lines_read counts [] (number + 1) more))))
+    (λ read. ended_by number line more
+    (behind_store read (store_read (number + 1) more) (λ counts. plan_of counts (lines_read counts [] (number + 1) more))))
 
 abbrev pub script_read : List ℕ → Result Plan ScriptFault
 script_read bytes = if nat_lt 67108864 (length bytes) then Err (too_large limits.Script) else store_read 1 (parts 10 bytes)

@@ -66,7 +66,7 @@ any_sound : (limited : Bool) (counts : Counts) → AreCounts counts → (ws : Li
 any_sound limited counts are ws command rest is =
     let o = one_word limited verb_fit (λ w. command_form counts (the_verb w)) ws command rest is in
     let s = served_spelled o.w (the_verb o.w)
-        (some_is (served_verb o.w) (OnPath paths.Look) (if_passes limited (is_some (served_verb o.w)) o.passed)) in
+    (some_is (served_verb o.w) (OnPath paths.Look) (if_passes limited (is_some (served_verb o.w)) o.passed)) in
     let c = command_sound limited counts are (the_verb o.w) s.1 o.others command rest o.reads in
     (c.words ∙ ap (λ (w : List ℕ). w ∷ o.others) (sym s.0) ∙ sym o.split, c.form, c.within)
 
@@ -77,12 +77,12 @@ act_behind_sound limited counts are (words.Do verb) known ws act rest is =
     let m = mapped_form limited (λ command. Do command) (command_form counts verb) ws act rest is in
     let c = command_sound limited counts are verb known ws m.from rest m.was in
     subst (λ (a : Act). ActSpelled limited counts (verb_word verb ∷ ws) rest a) m.is
-        (record { words_are = c.words; form = c.form; within = c.within })
+    (record { words_are = c.words; form = c.form; within = c.within })
 act_behind_sound limited counts are words.Begin known ws act rest is =
     let m = mapped_form limited (λ command. Begin command) (any_command counts) ws act rest is in
     let c = any_sound limited counts are ws m.from rest m.was in
     subst (λ (a : Act). ActSpelled limited counts (codes "begin" ∷ ws) rest a) m.is
-        (record { words_are = ap (λ (vs : List (List ℕ)). codes "begin" ∷ vs) c.0; form = c.1; within = c.2 })
+    (record { words_are = ap (λ (vs : List (List ℕ)). codes "begin" ∷ vs) c.0; form = c.1; within = c.2 })
 act_behind_sound limited counts are words.Step known ws act rest is =
     let o = one_word limited (number_fit 1 65535) (λ n. done (Step (number_of n))) ws act rest is in
     let same = got_same (Step (number_of o.w)) act o.others rest o.reads in
@@ -96,21 +96,21 @@ act_behind_sound limited counts are words.Step known ws act rest is =
 act_behind_sound limited counts are words.Run known ws act rest is =
     let same = got_same Run act ws rest is in
     subst (λ (a : Act). ActSpelled limited counts (codes "run" ∷ ws) rest a) same.0
-        (record { words_are = ap (λ (r : List (List ℕ)). codes "run" ∷ r) (sym same.1); form = tt; within = fits_pass limited Fits refl })
+    (record { words_are = ap (λ (r : List (List ℕ)). codes "run" ∷ r) (sym same.1); form = tt; within = fits_pass limited Fits refl })
 act_behind_sound limited counts are words.Stop known ws act rest is =
     let same = got_same Stop act ws rest is in
     subst (λ (a : Act). ActSpelled limited counts (codes "stop" ∷ ws) rest a) same.0
-        (record { words_are = ap (λ (r : List (List ℕ)). codes "stop" ∷ r) (sym same.1); form = tt; within = fits_pass limited Fits refl })
+    (record { words_are = ap (λ (r : List (List ℕ)). codes "stop" ∷ r) (sym same.1); form = tt; within = fits_pass limited Fits refl })
 
 pub act_sound : (limited : Bool) (counts : Counts) → AreCounts counts → (ws : List (List ℕ)) (act : Act) (rest : List (List ℕ))
     → read limited (act_form counts) ws ≡ Got act rest → ActSpelled limited counts ws rest act
 act_sound limited counts are ws act rest is =
     let o = one_word limited act_fit (λ w. act_behind counts (the_act_word w)) ws act rest is in
     let s = act_word_spelled o.w (the_act_word o.w)
-        (some_is (act_word_of o.w) words.Run (if_passes limited (is_some (act_word_of o.w)) o.passed)) in
+    (some_is (act_word_of o.w) words.Run (if_passes limited (is_some (act_word_of o.w)) o.passed)) in
     let e : act_word_text (the_act_word o.w) ∷ o.others ≡ ws = ap (λ (w : List ℕ). w ∷ o.others) (sym s.0) ∙ sym o.split in
     subst (λ (vs : List (List ℕ)). ActSpelled limited counts vs rest act) e
-        (act_behind_sound limited counts are (the_act_word o.w) s.1 o.others act rest o.reads)
+    (act_behind_sound limited counts are (the_act_word o.w) s.1 o.others act rest o.reads)
 
 -- ---- what is spelled is read
 
@@ -131,7 +131,7 @@ any_read : (limited : Bool) (counts : Counts) (verb : Verb) → serves verb ≡ 
 any_read limited counts verb served ws =
     let read_verb = served_read verb served in
     pass_word limited verb_fit (λ w. command_form counts (the_verb w)) (verb_word verb) ws
-        (fits_pass limited _ (ap (λ (o : Option Verb). fits_if (is_some o)) read_verb))
+    (fits_pass limited _ (ap (λ (o : Option Verb). fits_if (is_some o)) read_verb))
     ∙ ap (λ (v : Verb). read limited (command_form counts v) ws) (ap (λ (o : Option Verb). unwrap_or o (OnPath paths.Look)) read_verb)
 
 pub act_complete : (limited : Bool) (counts : Counts) → AreCounts counts → (act : Act) → IsAct counts act → passes limited (act_limit act)
@@ -146,13 +146,13 @@ act_complete limited counts are (Begin command) is p rest =
     behind_word limited counts words.Begin tt (command_words command ++ rest)
     ∙ form_mapped limited (λ command. Begin command) (any_command counts) (command_words command ++ rest) rest command
     (ap (λ (ws : List (List ℕ)). read limited (any_command counts) (ws ++ rest)) c.words ∙ any_read limited counts c.verb c.served
-        (c.args ++ rest) ∙ c.reads rest)
+    (c.args ++ rest) ∙ c.reads rest)
 act_complete limited counts are (Step count) is p rest =
     let low = is.0 in
     let high = is.1 in
     behind_word limited counts words.Step tt (decimal count ∷ rest)
     ∙ pass_word limited (number_fit 1 65535) (λ n. done (Step (number_of n))) (decimal count) rest
-        (fits_pass limited _ (number_fit_of_text 1 65535 count (omega arith) is.0 is.1))
+    (fits_pass limited _ (number_fit_of_text 1 65535 count (omega arith) is.0 is.1))
     ∙ ap (λ (n : ℕ). Got (Step n) rest) (number_of_text count (omega arith))
 act_complete limited counts are Run is p rest = behind_word limited counts words.Run tt rest
 act_complete limited counts are Stop is p rest = behind_word limited counts words.Stop tt rest

@@ -1,14 +1,52 @@
 -- Commands: what is read is spelled, and what is spelled is read.
-use Rattle.std.proofs.Common.{◌≡◌, ℕ, ◌+◌, ◌-◌, ◌<◌, ◌≤◌, ◌^◌, Bool, true, false, List, [], ◌∷◌, ◌++◌, length, refl, sym, ap, subst, ◌∙◌,
-    arith, inl, inr, Option, Some, is_some, nat_le, nat_lt}
+use Rattle.std.proofs.Common.{
+  ◌≡◌,
+  ℕ,
+  ◌+◌,
+  ◌-◌,
+  ◌<◌,
+  ◌≤◌,
+  ◌^◌,
+  Bool,
+  true,
+  false,
+  List,
+  [],
+  ◌∷◌,
+  ◌++◌,
+  length,
+  refl,
+  sym,
+  ap,
+  subst,
+  ◌∙◌,
+  arith,
+  inl,
+  inr,
+  Option,
+  Some,
+  is_some,
+  nat_le,
+  nat_lt,
+}
 use Rattle.std.specs.Prelude.{codes, unwrap_or}
 use Rattle.std.specs.Fmt.{decimal}
 use Rattle.std.proofs.lemmas.Bool.{cases_Bool}
 use Rattle.script_words.specs.declared.limits.Fit.{Fit}
 use Rattle.script_words.specs.declared.limits.Fit.TheVariants.{Fits, Over, Unfit}
 use Rattle.script_words.specs.WordText.{path_text, hex_text, layer_word}
-use Rattle.script_words.specs.WordForm.{path_names, path_fit, folder_text, sibling_fit, hex_bytes, hex_fit, number_of, number_fit, layer_of,
-    names_fit}
+use Rattle.script_words.specs.WordForm.{
+  path_names,
+  path_fit,
+  folder_text,
+  sibling_fit,
+  hex_bytes,
+  hex_fit,
+  number_of,
+  number_fit,
+  layer_of,
+  names_fit,
+}
 use Rattle.script_words.proofs.PathWords.{names_of_text}
 use Rattle.script_words.proofs.HexWords.{bytes_of_text}
 use Rattle.script_words.proofs.NumberWords.{number_of_text}
@@ -28,8 +66,19 @@ use Rattle.script_forms.specs.LineText.{command_words}
 use Rattle.script_forms.specs.Grammar.{places_of, the_disk, the_layer, layer_fit, fits_if, command_form}
 use Rattle.script_forms.specs.LineForms.{IsPath, IsOnPath, IsCommand, path_limit, block_limit, first_limit, command_limit, AreCounts}
 use Rattle.script_laws.proofs.FormLaws.{got_same, one_word, pass_word, fits_pass}
-use Rattle.script_laws.proofs.WordLaws.{passes_same, if_passes, path_word, path_fit_of_text, sibling_word, sibling_fit_of, hex_word,
-    hex_fit_of_text, number_word, number_text, number_fit_of_text}
+use Rattle.script_laws.proofs.WordLaws.{
+  passes_same,
+  if_passes,
+  path_word,
+  path_fit_of_text,
+  sibling_word,
+  sibling_fit_of,
+  hex_word,
+  hex_fit_of_text,
+  number_word,
+  number_text,
+  number_fit_of_text,
+}
 use Rattle.script_laws.proofs.VerbLaws.{some_is, pick_case, none_some}
 
 -- ---- the commands of one path
@@ -136,9 +185,9 @@ command_sound limited counts are (OnPath verb) served ws command rest is =
     })
 command_sound limited counts are Rename served ws command rest is =
     let o = one_word limited path_fit (λ p. word (sibling_fit p) (λ q. done (commands.Rename (path_names p) (path_names q)))) ws command
-        rest is in
+    rest is in
     let u = one_word limited (sibling_fit o.w) (λ q. done (commands.Rename (path_names o.w) (path_names q))) o.others command rest o.reads
-        in
+    in
     let same = got_same (commands.Rename (path_names o.w) (path_names u.w)) command u.others rest u.reads in
     let s = sibling_word limited o.w u.w u.passed in
     let p = path_word limited o.w o.passed in
@@ -178,10 +227,10 @@ command_sound limited counts are Append served ws command rest is =
     })
 command_sound limited counts are Sweep served ws command rest is =
     let o = one_word limited layer_fit
-        (λ l. word (number_fit 0 (places_of counts (the_layer l) - 1)) (λ i. done (commands.Sweep (the_layer l) (number_of i)))) ws command
-        rest is in
+    (λ l. word (number_fit 0 (places_of counts (the_layer l) - 1)) (λ i. done (commands.Sweep (the_layer l) (number_of i)))) ws command
+    rest is in
     let u = one_word limited (number_fit 0 (places_of counts (the_layer o.w) - 1))
-        (λ i. done (commands.Sweep (the_layer o.w) (number_of i))) o.others command rest o.reads in
+    (λ i. done (commands.Sweep (the_layer o.w) (number_of i))) o.others command rest o.reads in
     let same = got_same (commands.Sweep (the_layer o.w) (number_of u.w)) command u.others rest u.reads in
     let layer = layer_spelled o.w (the_layer o.w) (some_is (layer_of o.w) Names (if_passes limited (is_some (layer_of o.w)) o.passed)) in
     let i = index_word limited (places_of counts (the_layer o.w)) u.w (places_are counts are (the_layer o.w)) u.passed in
@@ -194,10 +243,10 @@ command_sound limited counts are Sweep served ws command rest is =
     })
 command_sound limited counts are Repair served ws command rest is =
     let o = one_word limited (number_fit 0 (counts.disks - 1))
-        (λ d. word (number_fit 0 (counts.blocks - 1)) (λ i. done (commands.Repair (the_disk (number_of d)) (number_of i)))) ws command rest
-        is in
+    (λ d. word (number_fit 0 (counts.blocks - 1)) (λ i. done (commands.Repair (the_disk (number_of d)) (number_of i)))) ws command rest
+    is in
     let u = one_word limited (number_fit 0 (counts.blocks - 1)) (λ i. done (commands.Repair (the_disk (number_of o.w)) (number_of i)))
-        o.others command rest o.reads in
+    o.others command rest o.reads in
     let same = got_same (commands.Repair (the_disk (number_of o.w)) (number_of u.w)) command u.others rest u.reads in
     let d = index_word limited counts.disks o.w are.disks o.passed in
     let i = index_word limited counts.blocks u.w are.blocks u.passed in
@@ -286,9 +335,9 @@ sweep_read limited counts are layer index is =
           (λ l. word (number_fit 0 (places_of counts (the_layer l) - 1)) (λ i. done (commands.Sweep (the_layer l) (number_of i))))
           (layer_word layer) (decimal index ∷ rest) (fits_pass limited _ fit)
           ∙ ap (λ (l : Layer). read limited (word (number_fit 0 (places_of counts l - 1)) (λ i. done (commands.Sweep l (number_of i))))
-              (decimal index ∷ rest)) of
+          (decimal index ∷ rest)) of
           ∙ pass_word limited (number_fit 0 (places_of counts layer - 1)) (λ i. done (commands.Sweep layer (number_of i))) (decimal index)
-              rest (index_passes limited (places_of counts layer) index (places_are counts are layer) is.1)
+          rest (index_passes limited (places_of counts layer) index (places_are counts are layer) is.1)
           ∙ ap (λ (n : ℕ). Got (commands.Sweep layer n) rest) (number_of_text index (omega arith));
     }
 
@@ -308,7 +357,7 @@ command_complete limited counts are (commands.Read path) is p = on_path_read lim
 command_complete limited counts are (commands.Rename from to) is p =
     let both = two_pass limited (path_limit from) (path_limit to) (names_pass 0 to) p in
     let sibling = passes_same limited _ _ (sym (sibling_fit_of (path_text from) (path_text to) is.3)) (path_passes limited to is.2 both.1)
-        in
+    in
     record {
       verb = Rename;
       served = is.0;
@@ -317,7 +366,7 @@ command_complete limited counts are (commands.Rename from to) is p =
       reads = λ rest. pass_word limited path_fit (λ p. word (sibling_fit p) (λ q. done (commands.Rename (path_names p) (path_names q))))
           (path_text from) (path_text to ∷ rest) (path_passes limited from is.1 both.0)
           ∙ pass_word limited (sibling_fit (path_text from)) (λ q. done (commands.Rename (path_names (path_text from)) (path_names q)))
-              (path_text to) rest sibling
+          (path_text to) rest sibling
           ∙ ap (λ (names : List (List ℕ)). Got (commands.Rename names (path_names (path_text to))) rest) (names_of_text from is.1)
           ∙ ap (λ (names : List (List ℕ)). Got (commands.Rename from names) rest) (names_of_text to is.2);
     }
@@ -331,7 +380,7 @@ command_complete limited counts are (commands.Move from to) is p =
       reads = λ rest. pass_word limited path_fit (λ p. word path_fit (λ q. done (commands.Move (path_names p) (path_names q))))
           (path_text from) (path_text to ∷ rest) (path_passes limited from is.1 both.0)
           ∙ pass_word limited path_fit (λ q. done (commands.Move (path_names (path_text from)) (path_names q))) (path_text to) rest
-              (path_passes limited to is.2 both.1)
+          (path_passes limited to is.2 both.1)
           ∙ ap (λ (names : List (List ℕ)). Got (commands.Move names (path_names (path_text to))) rest) (names_of_text from is.1)
           ∙ ap (λ (names : List (List ℕ)). Got (commands.Move from names) rest) (names_of_text to is.2);
     }
@@ -364,8 +413,8 @@ command_complete limited counts are (commands.Repair disk index) is p =
           (λ d. word (number_fit 0 (counts.blocks - 1)) (λ i. done (commands.Repair (the_disk (number_of d)) (number_of i))))
           (decimal disk.0) (decimal index ∷ rest) (index_passes limited counts.disks disk.0 are.disks is.1)
           ∙ pass_word limited (number_fit 0 (counts.blocks - 1))
-              (λ i. done (commands.Repair (the_disk (number_of (decimal disk.0))) (number_of i))) (decimal index) rest
-              (index_passes limited counts.blocks index are.blocks is.2)
+          (λ i. done (commands.Repair (the_disk (number_of (decimal disk.0))) (number_of i))) (decimal index) rest
+          (index_passes limited counts.blocks index are.blocks is.2)
           ∙ ap (λ (n : ℕ). Got (commands.Repair (the_disk n) (number_of (decimal index))) rest) (number_of_text disk.0 (omega arith))
           ∙ ap (λ (n : ℕ). Got (commands.Repair disk n) rest) (number_of_text index (omega arith));
     }
@@ -381,10 +430,20 @@ command_alive limited counts are Rename =
 command_alive limited counts are Move = ((47 ∷ [], fits_pass limited Fits refl), λ w p. ((47 ∷ [], fits_pass limited Fits refl), λ v q. tt))
 command_alive limited counts are Append =
     ((47 ∷ [], fits_pass limited Fits refl), λ w p. ((codes "00", fits_pass limited Fits refl), λ v q. tt))
-command_alive limited counts are Sweep =
-    ((codes "name", fits_pass limited Fits refl), λ w
-    p. ((decimal 0, index_passes limited (places_of counts (the_layer w)) 0 (places_are counts are (the_layer w))
-    (let low = (places_are counts are (the_layer w)).0 in omega arith)), λ v q. tt))
-command_alive limited counts are Repair =
-    ((decimal 0, index_passes limited counts.disks 0 are.disks (let low = are.disks.0 in omega arith)), λ w
-    p. ((decimal 0, index_passes limited counts.blocks 0 are.blocks (let low = are.blocks.0 in omega arith)), λ v q. tt))
+command_alive limited counts are Sweep = (
+  (codes "name", fits_pass limited Fits refl),
+  λ w
+      p. (
+        (
+          decimal 0,
+          index_passes limited (places_of counts (the_layer w)) 0 (places_are counts are (the_layer w))
+              (let low = (places_are counts are (the_layer w)).0 in omega arith),
+        ),
+        λ v q. tt,
+      ),
+)
+command_alive limited counts are Repair = (
+  (decimal 0, index_passes limited counts.disks 0 are.disks (let low = are.disks.0 in omega arith)),
+  λ w
+      p. ((decimal 0, index_passes limited counts.blocks 0 are.blocks (let low = are.blocks.0 in omega arith)), λ v q. tt),
+)

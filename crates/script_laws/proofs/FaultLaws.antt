@@ -1,6 +1,36 @@
 -- The fault that reading gives is the script's first.
-use Rattle.std.proofs.Common.{◌≡◌, ℕ, ◌+◌, ◌<◌, ◌≤◌, true, false, List, [], ◌∷◌, ◌++◌, length, map, filter, refl, sym, ap, subst, ◌∙◌,
-    arith, inl, inr, ◌⊎◌, Option, Some, None, Result, Ok, Err, nat_lt}
+use Rattle.std.proofs.Common.{
+  ◌≡◌,
+  ℕ,
+  ◌+◌,
+  ◌<◌,
+  ◌≤◌,
+  true,
+  false,
+  List,
+  [],
+  ◌∷◌,
+  ◌++◌,
+  length,
+  map,
+  filter,
+  refl,
+  sym,
+  ap,
+  subst,
+  ◌∙◌,
+  arith,
+  inl,
+  inr,
+  ◌⊎◌,
+  Option,
+  Some,
+  None,
+  Result,
+  Ok,
+  Err,
+  nat_lt,
+}
 use Rattle.std.specs.Prelude.{if◌then◌else◌}
 use Rattle.std.specs.List.{AllByRecursion}
 use Rattle.std.proofs.lemmas.Bool.{cases_Bool, ltb-false, ltb-true}
@@ -19,8 +49,25 @@ use Rattle.script_forms.specs.LineText.{line_text}
 use Rattle.script_forms.specs.Grammar.{store_form}
 use Rattle.script_forms.specs.LineForms.{AreCounts}
 use Rattle.script_forms.specs.Clients.{Seen, seen_after}
-use Rattle.script_forms.specs.Reading.{line_read, at_line, measured, is_comment, some_line, text_read, store_text_read, go_on, ended_by,
-    add_line, seen_behind, lines_read, behind_store, plan_of, store_read, script_read, too_large}
+use Rattle.script_forms.specs.Reading.{
+  line_read,
+  at_line,
+  measured,
+  is_comment,
+  some_line,
+  text_read,
+  store_text_read,
+  go_on,
+  ended_by,
+  add_line,
+  seen_behind,
+  lines_read,
+  behind_store,
+  plan_of,
+  store_read,
+  script_read,
+  too_large,
+}
 use Rattle.script_forms.specs.Spelling.{is_told, AreLines, MayStand, seen_of}
 use Rattle.script_forms.specs.FirstWrong.{IsWrongLine, IsLargeLine}
 use Rattle.script_forms.specs.FirstFault.{column_of, IsTextFault, IsStoreFault, IsMeasuredFault, IsFaultBehind, IsFaultAt}
@@ -43,8 +90,12 @@ measured_wrong {A} n text more fault words is inner = elim (cases_Bool (nat_lt 6
   | inl many ↦ inl (ltb-true 65536 n many, sym (fault_same A (too_large limits.Lines) fault (rw many at is)))
   | inr few ↦ elim (cases_Bool (nat_lt 70000 (length text))) [
     | inl long ↦ inr
-        (inl (ltb-false 65536 n few, ltb-true 70000 (length text) long, sym
-        (fault_same A (too_large limits.Line) fault (rw (few, long) at is))))
+        (inl (
+          ltb-false 65536 n few,
+          ltb-true 70000 (length text) long,
+          sym
+              (fault_same A (too_large limits.Line) fault (rw (few, long) at is)),
+        ))
     | inr short ↦ inr (inr (ltb-false 65536 n few, ltb-false 70000 (length text) short, inner (rw (few, short) at is)))
   ]
 ]
@@ -55,7 +106,7 @@ some_line_wrong (Err other) fault is = ap (λ (f : ScriptFault). Err f) (fault_s
 
 at_line_wrong : {A : Type 0} (n : ℕ) (text : List ℕ) (o : Outcome A) (fault : ScriptFault) → at_line n text o ≡ Err fault →
     ((rest : List (List ℕ)) × (o ≡ Wrong rest) × (fault ≡ faults.Bad n (column_of text rest)))
-        ⊎ ((limit : Limit) × (rest : List (List ℕ)) × (o ≡ Large limit rest) × (fault ≡ too_large limit))
+    ⊎ ((limit : Limit) × (rest : List (List ℕ)) × (o ≡ Large limit rest) × (fault ≡ too_large limit))
 at_line_wrong n text (Got value ws) fault is = right_faulty value fault is
 at_line_wrong {A} n text (Wrong rest) fault is = inl (rest, refl, sym (fault_same A _ fault is))
 at_line_wrong {A} n text (Large limit rest) fault is = inr (limit, rest, refl, sym (fault_same A _ fault is))
@@ -69,7 +120,7 @@ text_wrong_words counts are seen n text others fault is = elim (cases_Bool (is_c
   | inr miss ↦
       let some = parts_some 32 text in
       by miss (at_line_wrong n text (line_read counts seen (parts 32 text)) fault (some_line_wrong _ fault (rw miss at is))) some.0 some.1
-          some.2
+      some.2
 ]
   where
     by : is_comment text ≡ false
@@ -78,13 +129,26 @@ text_wrong_words counts are seen n text others fault is = elim (cases_Bool (is_c
         × (fault ≡ too_large limit)) →
         (first : List ℕ) (words : List (List ℕ)) → parts 32 text ≡ first ∷ words → IsTextFault counts seen n text others fault
     by miss (inl w) first words split = inr
-        (inl (miss,
-        (w.0, subst (λ (ws : List (List ℕ)). IsWrongLine counts seen ws w.0) (sym split)
-        (line_wrong counts are seen first words w.0 (ap (λ (ws : List (List ℕ)). line_read counts seen ws) (sym split) ∙ w.1)), w.2)))
+        (inl (
+          miss,
+          (
+            w.0,
+            subst (λ (ws : List (List ℕ)). IsWrongLine counts seen ws w.0) (sym split)
+                (line_wrong counts are seen first words w.0 (ap (λ (ws : List (List ℕ)). line_read counts seen ws) (sym split) ∙ w.1)),
+            w.2,
+          ),
+        ))
     by miss (inr l) first words split = inr
-        (inr (miss,
-        (l.0, l.1, subst (λ (ws : List (List ℕ)). IsLargeLine counts seen ws l.0 l.1) (sym split)
-        (line_large counts are seen first words l.0 l.1 (ap (λ (ws : List (List ℕ)). line_read counts seen ws) (sym split) ∙ l.2)), l.3)))
+        (inr (
+          miss,
+          (
+            l.0,
+            l.1,
+            subst (λ (ws : List (List ℕ)). IsLargeLine counts seen ws l.0 l.1) (sym split)
+                (line_large counts are seen first words l.0 l.1 (ap (λ (ws : List (List ℕ)). line_read counts seen ws) (sym split) ∙ l.2)),
+            l.3,
+          ),
+        ))
 
 told_is : (counts : Counts) (seen : Seen) (text : List ℕ) (read : Option Line) → IsTold counts seen text read → (is_comment text ≡ true)
     ⊎ ((line : Line) × MayStand counts seen line × (text ≡ line_text line))
@@ -108,8 +172,17 @@ here_wrong : (counts : Counts) (seen : Seen) (n : ℕ) (text : List ℕ) (others
     → IsMeasuredFault n text fault (IsTextFault counts seen n text others fault) → LinesWrong counts seen n (text ∷ others) fault
 here_wrong counts seen n text others fault is =
     let at : n ≡ n + 0 = omega arith in
-    record { before = []; text = text; others = others; whole = refl; short = tt; ls = []; told = refl; are = tt;
-        fault_is = subst (λ (k : ℕ). IsMeasuredFault k text fault (IsTextFault counts seen k text others fault)) at is }
+    record {
+      before = [];
+      text = text;
+      others = others;
+      whole = refl;
+      short = tt;
+      ls = [];
+      told = refl;
+      are = tt;
+      fault_is = subst (λ (k : ℕ). IsMeasuredFault k text fault (IsTextFault counts seen k text others fault)) at is;
+    }
 
 go_on_wrong : {A B : Type 0} (r : Result A ScriptFault) (go : A → Result B ScriptFault) (fault : ScriptFault) → go_on r go ≡ Err fault
     → (r ≡ Err fault) ⊎ ((x : A) × (r ≡ Ok x) × (go x ≡ Err fault))
@@ -172,9 +245,16 @@ lines_wrong counts are seen n (b ∷ line) [] fault is = by
     by (inr (read, ok, e)) =
         let m = measured_right n (b ∷ line) _ read ok in
         here_wrong counts seen n (b ∷ line) [] fault
-            (inr (inr (m.number, m.size, inl
-            (told_is counts seen (b ∷ line) read (told_by counts are seen n (b ∷ line) read m.is), refl, sym
-            (fault_same (List Line × Seen) _ fault e)))))
+        (inr (inr (
+          m.number,
+          m.size,
+          inl (
+            told_is counts seen (b ∷ line) read (told_by counts are seen n (b ∷ line) read m.is),
+            refl,
+            sym
+                (fault_same (List Line × Seen) _ fault e),
+          ),
+        )))
 lines_wrong counts are seen n p (q ∷ qs) fault is = by
     (go_on_wrong (text_read counts seen n p) (λ read. HasGone counts seen n p (q ∷ qs) read) fault
     (sym (lines_step counts seen n p (q ∷ qs) (text_before p)) ∙ is)) (λ then_seen h. lines_wrong counts are then_seen (n + 1) q qs fault h)
@@ -192,7 +272,7 @@ lines_wrong counts are seen n p (q ∷ qs) fault is = by
     by (inr (read, ok, e)) go =
         let m = measured_right n p _ read ok in
         behind_wrong counts seen n p (q ∷ qs) fault read m.size (told_by counts are seen n p read m.is)
-            (go (seen_behind seen read) (add_wrong read _ fault e))
+        (go (seen_behind seen read) (add_wrong read _ fault e))
 
 -- ---- the store line
 
@@ -228,10 +308,10 @@ store_is text (Some counts) told = inr (counts, told.1, told.2)
 abbrev pub IsBehind : ℕ → List (List ℕ) → List ℕ → List (List ℕ) → ScriptFault → Type 0
 IsBehind n before text others fault =
     ((filter is_told before ≡ [])
-        × (((text ≡ []) × (others ≡ []) × (fault ≡ faults.Bad (n + length before) 1))
-        ⊎ IsMeasuredFault (n + length before) text fault (IsStoreFault (n + length before) text others fault)))
+    × (((text ≡ []) × (others ≡ []) × (fault ≡ faults.Bad (n + length before) 1))
+    ⊎ IsMeasuredFault (n + length before) text fault (IsStoreFault (n + length before) text others fault)))
     ⊎ ((counts : Counts) × (ls : List Line) × (filter is_told before ≡ map line_text (lines.Store counts ∷ ls)) × AreCounts counts
-        × AreLines counts [] ls
+    × AreLines counts [] ls
     × IsMeasuredFault (n + length before) text fault (IsTextFault counts (seen_of [] ls) (n + length before) text others fault))
 
 pub record StoreWrong (n : ℕ) (ps : List (List ℕ)) (fault : ScriptFault) : Type 0 where
@@ -247,24 +327,42 @@ here_store : (n : ℕ) (text : List ℕ) (others : List (List ℕ)) (fault : Scr
     → StoreWrong n (text ∷ others) fault
 here_store n text others fault is =
     let at : n ≡ n + 0 = omega arith in
-    record { before = []; text = text; others = others; whole = refl; short = tt;
-        fault_is = inl
-        (refl, subst
-        (λ (k : ℕ). ((text ≡ []) × (others ≡ []) × (fault ≡ faults.Bad k 1))
-        ⊎ IsMeasuredFault k text fault (IsStoreFault k text others fault)) at is) }
+    record {
+      before = [];
+      text = text;
+      others = others;
+      whole = refl;
+      short = tt;
+      fault_is = inl (
+        refl,
+        subst
+            (λ (k : ℕ). ((text ≡ []) × (others ≡ []) × (fault ≡ faults.Bad k 1))
+            ⊎ IsMeasuredFault k text fault (IsStoreFault k text others fault)) at is,
+      );
+    }
 
 -- a comment before
 comment_before : (n : ℕ) (t : List ℕ) (before : List (List ℕ)) (text : List ℕ) (others : List (List ℕ)) (fault : ScriptFault)
     → is_comment t ≡ true → IsBehind (n + 1) before text others fault → IsBehind n (t ∷ before) text others fault
 comment_before n t before text others fault hit (inl (none, is)) =
     let at : n + 1 + length before ≡ n + length (t ∷ before) = omega arith in
-    inl (rw hit none, subst
-        (λ (k : ℕ). ((text ≡ []) × (others ≡ []) × (fault ≡ faults.Bad k 1))
-        ⊎ IsMeasuredFault k text fault (IsStoreFault k text others fault)) at is)
+    inl (
+      rw hit none,
+      subst
+          (λ (k : ℕ). ((text ≡ []) × (others ≡ []) × (fault ≡ faults.Bad k 1))
+          ⊎ IsMeasuredFault k text fault (IsStoreFault k text others fault)) at is,
+    )
 comment_before n t before text others fault hit (inr (counts, ls, told, are, may, is)) =
     let at : n + 1 + length before ≡ n + length (t ∷ before) = omega arith in
-    inr (counts, ls, rw hit told, are, may, subst
-        (λ (k : ℕ). IsMeasuredFault k text fault (IsTextFault counts (seen_of [] ls) k text others fault)) at is)
+    inr (
+      counts,
+      ls,
+      rw hit told,
+      are,
+      may,
+      subst
+          (λ (k : ℕ). IsMeasuredFault k text fault (IsTextFault counts (seen_of [] ls) k text others fault)) at is,
+    )
 
 plan_wrong : (counts : Counts) (r : Result (List Line × Seen) ScriptFault) (fault : ScriptFault) → plan_of counts r ≡ Err fault
     → r ≡ Err fault
@@ -274,11 +372,17 @@ plan_wrong counts (Err other) fault is = ap (λ (f : ScriptFault). Err f) (fault
 found_wrong : (n : ℕ) (t q : List ℕ) (qs : List (List ℕ)) (found : Option Counts) (fault : ScriptFault) → length t ≤ 70000 → IsStore t found
     →
     behind_store found (store_read (n + 1) (q ∷ qs)) (λ counts. plan_of counts (lines_read counts [] (n + 1) (q ∷ qs))) ≡ Err fault
-        → (store_read (n + 1) (q ∷ qs) ≡ Err fault → StoreWrong (n + 1) (q ∷ qs) fault) → StoreWrong n (t ∷ q ∷ qs) fault
+    → (store_read (n + 1) (q ∷ qs) ≡ Err fault → StoreWrong (n + 1) (q ∷ qs) fault) → StoreWrong n (t ∷ q ∷ qs) fault
 found_wrong n t q qs None fault short told is later =
     let m = later is in
-    record { before = t ∷ m.before; text = m.text; others = m.others; whole = ap (λ (ps : List (List ℕ)). t ∷ ps) m.whole;
-        short = (short, m.short); fault_is = comment_before n t m.before m.text m.others fault told m.fault_is }
+    record {
+      before = t ∷ m.before;
+      text = m.text;
+      others = m.others;
+      whole = ap (λ (ps : List (List ℕ)). t ∷ ps) m.whole;
+      short = (short, m.short);
+      fault_is = comment_before n t m.before m.text m.others fault told m.fault_is;
+    }
 found_wrong n t q qs (Some counts) fault short told is later =
     let m = lines_wrong counts told.1 [] (n + 1) q qs fault (plan_wrong counts _ fault is) in
     let at : n + 1 + length m.before ≡ n + length (t ∷ m.before) = omega arith in
@@ -317,8 +421,8 @@ store_wrong_at n (b ∷ line) [] fault is = by
     by (inr (found, ok, e)) =
         let m = measured_right n (b ∷ line) _ found ok in
         here_store n (b ∷ line) [] fault
-            (inr (inr (inr
-            (m.number, m.size, inl (store_is (b ∷ line) found (store_by n (b ∷ line) found m.is), refl, sym (fault_same Plan _ fault e))))))
+        (inr (inr (inr
+        (m.number, m.size, inl (store_is (b ∷ line) found (store_by n (b ∷ line) found m.is), refl, sym (fault_same Plan _ fault e))))))
 store_wrong_at n p (q ∷ qs) fault is = by
     (go_on_wrong (store_text_read n p) (λ found. StoreGone n p (q ∷ qs) found) fault (sym (store_step n p (q ∷ qs) (text_before p)) ∙ is))
     (λ h. store_wrong_at (n + 1) q qs fault h)
@@ -345,8 +449,15 @@ script_wrong bytes fault is = elim (cases_Bool (nat_lt 67108864 (length bytes)))
       let some = parts_some 10 bytes in
       let m = store_wrong_at 1 some.0 some.1 fault (ap (λ (ps : List (List ℕ)). store_read 1 ps) (sym some.2) ∙ (rw small at is)) in
       let at : 1 + length m.before ≡ length m.before + 1 = omega arith in
-      inr (record { size = ltb-false 67108864 (length bytes) small; before = m.before; text = m.text; others = m.others;
-          whole = some.2 ∙ m.whole; short = m.short; fault_is = from_one m.before m.text m.others m.fault_is })
+      inr (record {
+        size = ltb-false 67108864 (length bytes) small;
+        before = m.before;
+        text = m.text;
+        others = m.others;
+        whole = some.2 ∙ m.whole;
+        short = m.short;
+        fault_is = from_one m.before m.text m.others m.fault_is;
+      })
 ]
   where
     from_one : (before : List (List ℕ)) (text : List ℕ) (others : List (List ℕ)) → IsBehind 1 before text others fault
@@ -356,10 +467,18 @@ script_wrong bytes fault is = elim (cases_Bool (nat_lt 67108864 (length bytes)))
         by at is'
       where
         by : 1 + length before ≡ length before + 1 → IsBehind 1 before text others fault → IsFaultBehind before text others fault
-        by at (inl (none, x)) = inl
-            (none, subst
-            (λ (k : ℕ). ((text ≡ []) × (others ≡ []) × (fault ≡ faults.Bad k 1))
-            ⊎ IsMeasuredFault k text fault (IsStoreFault k text others fault)) at x)
-        by at (inr (counts, ls, told, are, may, x)) = inr
-            (counts, ls, told, are, may, subst
-            (λ (k : ℕ). IsMeasuredFault k text fault (IsTextFault counts (seen_of [] ls) k text others fault)) at x)
+        by at (inl (none, x)) = inl (
+          none,
+          subst
+              (λ (k : ℕ). ((text ≡ []) × (others ≡ []) × (fault ≡ faults.Bad k 1))
+              ⊎ IsMeasuredFault k text fault (IsStoreFault k text others fault)) at x,
+        )
+        by at (inr (counts, ls, told, are, may, x)) = inr (
+          counts,
+          ls,
+          told,
+          are,
+          may,
+          subst
+              (λ (k : ℕ). IsMeasuredFault k text fault (IsTextFault counts (seen_of [] ls) k text others fault)) at x,
+        )

@@ -82,8 +82,11 @@ filled limited (done value) alive = record { words = []; value = value; reads = 
 filled limited (word fit next) alive =
     let w = alive.0.0 in
     let more = filled limited (next w) (alive.1 w alive.0.1) in
-    record { words = w ∷ more.words; value = more.value;
-        reads = by_passing limited (fit w) (w ∷ more.words) (read limited (next w) more.words) alive.0.1 ∙ more.reads }
+    record {
+      words = w ∷ more.words;
+      value = more.value;
+      reads = by_passing limited (fit w) (w ∷ more.words) (read limited (next w) more.words) alive.0.1 ∙ more.reads;
+    }
 
 -- ---- the first wrong word
 
@@ -130,8 +133,14 @@ first_by fit next w ws rest Fits e some is more =
 first_by fit next w ws rest (Over limit) e some is more = wrong_large limit rest (w ∷ ws) (sym is)
 first_by fit next w ws rest Unfit e some is more =
     subst (λ (vs : List (List ℕ)). FirstWrong (word fit next) (w ∷ ws) vs) (wrong_same (w ∷ ws) rest is)
-    (record { front = []; split = refl; more = some.words; value = some.value; begins = some.reads;
-        dead = λ limited behind. unfit_dead fit next w limited behind e })
+    (record {
+      front = [];
+      split = refl;
+      more = some.words;
+      value = some.value;
+      begins = some.reads;
+      dead = λ limited behind. unfit_dead fit next w limited behind e;
+    })
 
 pub first_wrong : {A : Type 0} (f : Form A) (ws rest : List (List ℕ)) → IsAlive true f → read true f ws ≡ Wrong rest → FirstWrong f ws rest
 first_wrong (done value) ws rest alive is = got_wrong value ws rest is
@@ -141,7 +150,7 @@ first_wrong (word fit next) [] rest alive is =
     (record { front = []; split = refl; more = some.words; value = some.value; begins = some.reads; dead = λ limited. refl })
 first_wrong (word fit next) (w ∷ ws) rest alive is =
     first_by fit next w ws rest (fit w) refl (filled true (word fit next) alive) is
-        (λ e h. first_wrong (next w) ws rest (alive.1 w (fits_pass true (fit w) e)) h)
+    (λ e h. first_wrong (next w) ws rest (alive.1 w (fits_pass true (fit w) e)) h)
 
 -- ---- the first word that is too large
 
@@ -178,8 +187,8 @@ over_passes limit Unfit is = absurd cc
 large_by : {A : Type 0} (fit : List ℕ → Fit) (next : List ℕ → Form A) (w : List ℕ) (ws : List (List ℕ)) (limit : Limit)
     (rest : List (List ℕ)) (k : Fit) → fit w ≡ k → Filled true (word fit next) → IsAlive false (word fit next) →
     by_fit true k (w ∷ ws) (read true (next w) ws) ≡ Large limit rest
-        → (fit w ≡ Fits → read true (next w) ws ≡ Large limit rest → FirstLarge (next w) ws limit rest)
-        → FirstLarge (word fit next) (w ∷ ws) limit rest
+    → (fit w ≡ Fits → read true (next w) ws ≡ Large limit rest → FirstLarge (next w) ws limit rest)
+    → FirstLarge (word fit next) (w ∷ ws) limit rest
 large_by fit next w ws limit rest Fits e some loose is more =
     let f = more e is in
     record {

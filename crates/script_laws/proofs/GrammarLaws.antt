@@ -1,6 +1,29 @@
 -- Whole lines: what is read is spelled, and what is spelled is read.
-use Rattle.std.proofs.Common.{◌≡◌, ℕ, ◌-◌, ◌<◌, ◌≤◌, ◌^◌, Bool, true, false, List, ◌∷◌, ◌++◌, refl, sym, ap, subst, ◌∙◌, arith, inl, inr,
-    is_some, nat_le, ◌&&◌}
+use Rattle.std.proofs.Common.{
+  ◌≡◌,
+  ℕ,
+  ◌-◌,
+  ◌<◌,
+  ◌≤◌,
+  ◌^◌,
+  Bool,
+  true,
+  false,
+  List,
+  ◌∷◌,
+  ◌++◌,
+  refl,
+  sym,
+  ap,
+  subst,
+  ◌∙◌,
+  arith,
+  inl,
+  inr,
+  is_some,
+  nat_le,
+  ◌&&◌,
+}
 use Rattle.std.specs.Prelude.{codes, unwrap_or}
 use Rattle.std.specs.Str.{bytes_eq}
 use Rattle.std.specs.Fmt.{decimal}
@@ -25,8 +48,20 @@ use Rattle.script_forms.specs.Form.{Form, done, word, Got, read, passes, IsAlive
 use Rattle.script_forms.specs.Served.{serves_world}
 use Rattle.script_forms.specs.Verbs.{world_word, served_world}
 use Rattle.script_forms.specs.LineText.{act_words, counts_words, line_words}
-use Rattle.script_forms.specs.Grammar.{text_fit, the_disk, the_counts, act_form, world_behind, shards_fit, counts_form, store_form,
-    first_fit, client_form, behind_first, line_form}
+use Rattle.script_forms.specs.Grammar.{
+  text_fit,
+  the_disk,
+  the_counts,
+  act_form,
+  world_behind,
+  shards_fit,
+  counts_form,
+  store_form,
+  first_fit,
+  client_form,
+  behind_first,
+  line_form,
+}
 use Rattle.script_forms.specs.LineForms.{IsLine, path_limit, block_limit, command_limit, act_limit, line_limit, AreCounts}
 use Rattle.script_laws.proofs.FormLaws.{got_same, one_word, pass_word, fits_pass}
 use Rattle.script_laws.proofs.WordLaws.{unfit_stops, passes_same, if_passes, passes_if}
@@ -81,8 +116,12 @@ world_sound limited counts are number worlds.Lose served ws line rest is =
 world_sound limited counts are number worlds.Dump served ws line rest is =
     let same = got_same lines.Dump line ws rest is in
     subst (λ (l : Line). LineSpelled limited counts number (codes "dump" ∷ ws) rest l) same.0
-        (record { words = ap (λ (r : List (List ℕ)). codes "dump" ∷ r) (sym same.1); form = served; within = fits_pass limited Fits refl;
-        numbered = tt })
+    (record {
+      words = ap (λ (r : List (List ℕ)). codes "dump" ∷ r) (sym same.1);
+      form = served;
+      within = fits_pass limited Fits refl;
+      numbered = tt;
+    })
 
 -- a line of no client
 abbrev pub IsPlain : Line → Type 0
@@ -133,7 +172,7 @@ behind_sound limited counts are number w p ws line rest is = elim (cases_Bool (i
       let verb = unwrap_or (served_world w) worlds.Dump in
       let s = world_spelled w verb (some_is (served_world w) worlds.Dump (first_world limited w miss p)) in
       subst (λ (v : List ℕ). LineSpelled limited counts number (v ∷ ws) rest line) (sym s.0)
-          (world_sound limited counts are number verb s.1 ws line rest (rw miss at is))
+      (world_sound limited counts are number verb s.1 ws line rest (rw miss at is))
 ]
 
 pub line_sound : (limited : Bool) (counts : Counts) → AreCounts counts
@@ -142,14 +181,14 @@ pub line_sound : (limited : Bool) (counts : Counts) → AreCounts counts
 line_sound limited counts are number ws line rest is =
     let o = one_word limited first_fit (λ w. behind_first counts number w) ws line rest is in
     subst (λ (vs : List (List ℕ)). LineSpelled limited counts number vs rest line) (sym o.split)
-        (behind_sound limited counts are number o.w o.passed o.others line rest o.reads)
+    (behind_sound limited counts are number o.w o.passed o.others line rest o.reads)
 
 pub client_first : (limited : Bool) (counts : Counts) (number : List ℕ → ℕ) (w : List ℕ) → is_client_name w ≡ true → (ws : List (List ℕ))
     → read limited (line_form counts number) (w ∷ ws) ≡ read limited (client_form counts w (number w)) ws
 client_first limited counts number w named ws =
     pass_word limited first_fit (λ w. behind_first counts number w) w ws (fits_pass limited (first_fit w) (rw named refl))
     ∙ (let e : behind_first counts number w ≡ client_form counts w (number w) = rw named refl
-        in ap (λ (f : Form Line). read limited f ws) e)
+    in ap (λ (f : Form Line). read limited f ws) e)
 
 pub world_first : (limited : Bool) (counts : Counts) (number : List ℕ → ℕ) (verb : WorldVerb) → serves_world verb ≡ true
     → (ws : List (List ℕ)) → read limited (line_form counts number) (world_word verb ∷ ws) ≡ read limited (world_behind counts verb) ws
@@ -159,7 +198,7 @@ world_first limited counts number verb served ws =
     let fit : first_fit w ≡ Fits = rw (world_no_client verb, some) refl in
     let next : behind_first counts number w ≡ world_behind counts verb = rw (world_no_client verb, some) refl in
     pass_word limited first_fit (λ v. behind_first counts number v) w ws (fits_pass limited (first_fit w) fit) ∙ ap
-        (λ (f : Form Line). read limited f ws) next
+    (λ (f : Form Line). read limited f ws) next
 
 pub line_complete : (limited : Bool) (counts : Counts) → AreCounts counts → (number : List ℕ → ℕ) (line : Line) → IsLine counts line
     → passes limited (line_limit line) → IsNumbered number line → (rest : List (List ℕ))
@@ -168,17 +207,17 @@ line_complete limited counts are number (lines.Store other) is p numbered rest =
 line_complete limited counts are number (lines.Client client actor act) is p numbered rest =
     client_first limited counts number client is.0 (act_words act ++ rest)
     ∙ form_mapped limited (λ act. lines.Client client (number client) act) (act_form counts) (act_words act ++ rest) rest act
-        (act_complete limited counts are act is.1 p rest)
+    (act_complete limited counts are act is.1 p rest)
     ∙ ap (λ (n : ℕ). Got (lines.Client client n act) rest) (sym numbered)
 line_complete limited counts are number lines.Sweep is p numbered rest =
     world_first limited counts number worlds.Sweep is (codes "all" ∷ rest) ∙ pass_word limited (text_fit (codes "all"))
-        (λ w. done lines.Sweep) (codes "all") rest (passes_text limited (codes "all"))
+    (λ w. done lines.Sweep) (codes "all") rest (passes_text limited (codes "all"))
 line_complete limited counts are number (lines.Lose disk) is p numbered rest =
     let low = are.disks.1 in
     let less = is.1 in
     world_first limited counts number worlds.Lose is.0 (decimal disk.0 ∷ rest)
     ∙ pass_word limited (number_fit 0 (counts.disks - 1)) (λ d. done (lines.Lose (the_disk (number_of d)))) (decimal disk.0) rest
-        (index_passes limited counts.disks disk.0 are.disks is.1)
+    (index_passes limited counts.disks disk.0 are.disks is.1)
     ∙ ap (λ (n : ℕ). Got (lines.Lose (the_disk n)) rest) (number_of_text disk.0 (omega arith))
 line_complete limited counts are number lines.Dump is p numbered rest = world_first limited counts number worlds.Dump is rest
 
@@ -271,7 +310,7 @@ count_passes limited limit most n small bound =
     let high = bound.1 in
     let less : n < 2 ^ 64 = omega arith in
     fits_pass limited (count_fit limit most (decimal n))
-        (rw (number_of_text n less, number_text_form n less, le-leb 1 n bound.0, le-leb n most bound.1) refl)
+    (rw (number_of_text n less, number_text_form n less, le-leb 1 n bound.0, le-leb n most bound.1) refl)
 
 pub store_alive : (limited : Bool) → IsAlive limited store_form
 store_alive limited = (
@@ -301,29 +340,29 @@ pub store_sound : (ws : List (List ℕ)) (counts : Counts) (rest : List (List �
 store_sound ws counts rest is =
     let s = one_word true (text_fit (codes "store")) (λ w. counts_form) ws counts rest is in
     let n = one_word true shards_fit
-        (λ n. word shards_fit
-        (λ f. word shards_fit
-        (λ b. word (count_fit limits.Disks 64)
-        (λ d. word (count_fit limits.Copies 5)
-        (λ c. done (the_counts (number_of n) (number_of f) (number_of b) (number_of d) (number_of c))))))) s.others counts rest s.reads in
+    (λ n. word shards_fit
+    (λ f. word shards_fit
+    (λ b. word (count_fit limits.Disks 64)
+    (λ d. word (count_fit limits.Copies 5)
+    (λ c. done (the_counts (number_of n) (number_of f) (number_of b) (number_of d) (number_of c))))))) s.others counts rest s.reads in
     let f = one_word true shards_fit
-        (λ f. word shards_fit
-        (λ b. word (count_fit limits.Disks 64)
-        (λ d. word (count_fit limits.Copies 5)
-        (λ c. done (the_counts (number_of n.w) (number_of f) (number_of b) (number_of d) (number_of c)))))) n.others counts rest n.reads in
+    (λ f. word shards_fit
+    (λ b. word (count_fit limits.Disks 64)
+    (λ d. word (count_fit limits.Copies 5)
+    (λ c. done (the_counts (number_of n.w) (number_of f) (number_of b) (number_of d) (number_of c)))))) n.others counts rest n.reads in
     let b = one_word true shards_fit
-        (λ b. word (count_fit limits.Disks 64)
-        (λ d. word (count_fit limits.Copies 5)
-        (λ c. done (the_counts (number_of n.w) (number_of f.w) (number_of b) (number_of d) (number_of c))))) f.others counts rest f.reads in
+    (λ b. word (count_fit limits.Disks 64)
+    (λ d. word (count_fit limits.Copies 5)
+    (λ c. done (the_counts (number_of n.w) (number_of f.w) (number_of b) (number_of d) (number_of c))))) f.others counts rest f.reads in
     let d = one_word true (count_fit limits.Disks 64)
-        (λ d. word (count_fit limits.Copies 5)
-        (λ c. done (the_counts (number_of n.w) (number_of f.w) (number_of b.w) (number_of d) (number_of c)))) b.others counts rest b.reads
-        in
+    (λ d. word (count_fit limits.Copies 5)
+    (λ c. done (the_counts (number_of n.w) (number_of f.w) (number_of b.w) (number_of d) (number_of c)))) b.others counts rest b.reads
+    in
     let c = one_word true (count_fit limits.Copies 5)
-        (λ c. done (the_counts (number_of n.w) (number_of f.w) (number_of b.w) (number_of d.w) (number_of c))) d.others counts rest d.reads
-        in
+    (λ c. done (the_counts (number_of n.w) (number_of f.w) (number_of b.w) (number_of d.w) (number_of c))) d.others counts rest d.reads
+    in
     let same = got_same (the_counts (number_of n.w) (number_of f.w) (number_of b.w) (number_of d.w) (number_of c.w)) counts c.others rest
-        c.reads in
+    c.reads in
     let kn = counted limits.Shards 64 n.w (omega arith) n.passed in
     let kf = counted limits.Shards 64 f.w (omega arith) f.passed in
     let kb = counted limits.Shards 64 b.w (omega arith) b.passed in
@@ -354,40 +393,45 @@ store_complete limited counts are rest =
     let d1 = d.1 in
     let c1 = c.1 in
     let last : read limited
-        (done (the_counts (number_of (decimal counts.names)) (number_of (decimal counts.files)) (number_of (decimal counts.blocks))
-        (number_of (decimal counts.disks)) (number_of (decimal counts.copies)))) rest ≡ Got counts rest
-    = rw (number_of_text counts.names (omega arith), number_of_text counts.files (omega arith), number_of_text counts.blocks (omega arith),
-        number_of_text counts.disks (omega arith), number_of_text counts.copies (omega arith)) refl in
+    (done (the_counts (number_of (decimal counts.names)) (number_of (decimal counts.files)) (number_of (decimal counts.blocks))
+    (number_of (decimal counts.disks)) (number_of (decimal counts.copies)))) rest ≡ Got counts rest
+    = rw (
+      number_of_text counts.names (omega arith),
+      number_of_text counts.files (omega arith),
+      number_of_text counts.blocks (omega arith),
+      number_of_text counts.disks (omega arith),
+      number_of_text counts.copies (omega arith),
+    ) refl in
     pass_word limited (text_fit (codes "store")) (λ w. counts_form) (codes "store") (counts_words counts ++ rest)
-        (passes_text limited (codes "store"))
+    (passes_text limited (codes "store"))
     ∙ pass_word limited shards_fit
-        (λ x. word shards_fit
-        (λ f. word shards_fit
-        (λ b. word (count_fit limits.Disks 64)
-        (λ d. word (count_fit limits.Copies 5)
-        (λ c. done (the_counts (number_of x) (number_of f) (number_of b) (number_of d) (number_of c))))))) (decimal counts.names)
-        (decimal counts.files ∷ decimal counts.blocks ∷ decimal counts.disks ∷ decimal counts.copies ∷ rest)
-        (count_passes limited limits.Shards 64 counts.names (omega arith) n)
+    (λ x. word shards_fit
+    (λ f. word shards_fit
+    (λ b. word (count_fit limits.Disks 64)
+    (λ d. word (count_fit limits.Copies 5)
+    (λ c. done (the_counts (number_of x) (number_of f) (number_of b) (number_of d) (number_of c))))))) (decimal counts.names)
+    (decimal counts.files ∷ decimal counts.blocks ∷ decimal counts.disks ∷ decimal counts.copies ∷ rest)
+    (count_passes limited limits.Shards 64 counts.names (omega arith) n)
     ∙ pass_word limited shards_fit
-        (λ x. word shards_fit
-        (λ b. word (count_fit limits.Disks 64)
-        (λ d. word (count_fit limits.Copies 5)
-        (λ c. done (the_counts (number_of (decimal counts.names)) (number_of x) (number_of b) (number_of d) (number_of c))))))
-        (decimal counts.files) (decimal counts.blocks ∷ decimal counts.disks ∷ decimal counts.copies ∷ rest)
-        (count_passes limited limits.Shards 64 counts.files (omega arith) f)
+    (λ x. word shards_fit
+    (λ b. word (count_fit limits.Disks 64)
+    (λ d. word (count_fit limits.Copies 5)
+    (λ c. done (the_counts (number_of (decimal counts.names)) (number_of x) (number_of b) (number_of d) (number_of c))))))
+    (decimal counts.files) (decimal counts.blocks ∷ decimal counts.disks ∷ decimal counts.copies ∷ rest)
+    (count_passes limited limits.Shards 64 counts.files (omega arith) f)
     ∙ pass_word limited shards_fit
-        (λ x. word (count_fit limits.Disks 64)
-        (λ d. word (count_fit limits.Copies 5)
-        (λ c. done (the_counts (number_of (decimal counts.names)) (number_of (decimal counts.files)) (number_of x) (number_of d)
-        (number_of c))))) (decimal counts.blocks) (decimal counts.disks ∷ decimal counts.copies ∷ rest)
-        (count_passes limited limits.Shards 64 counts.blocks (omega arith) b)
+    (λ x. word (count_fit limits.Disks 64)
+    (λ d. word (count_fit limits.Copies 5)
+    (λ c. done (the_counts (number_of (decimal counts.names)) (number_of (decimal counts.files)) (number_of x) (number_of d)
+    (number_of c))))) (decimal counts.blocks) (decimal counts.disks ∷ decimal counts.copies ∷ rest)
+    (count_passes limited limits.Shards 64 counts.blocks (omega arith) b)
     ∙ pass_word limited (count_fit limits.Disks 64)
-        (λ x. word (count_fit limits.Copies 5)
-        (λ c. done (the_counts (number_of (decimal counts.names)) (number_of (decimal counts.files)) (number_of (decimal counts.blocks))
-        (number_of x) (number_of c)))) (decimal counts.disks) (decimal counts.copies ∷ rest)
-        (count_passes limited limits.Disks 64 counts.disks (omega arith) d)
+    (λ x. word (count_fit limits.Copies 5)
+    (λ c. done (the_counts (number_of (decimal counts.names)) (number_of (decimal counts.files)) (number_of (decimal counts.blocks))
+    (number_of x) (number_of c)))) (decimal counts.disks) (decimal counts.copies ∷ rest)
+    (count_passes limited limits.Disks 64 counts.disks (omega arith) d)
     ∙ pass_word limited (count_fit limits.Copies 5)
-        (λ x. done (the_counts (number_of (decimal counts.names)) (number_of (decimal counts.files)) (number_of (decimal counts.blocks))
-        (number_of (decimal counts.disks)) (number_of x))) (decimal counts.copies) rest
-        (count_passes limited limits.Copies 5 counts.copies (omega arith) c)
+    (λ x. done (the_counts (number_of (decimal counts.names)) (number_of (decimal counts.files)) (number_of (decimal counts.blocks))
+    (number_of (decimal counts.disks)) (number_of x))) (decimal counts.copies) rest
+    (count_passes limited limits.Copies 5 counts.copies (omega arith) c)
     ∙ last

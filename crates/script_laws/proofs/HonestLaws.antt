@@ -1,6 +1,27 @@
 -- A word that is over a limit passes that very limit.
-use Rattle.std.proofs.Common.{◌≡◌, ℕ, ◌-◌, Bool, true, false, ◌&&◌, nat_lt, nat_le, List, [], ◌∷◌, length, refl, sym, ap, subst, ◌∙◌, inl,
-    inr, is_some}
+use Rattle.std.proofs.Common.{
+  ◌≡◌,
+  ℕ,
+  ◌-◌,
+  Bool,
+  true,
+  false,
+  ◌&&◌,
+  nat_lt,
+  nat_le,
+  List,
+  [],
+  ◌∷◌,
+  length,
+  refl,
+  sym,
+  ap,
+  subst,
+  ◌∙◌,
+  inl,
+  inr,
+  is_some,
+}
 use Rattle.std.specs.Prelude.{codes, unwrap_or}
 use Rattle.std.specs.Str.{bytes_eq}
 use Rattle.std.proofs.lemmas.Bool.{cases_Bool, ltb-true}
@@ -8,8 +29,18 @@ use Rattle.script_words.specs.declared.limits.Limit.{Limit}
 use Rattle.script_words.specs.declared.limits.Limit.TheVariants as limits
 use Rattle.script_words.specs.declared.limits.Fit.{Fit}
 use Rattle.script_words.specs.declared.limits.Fit.TheVariants.{Fits, Over, Unfit}
-use Rattle.script_words.specs.WordForm.{is_path_form, path_fit, folder_text, sibling_fit, are_hex_pairs, hex_fit, is_numeral, number_of,
-    number_fit, is_client_name}
+use Rattle.script_words.specs.WordForm.{
+  is_path_form,
+  path_fit,
+  folder_text,
+  sibling_fit,
+  are_hex_pairs,
+  hex_fit,
+  is_numeral,
+  number_of,
+  number_fit,
+  is_client_name,
+}
 use Rattle.script_words.proofs.Apart.{both}
 use Rattle.tect_ids.specs.declared.ids.Counts.{Counts}
 use Rattle.tect_ids.specs.declared.script.Act.TheVariants.{Do, Begin}
@@ -23,8 +54,21 @@ use Rattle.script_forms.specs.declared.verbs.WorldVerb.{WorldVerb}
 use Rattle.script_forms.specs.declared.verbs.WorldVerb.TheVariants as worlds
 use Rattle.script_forms.specs.Form.{Form, done, word, Large, by_fit, read, and_then}
 use Rattle.script_forms.specs.Verbs.{served_verb, act_word_of, served_world}
-use Rattle.script_forms.specs.Grammar.{fits_if, the_layer, places_of, command_form, the_verb, any_command, act_behind, the_act_word,
-    act_form, world_behind, client_form, behind_first, line_form}
+use Rattle.script_forms.specs.Grammar.{
+  fits_if,
+  the_layer,
+  places_of,
+  command_form,
+  the_verb,
+  any_command,
+  act_behind,
+  the_act_word,
+  act_form,
+  world_behind,
+  client_form,
+  behind_first,
+  line_form,
+}
 use Rattle.script_forms.specs.FirstWrong.{PassesLimit}
 use Rattle.script_laws.proofs.FormLaws.{got_large, large_same, wrong_large}
 
@@ -36,7 +80,7 @@ honest_by : {A : Type 0} (fit : List ℕ → Fit) (next : List ℕ → Form A) (
     (rest : List (List ℕ)) (k : Fit) → fit w ≡ k → ((v : List ℕ) (l : Limit) → fit v ≡ Over l → PassesLimit v l)
     → by_fit true k (w ∷ ws) (read true (next w) ws) ≡ Large limit rest →
     (read true (next w) ws ≡ Large limit rest → (v : List ℕ) × (others : List (List ℕ)) × (rest ≡ v ∷ others) × PassesLimit v limit)
-        → (v : List ℕ) × (others : List (List ℕ)) × (rest ≡ v ∷ others) × PassesLimit v limit
+    → (v : List ℕ) × (others : List (List ℕ)) × (rest ≡ v ∷ others) × PassesLimit v limit
 honest_by fit next w ws limit rest Fits e honest is more = more is
 honest_by fit next w ws limit rest (Over over) e honest is more =
     let same = large_same over limit (w ∷ ws) rest is in
@@ -84,9 +128,12 @@ over_same k l e = cc
 hex_over : (w : List ℕ) (limit : Limit) → hex_fit w ≡ Over limit → PassesLimit w limit
 hex_over w limit is = elim (cases_Bool (nat_lt 0 (length w) && are_hex_pairs w)) [
   | inl hit ↦ elim (cases_Bool (nat_lt 65536 (length w))) [
-    | inl long ↦ inr
-        ((both (nat_lt 0 (length w)) (are_hex_pairs w) hit).1, ltb-true 65536 (length w) long, sym
-        (over_same limits.Block limit (rw (hit, long) at is)))
+    | inl long ↦ inr (
+      (both (nat_lt 0 (length w)) (are_hex_pairs w) hit).1,
+      ltb-true 65536 (length w) long,
+      sym
+          (over_same limits.Block limit (rw (hit, long) at is)),
+    )
     | inr short ↦ fits_over (hex_fit w) limit (rw (hit, short) refl) is
   ]
   | inr miss ↦ unfit_over (hex_fit w) limit (rw miss refl) is
@@ -136,7 +183,7 @@ behind_honest : (counts : Counts) (number : List ℕ → ℕ) (w : List ℕ) →
 behind_honest counts number w = elim (cases_Bool (is_client_name w)) [
   | inl hit ↦ (let e : behind_first counts number w ≡ client_form counts w (number w) = rw hit refl in
       subst (λ (f : Form Line). IsHonest f) (sym e)
-          (honest_then (act_form counts) (λ act. done (lines.Client w (number w) act)) (act_honest counts) (λ act. tt)))
+      (honest_then (act_form counts) (λ act. done (lines.Client w (number w) act)) (act_honest counts) (λ act. tt)))
   | inr miss ↦ (let e : behind_first counts number w ≡ world_behind counts (unwrap_or (served_world w) worlds.Dump) = rw miss refl in
       subst (λ (f : Form Line). IsHonest f) (sym e) (world_honest counts (unwrap_or (served_world w) worlds.Dump)))
 ]

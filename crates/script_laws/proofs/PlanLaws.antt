@@ -1,6 +1,35 @@
 -- Whole scripts: what is read is spelled, and what is spelled is read.
-use Rattle.std.proofs.Common.{◌≡◌, ℕ, ◌+◌, ◌-◌, ◌≤◌, true, false, List, [], ◌∷◌, ◌++◌, length, map, filter, refl, sym, ap, subst, ◌∙◌,
-    arith, inl, inr, Option, Some, None, Result, Ok, Err, nat_lt}
+use Rattle.std.proofs.Common.{
+  ◌≡◌,
+  ℕ,
+  ◌+◌,
+  ◌-◌,
+  ◌≤◌,
+  true,
+  false,
+  List,
+  [],
+  ◌∷◌,
+  ◌++◌,
+  length,
+  map,
+  filter,
+  refl,
+  sym,
+  ap,
+  subst,
+  ◌∙◌,
+  arith,
+  inl,
+  inr,
+  Option,
+  Some,
+  None,
+  Result,
+  Ok,
+  Err,
+  nat_lt,
+}
 use Rattle.std.specs.Prelude.{if◌then◌else◌}
 use Rattle.std.specs.List.{AllByRecursion}
 use Rattle.std.specs.Map.{keys_of}
@@ -18,14 +47,39 @@ use Rattle.script_forms.specs.LineText.{spaced, line_text}
 use Rattle.script_forms.specs.Grammar.{store_form}
 use Rattle.script_forms.specs.LineForms.{AreCounts}
 use Rattle.script_forms.specs.Clients.{Seen, seen_after}
-use Rattle.script_forms.specs.Reading.{at_line, is_comment, text_read, store_text_read, go_on, add_line, seen_behind, lines_read,
-    behind_store, plan_of, the_plan, store_read, script_read, too_large}
+use Rattle.script_forms.specs.Reading.{
+  at_line,
+  is_comment,
+  text_read,
+  store_text_read,
+  go_on,
+  add_line,
+  seen_behind,
+  lines_read,
+  behind_store,
+  plan_of,
+  the_plan,
+  store_read,
+  script_read,
+  too_large,
+}
 use Rattle.script_forms.specs.Spelling.{AreLines, seen_of, is_told, plan_lines, IsPlan, Spells}
 use Rattle.script_laws.proofs.GrammarLaws.{store_words, store_sound, store_complete}
 use Rattle.script_laws.proofs.Visible.{parts_spaced, spaced_parts, store_visible}
 use Rattle.script_laws.proofs.LineSteps.{IsLine as IsText, lines_step, store_step}
-use Rattle.script_laws.proofs.ScriptLaws.{right_same, faulty_right, ended_got, append_nil, measured_right, measures, at_line_right,
-    text_told, go_on_right, outcome, lines_right}
+use Rattle.script_laws.proofs.ScriptLaws.{
+  right_same,
+  faulty_right,
+  ended_got,
+  append_nil,
+  measured_right,
+  measures,
+  at_line_right,
+  text_told,
+  go_on_right,
+  outcome,
+  lines_right,
+}
 
 -- the empty text behind the last line feed
 abbrev closed : List (List ℕ) → List (List ℕ)
@@ -76,8 +130,8 @@ lines_complete counts are seen n (t ∷ texts) ls few short told may = elim (cas
         → length (t ∷ texts) ≤ 65537 - n → AllByRecursion (λ (text : List ℕ). length text ≤ 70000) (t ∷ texts) → is_comment t ≡ false → t
         ∷ filter is_told texts ≡ map line_text ls → AreLines counts seen ls →
         ((vs : List Line) (after : Seen) → length texts ≤ 65537 - (n + 1) → filter is_told texts ≡ map line_text vs
-            → AreLines counts after vs → lines_read counts after (n + 1) (closed texts) ≡ Ok (outcome vs (seen_of after vs)))
-            → lines_read counts seen n (t ∷ closed texts) ≡ Ok (outcome ls (seen_of seen ls))
+        → AreLines counts after vs → lines_read counts after (n + 1) (closed texts) ≡ Ok (outcome vs (seen_of after vs)))
+        → lines_read counts seen n (t ∷ closed texts) ≡ Ok (outcome ls (seen_of seen ls))
     told_line counts are seen n t texts [] few short miss told may go = list_some _ _ told
     told_line counts are seen n t texts (l ∷ ls) few short miss told may go =
         let same = list_cons t (line_text l) (filter is_told texts) (map line_text ls) told in
@@ -105,13 +159,13 @@ store_by n text found is = elim (cases_Bool (is_comment text)) [
   | inl hit ↦ subst (λ (r : Option Counts). IsStore text r) (right_same None found (rw hit at is)) hit
   | inr miss ↦
       let g = go_on_right (at_line n text (ended (read true store_form (parts 32 text)))) (λ counts. Ok (Some counts)) found (rw miss at is)
-          in
+      in
       let o = at_line_right n text (ended (read true store_form (parts 32 text))) g.0 g.1 in
       let e = ended_got (read true store_form (parts 32 text)) g.0 o.0 o.1 in
       let s = store_sound (parts 32 text) g.0 [] e.0 in
       let words : store_words g.0 ≡ parts 32 text = sym (append_nil (store_words g.0)) ∙ s.words in
       subst (λ (r : Option Counts). IsStore text r) (right_same (Some g.0) found g.2)
-          (miss, s.form, sym (ap (λ (ws : List (List ℕ)). spaced ws) words ∙ spaced_parts text))
+      (miss, s.form, sym (ap (λ (ws : List (List ℕ)). spaced ws) words ∙ spaced_parts text))
 ]
 
 store_told : (n : ℕ) (text : List ℕ) (found : Option Counts) → n ≤ 65536 → length text ≤ 70000 → IsStore text found
@@ -119,9 +173,9 @@ store_told : (n : ℕ) (text : List ℕ) (found : Option Counts) → n ≤ 65536
 store_told n text None few short told = measures n text _ few short ∙ rw told refl
 store_told n text (Some counts) few short told =
     let words : parts 32 text ≡ store_words counts = ap (λ (t : List ℕ). parts 32 t) told.2 ∙ parts_spaced _ _ (store_visible counts told.1)
-        in
+    in
     let is : read true store_form (parts 32 text) ≡ Got counts [] = ap (λ (ws : List (List ℕ)). read true store_form ws)
-        (words ∙ sym (append_nil (store_words counts))) ∙ store_complete true counts told.1 [] in
+    (words ∙ sym (append_nil (store_words counts))) ∙ store_complete true counts told.1 [] in
     measures n text _ few short ∙ rw (told.0, is) refl
 
 plan_right : (counts : Counts) (r : Result (List Line × Seen) ScriptFault) (plan : Plan) → plan_of counts r ≡ Ok plan → (ls : List Line)
@@ -132,7 +186,7 @@ plan_right counts (Err fault) plan is = faulty_right fault plan is
 found_right : (n : ℕ) (text : List ℕ) (q : List ℕ) (qs : List (List ℕ)) (found : Option Counts) (plan : Plan) → n ≤ 65536
     → length text ≤ 70000 → IsStore text found →
     behind_store found (store_read (n + 1) (q ∷ qs)) (λ counts. plan_of counts (lines_read counts [] (n + 1) (q ∷ qs))) ≡ Ok plan
-        → (store_read (n + 1) (q ∷ qs) ≡ Ok plan → StoreRight (n + 1) (q ∷ qs) plan) → StoreRight n (text ∷ q ∷ qs) plan
+    → (store_read (n + 1) (q ∷ qs) ≡ Ok plan → StoreRight (n + 1) (q ∷ qs) plan) → StoreRight n (text ∷ q ∷ qs) plan
 found_right n text q qs None plan small short told is later =
     let m = later is in
     let few = m.few in
@@ -166,8 +220,8 @@ store_right n (b ∷ line) [] plan is =
     faulty_right _ plan g.2
 store_right n p (q ∷ qs) plan is =
     let g = go_on_right (store_text_read n p)
-        (λ found. behind_store found (store_read (n + 1) (q ∷ qs)) (λ counts. plan_of counts (lines_read counts [] (n + 1) (q ∷ qs)))) plan
-        (sym (store_step n p (q ∷ qs) (text_before p q qs)) ∙ is) in
+    (λ found. behind_store found (store_read (n + 1) (q ∷ qs)) (λ counts. plan_of counts (lines_read counts [] (n + 1) (q ∷ qs)))) plan
+    (sym (store_step n p (q ∷ qs) (text_before p q qs)) ∙ is) in
     let m = measured_right n p _ g.0 g.1 in
     found_right n p q qs g.0 plan m.number m.size (store_by n p g.0 m.is) g.2 (λ h. store_right (n + 1) q qs plan h)
   where
@@ -194,7 +248,7 @@ plan_complete n (t ∷ texts) plan is few short told = elim (cases_Bool (is_comm
       let same = list_cons t (line_text (lines.Store plan.counts)) (filter is_told texts) (map line_text plan.lines) (rw miss at told) in
       store_on n t texts (Some plan.counts) (store_told n t (Some plan.counts) (omega arith) short.0 (miss, is.counts, same.0))
       ∙ ap (λ r. plan_of plan.counts r)
-          (lines_complete plan.counts is.counts [] (n + 1) texts plan.lines (omega arith) short.1 same.1 is.lines)
+      (lines_complete plan.counts is.counts [] (n + 1) texts plan.lines (omega arith) short.1 same.1 is.lines)
       ∙ ap (λ (names : List (List ℕ)). Ok (the_plan plan.counts names plan.lines)) (sym is.clients)
 ]
 
@@ -207,12 +261,19 @@ script_sound bytes plan is = elim (cases_Bool (nat_lt 67108864 (length bytes))) 
       let some = parts_some 10 bytes in
       let m = store_right 1 some.0 some.1 plan (ap (λ (ps : List (List ℕ)). store_read 1 ps) (sym some.2) ∙ (rw small at is)) in
       let few = m.few in
-      record { plan_is = m.plan_is; size = ltb-false 67108864 (length bytes) small; texts = m.texts; whole = some.2 ∙ m.whole;
-          few = omega arith; short = m.short; told = m.told }
+      record {
+        plan_is = m.plan_is;
+        size = ltb-false 67108864 (length bytes) small;
+        texts = m.texts;
+        whole = some.2 ∙ m.whole;
+        few = omega arith;
+        short = m.short;
+        told = m.told;
+      }
 ]
 
 pub script_complete : (bytes : List ℕ) (plan : Plan) → Spells bytes plan → script_read bytes ≡ Ok plan
 script_complete bytes plan s =
     let few = s.few in
     rw (le-ltb 67108864 (length bytes) s.size)
-        (ap (λ (ps : List (List ℕ)). store_read 1 ps) s.whole ∙ plan_complete 1 s.texts plan s.plan_is (omega arith) s.short s.told)
+    (ap (λ (ps : List (List ℕ)). store_read 1 ps) s.whole ∙ plan_complete 1 s.texts plan s.plan_is (omega arith) s.short s.told)

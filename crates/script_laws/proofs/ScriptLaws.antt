@@ -1,6 +1,35 @@
 -- What is read is spelled, and what is spelled is read.
-use Rattle.std.proofs.Common.{◌≡◌, ℕ, ◌+◌, ◌-◌, ◌≤◌, true, false, List, [], ◌∷◌, ◌++◌, length, map, filter, refl, sym, ap, subst, ◌∙◌,
-    arith, inl, inr, Option, Some, None, Result, Ok, Err, nat_lt}
+use Rattle.std.proofs.Common.{
+  ◌≡◌,
+  ℕ,
+  ◌+◌,
+  ◌-◌,
+  ◌≤◌,
+  true,
+  false,
+  List,
+  [],
+  ◌∷◌,
+  ◌++◌,
+  length,
+  map,
+  filter,
+  refl,
+  sym,
+  ap,
+  subst,
+  ◌∙◌,
+  arith,
+  inl,
+  inr,
+  Option,
+  Some,
+  None,
+  Result,
+  Ok,
+  Err,
+  nat_lt,
+}
 use Rattle.std.specs.Prelude.{if◌then◌else◌}
 use Rattle.std.specs.List.{AllByRecursion}
 use Rattle.std.proofs.lemmas.Bool.{cases_Bool, ltb-false, le-ltb}
@@ -23,8 +52,23 @@ use Rattle.script_forms.specs.LineText.{spaced, act_words, line_words, line_text
 use Rattle.script_forms.specs.Grammar.{act_form, world_behind, line_form}
 use Rattle.script_forms.specs.LineForms.{IsLine, line_limit, act_limit, AreCounts}
 use Rattle.script_forms.specs.Clients.{Seen, client_number, is_one_too_many}
-use Rattle.script_forms.specs.Reading.{out_of_state, of_client, client_read, world_read, line_read, at_line, measured, is_comment,
-    some_line, text_read, go_on, add_line, seen_behind, lines_read, too_large}
+use Rattle.script_forms.specs.Reading.{
+  out_of_state,
+  of_client,
+  client_read,
+  world_read,
+  line_read,
+  at_line,
+  measured,
+  is_comment,
+  some_line,
+  text_read,
+  go_on,
+  add_line,
+  seen_behind,
+  lines_read,
+  too_large,
+}
 use Rattle.script_forms.specs.Spelling.{IsInOrder, MayStand, AreLines, seen_of, is_told}
 use Rattle.script_laws.proofs.FormLaws.{got_same, got_wrong, got_large, fits_pass}
 use Rattle.script_laws.proofs.VerbLaws.{world_spelled, world_read_word, world_no_client}
@@ -84,16 +128,18 @@ client_right counts are seen client named words line rest is = elim (cases_Bool 
     | inl many ↦ got_large line limits.Clients rest (client ∷ words) (sym (rw (fits, many) at is))
     | inr few ↦
         let m = of_client_got client (client_number seen client) (ended (read true (act_form counts) words)) line rest
-            (rw (fits, few) at is) in
+        (rw (fits, few) at is) in
         let act = m.0 in
         let e = ended_got (read true (act_form counts) words) act rest m.1 in
         let a = act_sound true counts are words act [] e.0 in
         let words_are : act_words act ≡ words = sym (append_nil (act_words act)) ∙ a.words_are in
         subst (λ (l : Line). LineRight counts seen (client ∷ words) l) m.2 (record {
           words = ap (λ (ws : List (List ℕ)). client ∷ ws) words_are;
-          stands = record
-              { form = (named, a.form); within = true_within (act_limit act) a.within;
-              in_order = (ap (λ (ws : List (List ℕ)). out_of_state seen client ws) words_are ∙ fits, few, refl) };
+          stands = record {
+            form = (named, a.form);
+            within = true_within (act_limit act) a.within;
+            in_order = (ap (λ (ws : List (List ℕ)). out_of_state seen client ws) words_are ∙ fits, few, refl);
+          };
         })
   ]
 ]
@@ -114,11 +160,15 @@ world_right counts are seen first (Some verb) some words line rest is =
     let e = ended_got (read true (world_behind counts verb) words) line rest is in
     let w = world_sound true counts are (λ name. client_number seen name) verb s.1 words line [] e.0 in
     let words_are : line_words line ≡ first
-        ∷ words = sym (append_nil (line_words line)) ∙ w.words ∙ ap (λ (f : List ℕ). f ∷ words) (sym s.0) in
-    record { words = words_are;
-        stands = record
-        { form = w.form; within = true_within (line_limit line) w.within;
-        in_order = plain_order seen line (world_plain counts verb words line [] e.0) } }
+    ∷ words = sym (append_nil (line_words line)) ∙ w.words ∙ ap (λ (f : List ℕ). f ∷ words) (sym s.0) in
+    record {
+      words = words_are;
+      stands = record {
+        form = w.form;
+        within = true_within (line_limit line) w.within;
+        in_order = plain_order seen line (world_plain counts verb words line [] e.0);
+      };
+    }
 
 pub line_right : (counts : Counts) → AreCounts counts → (seen : Seen) (ws : List (List ℕ)) (line : Line) (rest : List (List ℕ))
     → line_read counts seen ws ≡ Got line rest → LineRight counts seen ws line
@@ -140,7 +190,7 @@ world_line counts are seen verb served ws line is within plain words =
     let all = line_complete true counts are number line is (fits_pass true (line_limit line) within) (plain_number number line plain) [] in
     let from : read true (world_behind counts verb) ws ≡ Got line [] =
     sym (world_first true counts number verb served ws) ∙ ap (λ (vs : List (List ℕ)). read true (line_form counts number) vs)
-        (sym (append_nil (line_words line) ∙ words)) ∙ all in
+    (sym (append_nil (line_words line) ∙ words)) ∙ all in
     ap (λ (vs : List (List ℕ)). line_read counts seen vs) words ∙ world_line_read counts seen verb served ws line from
   where
     plain_number : (number : List ℕ → ℕ) (line : Line) → IsPlain line → IsNumbered number line
@@ -163,7 +213,7 @@ line_stands counts are seen (lines.Store other) may = absurd may.form
 line_stands counts are seen (lines.Client client actor act) may =
     let is = act_complete true counts are act may.form.1 (fits_pass true (act_limit act) may.within) [] in
     client_line counts seen client act may.form.0 may.in_order.0 may.in_order.1
-        (ap (λ (vs : List (List ℕ)). read true (act_form counts) vs) (sym (append_nil (act_words act))) ∙ is)
+    (ap (λ (vs : List (List ℕ)). read true (act_form counts) vs) (sym (append_nil (act_words act))) ∙ is)
     ∙ ap (λ (n : ℕ). Got (lines.Client client n act) []) (sym may.in_order.2)
 line_stands counts are seen lines.Sweep may = world_line counts are seen worlds.Sweep may.form _ lines.Sweep may.form refl tt refl
 line_stands counts are seen (lines.Lose disk) may = world_line counts are seen worlds.Lose may.form.0 _ (lines.Lose disk) may.form refl tt
@@ -216,7 +266,7 @@ told_by counts are seen n text read is = elim (cases_Bool (is_comment text)) [
       let got = at_line_right n text (line_read counts seen (parts 32 text)) l.0 l.1 in
       let r = line_right counts are seen (parts 32 text) l.0 got.0 got.1 in
       subst (λ (o : Option Line). IsTold counts seen text o) l.2
-          (miss, r.stands, sym (ap (λ (ws : List (List ℕ)). spaced ws) r.words ∙ spaced_parts text))
+      (miss, r.stands, sym (ap (λ (ws : List (List ℕ)). spaced ws) r.words ∙ spaced_parts text))
 ]
 
 pub text_told : (counts : Counts) → AreCounts counts → (seen : Seen) (n : ℕ) (text : List ℕ) (read : Option Line) → n ≤ 65536
@@ -225,7 +275,7 @@ text_told counts are seen n text None few short told = measures n text _ few sho
 text_told counts are seen n text (Some line) few short told =
     let words : parts 32 text ≡ line_words line = ap (λ (t : List ℕ). parts 32 t) told.2 ∙ line_parts counts are line told.1.form in
     let is : line_read counts seen (parts 32 text) ≡ Got line [] = ap (λ (ws : List (List ℕ)). line_read counts seen ws) words ∙ line_stands
-        counts are seen line told.1 in
+    counts are seen line told.1 in
     measures n text _ few short ∙ rw (told.0, is) refl
   where
     some_words : (line : Line) → (w : List ℕ) × (ws : List (List ℕ)) × (line_words line ≡ w ∷ ws)
@@ -263,7 +313,7 @@ add_right : (counts : Counts) (seen : Seen) (n : ℕ) (text : List ℕ) (more : 
     (r : Result (List Line × Seen) ScriptFault) (ls : List Line) (after : Seen) → n ≤ 65536 → length text ≤ 70000
     → IsTold counts seen text read → add_line read r ≡ Ok (outcome ls after) →
     ((ls : List Line) → r ≡ Ok (outcome ls after) → LinesRight counts (seen_behind seen read) (n + 1) more ls after)
-        → LinesRight counts seen n (text ∷ more) ls after
+    → LinesRight counts seen n (text ∷ more) ls after
 add_right counts seen n text more None r ls after small short told is inner =
     let m = inner ls is in
     let few = m.few in
@@ -297,17 +347,24 @@ pub lines_right : (counts : Counts) → AreCounts counts
 lines_right counts are seen n [] [] ls after is =
     let same = right_same (outcome [] seen) (outcome ls after) is in
     subst (λ (vs : List Line). LinesRight counts seen n ([] ∷ []) vs after) (ap (λ (o : List Line × Seen). o.0) same)
-        (record { texts = []; whole = refl; few = omega arith; short = tt; told = refl; are = tt;
-        after_is = sym (ap (λ (o : List Line × Seen). o.1) same) })
+    (record {
+      texts = [];
+      whole = refl;
+      few = omega arith;
+      short = tt;
+      told = refl;
+      are = tt;
+      after_is = sym (ap (λ (o : List Line × Seen). o.1) same);
+    })
 lines_right counts are seen n (b ∷ line) [] ls after is =
     let g = go_on_right (text_read counts seen n (b ∷ line)) _ (outcome ls after) is in
     faulty_right _ (outcome ls after) g.2
 lines_right counts are seen n p (q ∷ qs) ls after is =
     let g = go_on_right (text_read counts seen n p) (λ read. add_line read (lines_read counts (seen_behind seen read) (n + 1) (q ∷ qs)))
-        (outcome ls after) (sym (lines_step counts seen n p (q ∷ qs) (text_before p)) ∙ is) in
+    (outcome ls after) (sym (lines_step counts seen n p (q ∷ qs) (text_before p)) ∙ is) in
     let m = measured_right n p _ g.0 g.1 in
     add_right counts seen n p (q ∷ qs) g.0 (lines_read counts (seen_behind seen g.0) (n + 1) (q ∷ qs)) ls after m.number m.size
-        (told_by counts are seen n p g.0 m.is) g.2
+    (told_by counts are seen n p g.0 m.is) g.2
     (λ vs inner. lines_right counts are (seen_behind seen g.0) (n + 1) q qs vs after inner)
   where
     text_before : (p : List ℕ) → IsText p (q ∷ qs)

@@ -1,6 +1,32 @@
 -- The words of a line have no spaces, so that the line's parts are its words.
-use Rattle.std.proofs.Common.{◌≡◌, ℕ, ◌/◌, ◌%◌, ◌<◌, ◌^◌, Bool, true, false, not, ◌&&◌, ◌||◌, nat_le, nat_lt, ◌==◌, List, [], ◌∷◌, ◌++◌,
-    length, refl, sym, ap, ◌∙◌, arith, tests}
+use Rattle.std.proofs.Common.{
+  ◌≡◌,
+  ℕ,
+  ◌/◌,
+  ◌%◌,
+  ◌<◌,
+  ◌^◌,
+  Bool,
+  true,
+  false,
+  not,
+  ◌&&◌,
+  ◌||◌,
+  nat_le,
+  nat_lt,
+  ◌==◌,
+  List,
+  [],
+  ◌∷◌,
+  ◌++◌,
+  length,
+  refl,
+  sym,
+  ap,
+  ◌∙◌,
+  arith,
+  tests,
+}
 use Rattle.std.specs.List.{list_all, AllByRecursion, join_with_byte}
 use Rattle.std.specs.Fmt.{decimal}
 use Rattle.std.proofs.lemmas.Bool.{leb-true, le-leb, ne_eqb}
@@ -133,11 +159,19 @@ store_visible counts are =
     let f = are.files.1 in
     let b = are.blocks.1 in
     let d = are.disks.1 in
-    let c = are.copies.1 in
-    (refl, (number_visible counts.names (omega arith),
-        (number_visible counts.files (omega arith),
-        (number_visible counts.blocks (omega arith),
-        (number_visible counts.disks (omega arith), (number_visible counts.copies (omega arith), tt))))))
+    let c = are.copies.1 in (
+      refl,
+      (
+        number_visible counts.names (omega arith),
+        (
+          number_visible counts.files (omega arith),
+          (
+            number_visible counts.blocks (omega arith),
+            (number_visible counts.disks (omega arith), (number_visible counts.copies (omega arith), tt)),
+          ),
+        ),
+      ),
+    )
 
 -- ---- words and their line
 

@@ -1,6 +1,28 @@
 -- What a word that passes says.
-use Rattle.std.proofs.Common.{◌≡◌, ℕ, ◌*◌, ◌<◌, ◌≤◌, ◌^◌, Bool, true, false, ◌&&◌, nat_le, nat_lt, List, length, refl, sym, ap, subst, ◌∙◌,
-    arith, inl, inr}
+use Rattle.std.proofs.Common.{
+  ◌≡◌,
+  ℕ,
+  ◌*◌,
+  ◌<◌,
+  ◌≤◌,
+  ◌^◌,
+  Bool,
+  true,
+  false,
+  ◌&&◌,
+  nat_le,
+  nat_lt,
+  List,
+  length,
+  refl,
+  sym,
+  ap,
+  subst,
+  ◌∙◌,
+  arith,
+  inl,
+  inr,
+}
 use Rattle.std.specs.List.{AllByRecursion}
 use Rattle.std.specs.Str.{bytes_eq}
 use Rattle.std.specs.Fmt.{decimal}
@@ -9,8 +31,19 @@ use Rattle.std.proofs.lemmas.Slice.Eq.{bytes_eq-Decides}
 use Rattle.script_words.specs.declared.limits.Fit.{Fit}
 use Rattle.script_words.specs.declared.limits.Fit.TheVariants.{Fits, Over, Unfit}
 use Rattle.script_words.specs.WordText.{path_text, hex_text}
-use Rattle.script_words.specs.WordForm.{is_path_form, path_names, path_fit, folder_text, sibling_fit, are_hex_pairs, hex_bytes, hex_fit,
-    is_numeral, number_of, number_fit}
+use Rattle.script_words.specs.WordForm.{
+  is_path_form,
+  path_names,
+  path_fit,
+  folder_text,
+  sibling_fit,
+  are_hex_pairs,
+  hex_bytes,
+  hex_fit,
+  is_numeral,
+  number_of,
+  number_fit,
+}
 use Rattle.script_words.proofs.Apart.{both}
 use Rattle.script_words.proofs.PathWords.{path_spelled, path_names_are, names_of_text, path_text_form}
 use Rattle.script_words.proofs.HexWords.{hex_spelled, hex_bytes_small, bytes_of_text, length-hex_text}
@@ -57,8 +90,11 @@ path_fit_of_text path is = rw (path_text_form path is, names_of_text path is) re
 pub sibling_word : (limited : Bool) (other w : List ℕ) → passes limited (sibling_fit other w) → (folder_text w ≡ folder_text other)
     × passes limited (path_fit w)
 sibling_word limited other w p = elim (cases_Bool (bytes_eq (folder_text w) (folder_text other))) [
-  | inl hit ↦ ((bytes_eq-Decides (folder_text w) (folder_text other)).0 hit, passes_same limited _ _
-      (let e : sibling_fit other w ≡ path_fit w = rw hit refl in e) p)
+  | inl hit ↦ (
+    (bytes_eq-Decides (folder_text w) (folder_text other)).0 hit,
+    passes_same limited _ _
+        (let e : sibling_fit other w ≡ path_fit w = rw hit refl in e) p,
+  )
   | inr miss ↦ unfit_stops limited (sibling_fit other w) (rw miss refl) p
 ]
 
@@ -92,8 +128,12 @@ hex_word limited w p = elim (cases_Bool (nat_lt 0 (length w) && are_hex_pairs w)
       let size : length w ≡ 2 * length (hex_bytes w) = sym (ap (λ (bs : List ℕ). length bs) text) ∙ length-hex_text (hex_bytes w) in
       let long = ltb-true 0 (length w) parts.0 in
       let some : 0 < length (hex_bytes w) = omega arith in
-      record { text = text; some = some; small = hex_bytes_small w parts.1;
-          within = passes_same limited _ _ (hex_fit_is w (hex_bytes w) some parts.1 size) p }
+      record {
+        text = text;
+        some = some;
+        small = hex_bytes_small w parts.1;
+        within = passes_same limited _ _ (hex_fit_is w (hex_bytes w) some parts.1 size) p;
+      }
   | inr miss ↦ unfit_stops limited (hex_fit w) (rw miss refl) p
 ]
 

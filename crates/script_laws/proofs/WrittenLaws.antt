@@ -1,6 +1,27 @@
 -- What is written of a plan spells it.
-use Rattle.std.proofs.Common.{◌≡◌, ℕ, ◌≤◌, Bool, true, false, nat_le, List, [], ◌∷◌, ◌++◌, length, map, filter, refl, sym, ap, subst, ◌∙◌,
-    append_assoc, arith}
+use Rattle.std.proofs.Common.{
+  ◌≡◌,
+  ℕ,
+  ◌≤◌,
+  Bool,
+  true,
+  false,
+  nat_le,
+  List,
+  [],
+  ◌∷◌,
+  ◌++◌,
+  length,
+  map,
+  filter,
+  refl,
+  sym,
+  ap,
+  subst,
+  ◌∙◌,
+  append_assoc,
+  arith,
+}
 use Rattle.std.specs.List.{list_all, AllByRecursion, flat_map}
 use Rattle.std.proofs.lemmas.Bool.{leb-true, le-leb, ne_eqb, false≢true}
 use Rattle.script_words.specs.Splitting.{splits, parts}
@@ -67,9 +88,11 @@ IsWritten text = (list_all is_plain text ≡ true) × (is_comment text ≡ false
 written_lines : (counts : Counts) → AreCounts counts → (seen : Seen) (ls : List Line) → AreLines counts seen ls
     → AllByRecursion IsWritten (map line_text ls)
 written_lines counts are seen [] may = tt
-written_lines counts are seen (l ∷ ls) may =
-    ((spaced_plain (line_words l) (line_visible counts are l may.0.form), line_told counts l may.0.form), written_lines counts are
-        (seen_after seen l) ls may.1)
+written_lines counts are seen (l ∷ ls) may = (
+  (spaced_plain (line_words l) (line_visible counts are l may.0.form), line_told counts l may.0.form),
+  written_lines counts are
+      (seen_after seen l) ls may.1,
+)
 
 written_told : (texts : List (List ℕ)) → AllByRecursion IsWritten texts → filter is_told texts ≡ texts
 written_told [] are = refl
@@ -89,9 +112,11 @@ length-map (l ∷ ls) = omega (arith, length-map ls)
 
 pub script_written : (plan : Plan) → IsPlan plan → IsSmall plan → Spells (script_text plan) plan
 script_written plan is small =
-    let written : AllByRecursion IsWritten (map line_text (plan_lines plan)) =
-        ((spaced_plain (line_words (lines.Store plan.counts)) (store_visible plan.counts is.counts), refl), written_lines plan.counts
-        is.counts [] plan.lines is.lines) in
+    let written : AllByRecursion IsWritten (map line_text (plan_lines plan)) = (
+      (spaced_plain (line_words (lines.Store plan.counts)) (store_visible plan.counts is.counts), refl),
+      written_lines plan.counts
+          is.counts [] plan.lines is.lines,
+    ) in
     let few = small.few in
     let same = length-map (plan_lines plan) in
     record {

@@ -1,6 +1,25 @@
 -- The place that reading a line gives is that of its first wrong word, or of its first word that is too large.
-use Rattle.std.proofs.Common.{◌≡◌, ℕ, true, false, List, [], ◌∷◌, ◌++◌, refl, sym, ap, subst, ◌∙◌, append_assoc, inl, inr, Option, Some,
-    None}
+use Rattle.std.proofs.Common.{
+  ◌≡◌,
+  ℕ,
+  true,
+  false,
+  List,
+  [],
+  ◌∷◌,
+  ◌++◌,
+  refl,
+  sym,
+  ap,
+  subst,
+  ◌∙◌,
+  append_assoc,
+  inl,
+  inr,
+  Option,
+  Some,
+  None,
+}
 use Rattle.std.proofs.lemmas.Bool.{cases_Bool}
 use Rattle.script_words.specs.declared.limits.Limit.{Limit}
 use Rattle.script_words.specs.declared.limits.Limit.TheVariants as limits
@@ -20,8 +39,18 @@ use Rattle.script_forms.specs.Clients.{Seen, client_number, is_one_too_many}
 use Rattle.script_forms.specs.Reading.{out_of_state, of_client, world_read, line_read}
 use Rattle.script_forms.specs.FirstWrong.{Begins, IsDead, IsWrongWords, PassesLimit, IsLargeWords, IsInState, IsWrongLine, IsLargeLine}
 use Rattle.script_forms.proofs.FormReads.{map_outcome, read-map}
-use Rattle.script_laws.proofs.FormLaws.{got, got_wrong, got_large, wrong_same, wrong_large, large_same, taken, first_wrong, first_large,
-    IsDeadEnd}
+use Rattle.script_laws.proofs.FormLaws.{
+  got,
+  got_wrong,
+  got_large,
+  wrong_same,
+  wrong_large,
+  large_same,
+  taken,
+  first_wrong,
+  first_large,
+  IsDeadEnd,
+}
 use Rattle.script_laws.proofs.VerbLaws.{world_spelled}
 use Rattle.script_laws.proofs.GrammarLaws.{IsNumbered, loose_limit, line_sound, line_complete, line_alive, client_first, world_first}
 use Rattle.script_laws.proofs.HonestLaws.{line_honest, honest_large}
@@ -60,23 +89,28 @@ module _ (counts : Counts) (are : AreCounts counts) (number : List ℕ → ℕ) 
       → read false (line_form counts number) ws ≡ Got (with_number number line) []
   form_read line is ws text =
       ap (λ (vs : List (List ℕ)). read false (line_form counts number) vs)
-          (sym (append_nil (line_words (with_number number line)) ∙ number_words number line ∙ text))
+      (sym (append_nil (line_words (with_number number line)) ∙ number_words number line ∙ text))
       ∙ line_complete false counts are number (with_number number line) (number_form counts number line is)
-          (loose_limit counts (with_number number line) (number_form counts number line is)) (numbered number line) []
+      (loose_limit counts (with_number number line) (number_form counts number line is)) (numbered number line) []
 
   begins_of : (front more : List (List ℕ)) (line : Line) → read true (line_form counts number) (front ++ more) ≡ Got line []
       → Begins counts front
   begins_of front more line is =
       let s = line_sound true counts are number (front ++ more) line [] is in
-      record { line = line; more = more; form = s.form; within = true_within (line_limit line) s.within;
-          text = sym (append_nil (line_words line)) ∙ s.words }
+      record {
+        line = line;
+        more = more;
+        form = s.form;
+        within = true_within (line_limit line) s.within;
+        text = sym (append_nil (line_words line)) ∙ s.words;
+      }
 
   dead_of : (front rest : List (List ℕ)) → IsDeadEnd (line_form counts number) front rest → IsDead counts front rest
   dead_of front [] dead = λ whole. got_wrong (with_number number whole.line) [] []
       (sym (form_read whole.line whole.form front whole.text) ∙ dead false)
   dead_of front (w ∷ others) dead = λ b.
       got_wrong (with_number number b.line) [] (w ∷ b.more)
-          (sym (form_read b.line b.form (front ++ w ∷ b.more) (b.text ∙ append_assoc front (w ∷ []) b.more)) ∙ dead false b.more)
+      (sym (form_read b.line b.form (front ++ w ∷ b.more) (b.text ∙ append_assoc front (w ∷ []) b.more)) ∙ dead false b.more)
 
   wrong_of : (ws rest : List (List ℕ)) → read true (line_form counts number) ws ≡ Wrong rest → IsWrongWords counts ws rest
   wrong_of ws rest is =
@@ -113,7 +147,7 @@ module _ (counts : Counts) (are : AreCounts counts) (number : List ℕ → ℕ) 
       → IsLargeWords counts ws limit rest
   large_of ws limit rest is =
       let f = first_large (line_form counts number) ws limit rest (line_alive true counts are number) (line_alive false counts are number)
-          is in
+      is in
       let h = honest_large (line_form counts number) ws limit rest (line_honest counts number) is in
       let s = line_sound false counts are number (f.front ++ f.w ∷ f.more_large) f.value_large [] f.goes_on in
       record {
@@ -123,8 +157,12 @@ module _ (counts : Counts) (are : AreCounts counts) (number : List ℕ → ℕ) 
         split = f.split ∙ ap (λ (r : List (List ℕ)). f.front ++ r) (sym f.rest_is);
         rest_is = f.rest_is;
         begins = begins_of f.front f.more f.value f.begins;
-        form = record { line = f.value_large; more = f.more_large; form = s.form;
-            text = sym (append_nil (line_words f.value_large)) ∙ s.words ∙ sym (append_assoc f.front (f.w ∷ []) f.more_large) };
+        form = record {
+          line = f.value_large;
+          more = f.more_large;
+          form = s.form;
+          text = sym (append_nil (line_words f.value_large)) ∙ s.words ∙ sym (append_assoc f.front (f.w ∷ []) f.more_large);
+        };
         over = subst (λ (v : List ℕ). PassesLimit v limit) (first_same h.0 f.w h.1 f.others (sym h.2 ∙ f.rest_is)) h.3;
       }
     where
@@ -155,10 +193,10 @@ client_as_form : (counts : Counts) (seen : Seen) (client : List ℕ) (words : Li
 client_as_form counts seen client words named fits few =
     let first = client_first true counts (λ name. client_number seen name) client named words in
     let e : line_read counts seen (client ∷ words) ≡ of_client client (client_number seen client)
-        (ended (read true (act_form counts) words)) = rw (named, fits, few) refl in
+    (ended (read true (act_form counts) words)) = rw (named, fits, few) refl in
     e ∙ of_client_ended client (client_number seen client) (read true (act_form counts) words)
     ∙ ap (λ (o : Outcome Line). ended o)
-        (sym (read-map (λ act. lines.Client client (client_number seen client) act) true (act_form counts) words) ∙ sym first)
+    (sym (read-map (λ act. lines.Client client (client_number seen client) act) true (act_form counts) words) ∙ sym first)
 
 world_as_form : (counts : Counts) (seen : Seen) (first : List ℕ) (words : List (List ℕ)) (o : Option WorldVerb)
     → is_client_name first ≡ false → served_world first ≡ o →
@@ -173,8 +211,8 @@ world_as_form counts seen first words None miss none =
 world_as_form counts seen first words (Some verb) miss some =
     let s = world_spelled first verb some in
     ap (λ (o : Outcome Line). ended o)
-        (sym (ap (λ (f : List ℕ). read true (line_form counts (λ name. client_number seen name)) (f ∷ words)) s.0 ∙ world_first true counts
-        (λ name. client_number seen name) verb s.1 words))
+    (sym (ap (λ (f : List ℕ). read true (line_form counts (λ name. client_number seen name)) (f ∷ words)) s.0 ∙ world_first true counts
+    (λ name. client_number seen name) verb s.1 words))
 
 as_form : (counts : Counts) (seen : Seen) (first : List ℕ) (words : List (List ℕ)) → IsInState seen (first ∷ words)
     → line_read counts seen (first ∷ words) ≡ ended (read true (line_form counts (λ name. client_number seen name)) (first ∷ words))

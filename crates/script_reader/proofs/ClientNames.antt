@@ -1,6 +1,5 @@
 -- The names of the clients, one after another.
-use Rattle.std.proofs.Common.{◌≡◌, ℕ, ◌+◌, ◌<◌, take, slice_get, List, [], ◌∷◌, ◌++◌, Some, Result, Ok, Err, length, refl}
-use Rattle.std.specs.Prelude.{IfOk}
+use Rattle.std.proofs.Common.{◌≡◌, ℕ, ◌+◌, ◌<◌, take, slice_get, List, [], ◌∷◌, ◌++◌, Some, length, refl}
 use Rattle.std.specs.Map.{keys_of}
 use Rattle.std.proofs.lemmas.List.{take_more, map-append}
 use Rattle.std.proofs.lemmas.Option.{get_or_from_slice_get}
@@ -11,9 +10,3 @@ use Rattle.script_forms.specs.Clients.{Seen}
 pub keys_more : (entries : Seen) (at : ℕ) (e : List ℕ × ClientState) → at < length entries → slice_get entries at ≡ Some e
     → keys_of (take (at + 1) entries) ≡ keys_of (take at entries) ++ e.0 ∷ []
 keys_more entries at e small is = rw (take_more entries at e small, map-append, get_or_from_slice_get entries at e e is) refl
-
--- a name that was copied
-pub copied : {E : Type 0} (r : Result (List ℕ) E) (x : List ℕ) (all before : List (List ℕ)) → IfOk r (λ name. name ≡ x) → all ≡ before ++ x
-    ∷ [] → IfOk r (λ name. all ≡ before ++ name ∷ [])
-copied (Ok name) x all before is more = rw is more
-copied (Err e) x all before is more = tt

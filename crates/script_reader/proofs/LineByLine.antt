@@ -1,6 +1,30 @@
 -- Reading line after line.
-use Rattle.std.proofs.Common.{◌≡◌, ℕ, ◌+◌, ◌≤◌, subst, true, false, List, [], ◌∷◌, ◌++◌, Option, Some, None, Result, Ok, Err, length, refl,
-    sym, ap, ◌∙◌, append_assoc, arith}
+use Rattle.std.proofs.Common.{
+  ◌≡◌,
+  ℕ,
+  ◌+◌,
+  ◌≤◌,
+  subst,
+  true,
+  false,
+  List,
+  [],
+  ◌∷◌,
+  ◌++◌,
+  Option,
+  Some,
+  None,
+  Result,
+  Ok,
+  Err,
+  length,
+  refl,
+  sym,
+  ap,
+  ◌∙◌,
+  append_assoc,
+  arith,
+}
 use Rattle.std.proofs.lemmas.List.{append-nil}
 use Rattle.std.specs.Borrow.{Bor}
 use Rattle.std.proofs.lemmas.Bool.{le-ltb}
@@ -13,8 +37,20 @@ use Rattle.tect_ids.specs.declared.script.Plan.{Plan}
 use Rattle.script_forms.specs.declared.faults.ScriptFault.{ScriptFault}
 use Rattle.script_forms.specs.declared.faults.ScriptFault.TheVariants as faults
 use Rattle.script_forms.specs.Clients.{Seen}
-use Rattle.script_forms.specs.Reading.{add_line, go_on, ended_by, text_read, store_text_read, seen_behind, lines_read, plan_of, the_plan,
-    behind_store, store_read, script_read}
+use Rattle.script_forms.specs.Reading.{
+  add_line,
+  go_on,
+  ended_by,
+  text_read,
+  store_text_read,
+  seen_behind,
+  lines_read,
+  plan_of,
+  the_plan,
+  behind_store,
+  store_read,
+  script_read,
+}
 use Rattle.script_reader.specs.GivesPlan.{GivesRead, EndsLine, ends_script}
 use Rattle.script_laws.proofs.LineSteps.{IsLine, lines_step, store_step}
 
@@ -115,7 +151,7 @@ module _ (counts : Counts) (whole : Result (List Line × Seen) ScriptFault) (bef
       let first = parts_some 10 rest.now in
       let behind : parts_behind 10 more ≡ parts 10 rest.now = ap (λ (m : Option (Bor (List ℕ))). parts_behind 10 m) some in
       text_right counts whole before seen n line (parts_behind 10 more) all (is_line line more not_last) read first.0 first.1 is
-          (behind ∙ first.2)
+      (behind ∙ first.2)
       ∙ ap (λ (ps : List (List ℕ)). front before (add_line read (lines_read counts (seen_behind seen read) (n + 1) ps))) behind
 
   pub pushed : (l : Line) (after : List Line) (seen_then : Seen) → read ≡ Some l → after ≡ before ++ l ∷ []
@@ -139,7 +175,7 @@ module _ (whole : Result Plan ScriptFault) (n : ℕ) (line : List ℕ) (more : O
       let behind : parts_behind 10 more ≡ parts 10 rest.now = ap (λ (m : Option (Bor (List ℕ))). parts_behind 10 m) some in
       store_right whole n line (parts_behind 10 more) all (is_line line more not_last) read first.0 first.1 is (behind ∙ first.2)
       ∙ ap (λ (ps : List (List ℕ)). behind_store read (store_read (n + 1) ps) (λ counts. plan_of counts (lines_read counts [] (n + 1) ps)))
-          behind
+      behind
 
 pub script_small : (bytes : List ℕ) → length bytes ≤ 67108864 → script_read bytes ≡ store_read 1 (parts 10 bytes)
 script_small bytes small = rw (le-ltb 67108864 (length bytes) small) refl
@@ -150,5 +186,5 @@ pub rest_smaller : (n : ℕ) (line : List ℕ) (more : Option (Bor (List ℕ))) 
 rest_smaller n line more rest bytes first ends =
     let some = ends_some n line more rest ends in
     let size : length bytes ≡ length line + length_behind (Some rest) = first.size ∙ ap
-        (λ (m : Option (Bor (List ℕ))). length line + length_behind m) some in
+    (λ (m : Option (Bor (List ℕ))). length line + length_behind m) some in
     omega arith

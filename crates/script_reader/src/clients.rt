@@ -28,7 +28,7 @@ pub fn is_one_too_many(clients: &Clients, name: &Name) -> bool
     clients.len() >= 64 && clients.get(name).is_none()
 }
 
-fn name_at(alloc: Global, clients: &Clients, at: usize) -> Result<Name, NoMemory>
+fn name_at(clients: &Clients, at: usize) -> Result<Name, NoMemory>
     requires { at < length clients.now.entries }
     ensures { IfOk result (λ name. keys_of (take (at + 1) clients.now.entries) ≡ keys_of (take at clients.now.entries) ++ name ∷ []) }
 {
@@ -45,7 +45,7 @@ pub fn names_of(alloc: Global, clients: &Clients) -> Result<Items<Name>, NoMemor
 {
     let mut names = Items::new(alloc);
     'clients: for at in 0..clients.len() {
-        let name = name_at(alloc, clients, at)?;
+        let name = name_at(clients, at)?;
         names.push(name)?;
     }
     Ok(names)

@@ -1,4 +1,5 @@
 use script_words::Limit;
+use std::alloc::AllocError;
 use tect_ids::NoMemory;
 
 /// Why a line was not read.
@@ -18,6 +19,17 @@ impl From<NoMemory> for LineFault {
     ghost from_gives = { λ _ fault. fault ≡ faults.NoMemory };
 
     fn from(_no_memory: NoMemory) -> LineFault {
+        LineFault::NoMemory
+    }
+}
+
+impl From<AllocError> for LineFault {
+    ghost use Rattle.std.specs.Prelude.{◌≡◌};
+    ghost use Rattle.script_reader.specs.declared.faults.LineFault.TheVariants as faults;
+
+    ghost from_gives = { λ _ fault. fault ≡ faults.NoMemory };
+
+    fn from(_error: AllocError) -> LineFault {
         LineFault::NoMemory
     }
 }

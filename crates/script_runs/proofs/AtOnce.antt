@@ -16,7 +16,8 @@ use Rattle.world_runs.specs.Smooth.{EndIsNext, IsPrompt, EndsAtOnce}
 
 -- ---- who asks has no answer
 
-phase_not_both : (op : OpId) (i : ℕ) (c : Command) (at : Phase) (q : AnyReq) (a : Answer) → phase_ask op i c at ≡ Some q → phase_answer at ≡ Some a → ⊥
+phase_not_both : (op : OpId) (i : ℕ) (c : Command) (at : Phase) (q : AnyReq) (a : Answer) → phase_ask op i c at ≡ Some q
+    → phase_answer at ≡ Some a → ⊥
 phase_not_both op i c (End b) q a asks says = let k : None ≡ Some q = asks in cc
 phase_not_both op i c (Walk d ns) q a asks says = let k : None ≡ Some a = says in cc
 phase_not_both op i c (Bind k n o) q a asks says = let k : None ≡ Some a = says in cc
@@ -24,7 +25,8 @@ phase_not_both op i c (Grant k n) q a asks says = let k : None ≡ Some a = says
 phase_not_both op i c (Swap k n) q a asks says = let k : None ≡ Some a = says in cc
 phase_not_both op i c (Release n h old b) q a asks says = let k : None ≡ Some a = says in cc
 
-program_not_both : (serial : ℕ) (o : Option Program) (q : AnyReq) (a : Answer) → program_ask serial o ≡ Some q → program_answer o ≡ Some a → ⊥
+program_not_both : (serial : ℕ) (o : Option Program) (q : AnyReq) (a : Answer) → program_ask serial o ≡ Some q → program_answer o ≡ Some a
+    → ⊥
 program_not_both serial None q a asks says = let k : None ≡ Some q = asks in cc
 program_not_both serial (Some p) q a asks says = phase_not_both p.op (object_number p.op.actor serial) p.command p.phase q a asks says
 
@@ -32,7 +34,8 @@ pub not_both : (m : WorldState) (op : OpId) (q : AnyReq) (a : Answer) → asked 
 not_both m op q a asks says = program_not_both (m.actors op.actor).serial (running m op) q a asks says
 
 -- an op whose transaction comes next has no answer
-pub acts_unanswered : (m : WorldState) (op : OpId) (n : ℕ) (es more : List Event) (a : Answer) → 1 ≤ n → Acts op n es → RunFrom m (es ++ more) → answered m op ≡ Some a → ⊥
+pub acts_unanswered : (m : WorldState) (op : OpId) (n : ℕ) (es more : List Event) (a : Answer) → 1 ≤ n → Acts op n es
+    → RunFrom m (es ++ more) → answered m op ≡ Some a → ⊥
 acts_unanswered m op n [] more a some acts run says = omega (arith, some, acts)
 acts_unanswered m op n (Acted o q x ∷ es) more a some acts run says = not_both m op q a (rw acts.0 at (run.0).0) says
 acts_unanswered m op n (Began o c ∷ es) more a some acts run says = acts
@@ -70,7 +73,8 @@ next_same : (op : OpId) (es : List Event) (d : Event) (fs gs : List Event) → E
 next_same op [] d fs gs next = next
 next_same op (e ∷ es) d fs gs next = next
 
-prompt_same : (m : WorldState) (e : Event) (es : List Event) (d : Event) (fs gs : List Event) → IsPrompt m e (es ++ d ∷ fs) → IsPrompt m e (es ++ d ∷ gs)
+prompt_same : (m : WorldState) (e : Event) (es : List Event) (d : Event) (fs gs : List Event) → IsPrompt m e (es ++ d ∷ fs)
+    → IsPrompt m e (es ++ d ∷ gs)
 prompt_same m (Acted op q x) es d fs gs prompt = λ a says. next_same op es d fs gs (prompt a says)
 prompt_same m (Began op c) es d fs gs prompt = tt
 prompt_same m (Refused op c) es d fs gs prompt = tt
@@ -79,7 +83,8 @@ prompt_same m (Stopped op) es d fs gs prompt = tt
 prompt_same m (Failed op a) es d fs gs prompt = tt
 prompt_same m Dumped es d fs gs prompt = tt
 
-pub at_once-swap : (m : WorldState) (es : List Event) (d : Event) (fs gs : List Event) → EndsAtOnce m (es ++ d ∷ fs) → EndsAtOnce (after_all m es) (d ∷ gs) → EndsAtOnce m (es ++ d ∷ gs)
+pub at_once-swap : (m : WorldState) (es : List Event) (d : Event) (fs gs : List Event) → EndsAtOnce m (es ++ d ∷ fs)
+    → EndsAtOnce (after_all m es) (d ∷ gs) → EndsAtOnce m (es ++ d ∷ gs)
 at_once-swap m [] d fs gs all then = then
 at_once-swap m (e ∷ es) d fs gs all then = (prompt_same (after m e) e es d fs gs all.0, at_once-swap (after m e) es d fs gs all.1 then)
 
@@ -87,7 +92,8 @@ at_once-swap m (e ∷ es) d fs gs all then = (prompt_same (after m e) e es d fs 
 
 module _ (op : OpId) where
   -- transactions of the op up to its end
-  ends_next : (m : WorldState) (n : ℕ) (es : List Event) (end : Event) (b : Answer) → IsEndOf op end → Acts op n es → RunFrom m (es ++ end ∷ []) → answered m op ≡ Some b → EndIsNext op (es ++ end ∷ [])
+  ends_next : (m : WorldState) (n : ℕ) (es : List Event) (end : Event) (b : Answer) → IsEndOf op end → Acts op n es
+      → RunFrom m (es ++ end ∷ []) → answered m op ≡ Some b → EndIsNext op (es ++ end ∷ [])
   ends_next m n [] end b ends acts run says = ends
   ends_next m n (Acted o q x ∷ es) end b ends acts run says = absurd (not_both m op q b (rw acts.0 at (run.0).0) says)
   ends_next m n (Began o c ∷ es) end b ends acts run says = absurd acts
@@ -106,7 +112,8 @@ module _ (op : OpId) where
   end_alone m (Stopped o) ends = absurd ends
   end_alone m Dumped ends = absurd ends
 
-  pub end_at_once : (m : WorldState) (n : ℕ) (es : List Event) (end : Event) → IsEndOf op end → Acts op n es → RunFrom m (es ++ end ∷ []) → EndsAtOnce m (es ++ end ∷ [])
+  pub end_at_once : (m : WorldState) (n : ℕ) (es : List Event) (end : Event) → IsEndOf op end → Acts op n es → RunFrom m (es ++ end ∷ [])
+      → EndsAtOnce m (es ++ end ∷ [])
   end_at_once m n [] end ends acts run = end_alone m end ends
   end_at_once m count (Acted o q x ∷ es) end ends acts run =
       let n : WorldState = after m (Acted o q x) in (
@@ -122,7 +129,8 @@ module _ (op : OpId) where
   end_at_once m n (Dumped ∷ es) end ends acts run = absurd acts
 
   -- fewer than its transactions
-  pub take_at_once : (m : WorldState) (k n : ℕ) (es more : List Event) → k + 1 ≤ n → Acts op n es → RunFrom m (es ++ more) → EndsAtOnce m (take k es)
+  pub take_at_once : (m : WorldState) (k n : ℕ) (es more : List Event) → k + 1 ≤ n → Acts op n es → RunFrom m (es ++ more)
+      → EndsAtOnce m (take k es)
   take_at_once m zero n es more few acts run = tt
   take_at_once m (suc k) n [] more few acts run = tt
   take_at_once m (suc k) count (Acted o q x ∷ es) more few acts run =

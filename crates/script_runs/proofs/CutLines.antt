@@ -1,5 +1,6 @@
 -- a run that stopped within a line can be brought to the end of its script without a further transaction
-use Rattle.std.proofs.Common.{◌≡◌, ◌<◌, ◌≤◌, ◌+◌, ◌^◌, ◌⊎◌, inl, inr, ℕ, Bool, Option, Some, None, List, [], ◌∷◌, ◌++◌, length, refl, sym, ap, subst, ◌∙◌, arith, append_assoc}
+use Rattle.std.proofs.Common.{◌≡◌, ◌<◌, ◌≤◌, ◌+◌, ◌^◌, ◌⊎◌, inl, inr, ℕ, Bool, Option, Some, None, List, [], ◌∷◌, ◌++◌, length, refl, sym}
+use Rattle.std.proofs.Common.{ap, subst, ◌∙◌, arith, append_assoc}
 use Rattle.std.proofs.lemmas.List.{append-nil}
 use Rattle.tect_ids.specs.declared.ids.OpId.{OpId}
 use Rattle.tect_ids.specs.declared.command.Command.{Command}
@@ -12,10 +13,10 @@ use Rattle.world_runs.specs.declared.event.Event.TheVariants.{Began, Refused, Ac
 use Rattle.world_runs.specs.Moments.{WorldState, opening, after, after_all, RunFrom}
 use Rattle.world_runs.specs.Follows.{Acts, IsEndOf, EndsAfter, IsBeginOf, DoesLine, Busy, with_busy, FollowsFrom}
 use Rattle.world_runs.specs.Turns.{Turns, all_idle, with_turn, turn_after, InTurnFrom}
-use Rattle.world_runs.proofs.Histories.{run-front, run-rest, run-append}
+use Rattle.script_runs.proofs.Histories.{run-front, run-rest, run-append}
 use Rattle.world_runs.specs.Standing.{busy_at}
 use Rattle.world_runs.specs.Smooth.{EndsAtOnce}
-use Rattle.world_runs.proofs.Running.{AllWell, opening_well, run_well, event_well}
+use Rattle.script_runs.proofs.Running.{AllWell, opening_well, run_well, event_well}
 use Rattle.script_runs.specs.RunningOut.{RefusesAsFull}
 use Rattle.script_runs.specs.Laws.{EachCutLineCanBeRunOut}
 use Rattle.script_runs.proofs.Moves.{Keeps, acts_move, begin_moves}
@@ -89,7 +90,8 @@ ends_front op n h tail e =
 ends_once : (m : WorldState) (op : OpId) (n : ℕ) (es : List Event) → EndsAfter op n es → RunFrom m es → EndsAtOnce m es
 ends_once m op n es e run = rw e.2 (end_at_once op m n e.0 e.1 e.4 e.3 (rw e.2 at run))
 
-begin_once : (m : WorldState) (op : OpId) (c : Command) (begin : Event) (es : List Event) → IsBeginOf op c begin → EndsAtOnce (after m begin) es → EndsAtOnce m (begin ∷ es)
+begin_once : (m : WorldState) (op : OpId) (c : Command) (begin : Event) (es : List Event) → IsBeginOf op c begin
+    → EndsAtOnce (after m begin) es → EndsAtOnce m (begin ∷ es)
 begin_once m op c (Began o d) es is then = (tt, then)
 begin_once m op c (Refused o d) es is then = (tt, then)
 begin_once m op c (Acted o q x) es is then = absurd is
@@ -111,7 +113,8 @@ module _ (full : List Event → ℕ → Bool) where
     refuses : (before : List Event) → RefusesAsFull full before tail
 
   -- they did it
-  whole : (m : WorldState) (a : ℕ) (busy : Option OpId) (act : Act) (h : List Event) (next : Option OpId) → RunFrom m h → DoesLine a busy act h next → EndsAtOnce m h → Completes m a busy act h
+  whole : (m : WorldState) (a : ℕ) (busy : Option OpId) (act : Act) (h : List Event) (next : Option OpId) → RunFrom m h
+      → DoesLine a busy act h next → EndsAtOnce m h → Completes m a busy act h
   whole m a busy act h next run does at_once = record {
     tail = [];
     next = next;
@@ -128,7 +131,8 @@ module _ (full : List Event → ℕ → Bool) where
     ends : EndsAfter op n (h ++ end ∷ [])
     refuses : (before : List Event) → RefusesAsFull full before (end ∷ [])
 
-  to_end : (m : WorldState) → AllWell m → (op : OpId) (n : ℕ) (h : List Event) → busy_at m op.actor ≡ Some op → RunFrom m h → Acts op n h → ToEnd m op n h
+  to_end : (m : WorldState) → AllWell m → (op : OpId) (n : ℕ) (h : List Event) → busy_at m op.actor ≡ Some op → RunFrom m h → Acts op n h
+      → ToEnd m op n h
   to_end m s op n h busy run acts =
       let k : WorldState = after_all m h in
       let moved : Keeps m k op.actor (busy_at m op.actor) = acts_move m op n h acts in
@@ -153,7 +157,8 @@ module _ (full : List Event → ℕ → Bool) where
             refuses = e.refuses;
           }
 
-      does_on : (n : ℕ) (h tail : List Event) → RunFrom m (begin ∷ h) → EndsAfter op n (h ++ tail) → Completes m a None (acts.Do c) (begin ∷ h)
+      does_on : (n : ℕ) (h tail : List Event) → RunFrom m (begin ∷ h) → EndsAfter op n (h ++ tail)
+          → Completes m a None (acts.Do c) (begin ∷ h)
       does_on n h tail run ends =
           elim (ends_front op n h tail ends) [
             | inl all ↦ does_whole n h run all
@@ -170,7 +175,8 @@ module _ (full : List Event → ℕ → Bool) where
           let e : ToEnd m op k h = to_end m s op k h own_busy run acts in
           record { tail = e.end ∷ []; next = None; run = e.run; does = inr (k, few, e.ends, refl); at_once = ends_once m op k (h ++ e.end ∷ []) e.ends e.run; refuses = e.refuses }
 
-      steps_on : (n k : ℕ) (h tail : List Event) → RunFrom m h → k ≤ n → EndsAfter op k (h ++ tail) → Completes m a (Some op) (acts.Step n) h
+      steps_on : (n k : ℕ) (h tail : List Event) → RunFrom m h → k ≤ n → EndsAfter op k (h ++ tail)
+          → Completes m a (Some op) (acts.Step n) h
       steps_on n k h tail run few ends =
           elim (ends_front op k h tail ends) [
             | inl all ↦ whole m a (Some op) (acts.Step n) h None run (inr (k, few, all, refl)) (ends_once m op k h all run)
@@ -194,13 +200,15 @@ module _ (full : List Event → ℕ → Bool) where
           let others : h ++ tail ≡ [] = cc in
           (same, both_none h tail others)
 
-      do_on : (c : Command) (op : OpId) (begin : Event) (rest : List Event) (n : ℕ) → op.actor ≡ a → d ∷ h ++ tail ≡ begin ∷ rest → IsBeginOf op c begin → EndsAfter op n rest → Completes m a None (acts.Do c) (d ∷ h)
+      do_on : (c : Command) (op : OpId) (begin : Event) (rest : List Event) (n : ℕ) → op.actor ≡ a → d ∷ h ++ tail ≡ begin ∷ rest
+          → IsBeginOf op c begin → EndsAfter op n rest → Completes m a None (acts.Do c) (d ∷ h)
       do_on c op begin rest n own is begins ends =
           let same : d ≡ begin = cc in
           let others : h ++ tail ≡ rest = cc in
           does_on c op d own (subst (λ (e : Event). IsBeginOf op c e) (sym same) begins) n h tail run (subst (λ (l : List Event). EndsAfter op n l) (sym others) ends)
 
-      begin_on : (c : Command) (op : OpId) (begin : Event) → op.actor ≡ a → d ∷ h ++ tail ≡ begin ∷ [] → IsBeginOf op c begin → Completes m a None (acts.Begin c) (d ∷ h)
+      begin_on : (c : Command) (op : OpId) (begin : Event) → op.actor ≡ a → d ∷ h ++ tail ≡ begin ∷ [] → IsBeginOf op c begin
+          → Completes m a None (acts.Begin c) (d ∷ h)
       begin_on c op begin own is begins =
           let one : (d ≡ begin) × (h ≡ []) = one_alone begin is in
           let here : IsBeginOf op c d = subst (λ (e : Event). IsBeginOf op c e) (sym one.0) begins in
@@ -213,7 +221,8 @@ module _ (full : List Event → ℕ → Bool) where
           let all : d ∷ h ≡ Stopped op ∷ [] = λ i. (one.0) i ∷ (one.1) i in
           whole m a (Some op) acts.Stop (d ∷ h) None run (all, refl) (subst (λ (l : List Event). EndsAtOnce m l) (sym all) (tt, tt))
 
-      line_on : (busy : Option OpId) (act : Act) (next : Option OpId) → busy_at m a ≡ busy → ((op : OpId) → busy ≡ Some op → op.actor ≡ a) → DoesLine a busy act (d ∷ h ++ tail) next
+      line_on : (busy : Option OpId) (act : Act) (next : Option OpId) → busy_at m a ≡ busy → ((op : OpId) → busy ≡ Some op → op.actor ≡ a)
+          → DoesLine a busy act (d ∷ h ++ tail) next
           → Completes m a busy act (d ∷ h)
       line_on None (acts.Do c) next is own f = do_on c (f.0).0 (f.0).1 (f.0).2 ((f.0).6).0 (f.0).3 (f.0).4 (f.0).5 ((f.0).6).1
       line_on None (acts.Begin c) next is own f = begin_on c f.0 f.1 f.2 f.3 f.4
@@ -246,7 +255,8 @@ module _ (full : List Event → ℕ → Bool) where
   module _ (client : List ℕ) (a : ℕ) (act : Act) (ls : List Line) (before : List Event) (m : WorldState) (turns : Turns) (k : ℕ) (s : AllWell m)
       (in_turn : InTurnFrom turns (lines.Client client a act ∷ ls)) (all : AllStand m turns k) where
     -- the first line began, and the others did not
-    line_then : (h : List Event) → k + 1 + length ls < 2 ^ 31 → Completes m a (busy_at m a) act h → CanFinish before h m (lines.Client client a act ∷ ls)
+    line_then : (h : List Event) → k + 1 + length ls < 2 ^ 31 → Completes m a (busy_at m a) act h
+        → CanFinish before h m (lines.Client client a act ∷ ls)
     line_then h few c =
         let part : List Event = h ++ c.tail in
         let n : WorldState = after_all m part in
@@ -264,8 +274,10 @@ module _ (full : List Event → ℕ → Bool) where
         }
 
     -- the first line was done, and these events come behind it
-    line_done_then : (h rest part : List Event) (next : Option OpId) (d : Event) (tail : List Event) → h ≡ part ++ d ∷ tail → RunFrom m part → DoesLine a (busy_at m a) act part next
-        → EndsAtOnce m (h ++ rest) → CanFinish before (d ∷ tail) (after_all m part) ls → CanFinish before h m (lines.Client client a act ∷ ls)
+    line_done_then : (h rest part : List Event) (next : Option OpId) (d : Event) (tail : List Event) → h ≡ part ++ d ∷ tail
+        → RunFrom m part → DoesLine a (busy_at m a) act part next
+        → EndsAtOnce m (h ++ rest) → CanFinish before (d ∷ tail) (after_all m part) ls
+        → CanFinish before h m (lines.Client client a act ∷ ls)
     line_done_then h rest part next d tail parts mine does at_once f =
         let n : WorldState = after_all m part in
         let done : IsDone m n a act next = line_does m s a act part next mine does in
@@ -279,8 +291,10 @@ module _ (full : List Event → ℕ → Bool) where
           refuses = f.refuses;
         }
 
-  cut_run_out : (front back : List Line) (before h rest : List Event) (m : WorldState) (turns : Turns) (k : ℕ) → AllWell m → InTurnFrom turns (front ++ back) → AllStand m turns k
-      → k + length (front ++ back) < 2 ^ 31 → RunFrom m h → FollowsFrom (busy_at m) front (h ++ rest) → EndsAtOnce m (h ++ rest) → CanFinish before h m (front ++ back)
+  cut_run_out : (front back : List Line) (before h rest : List Event) (m : WorldState) (turns : Turns) (k : ℕ) → AllWell m
+      → InTurnFrom turns (front ++ back) → AllStand m turns k
+      → k + length (front ++ back) < 2 ^ 31 → RunFrom m h → FollowsFrom (busy_at m) front (h ++ rest) → EndsAtOnce m (h ++ rest)
+      → CanFinish before h m (front ++ back)
   cut_run_out front back before [] rest m turns k s in_turn all few run f at_once = from_here before m (front ++ back) (lines_run_out full (front ++ back) before m turns k s in_turn all few)
   cut_run_out [] back before (d ∷ h) rest m turns k s in_turn all few run f at_once = absurd (let z : d ∷ h ++ rest ≡ [] = f in cc)
   cut_run_out (lines.Client client a act ∷ ls) back before (d ∷ h) rest m turns k s in_turn all few run f at_once =

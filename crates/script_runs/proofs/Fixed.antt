@@ -10,9 +10,9 @@ use Rattle.world_runs.specs.declared.event.Event.{Event}
 use Rattle.world_runs.specs.declared.event.Event.TheVariants.{Began, Dumped}
 use Rattle.world_runs.specs.Moments.{WorldState, May, opening, after, after_all, RunFrom, answered}
 use Rattle.world_runs.specs.Follows.{Acts, EndsAfter, IsBeginOf, BeginsAndEnds, DoesLine, NoneFails}
-use Rattle.world_runs.proofs.Histories.{run-front, run-rest, none_fails-front, none_fails-rest, begin_is}
+use Rattle.script_runs.proofs.Histories.{run-front, run-rest, none_fails-front, none_fails-rest, begin_is}
 use Rattle.world_runs.specs.Standing.{busy_at}
-use Rattle.world_runs.proofs.Running.{opening_well}
+use Rattle.script_runs.proofs.Running.{opening_well}
 use Rattle.script_runs.specs.Laws.{ScriptFixesRun, ScriptWithoutStepsFixesRun}
 use Rattle.script_runs.proofs.SameEnds.{ends_answer, answers_same, acts_same, acts_not_ends}
 use Rattle.script_runs.proofs.Settles.{IsSettled, Settles, follows_settled, settled_without_steps}
@@ -20,7 +20,8 @@ use Rattle.script_runs.proofs.Settles.{IsSettled, Settles, follows_settled, sett
 -- ---- a line
 
 -- two begins of one actor are of one op
-begun_same : (m : WorldState) (a : ℕ) (op other : OpId) (c : Command) → op.actor ≡ a → other.actor ≡ a → May m (Began op c) → May m (Began other c) → op ≡ other
+begun_same : (m : WorldState) (a : ℕ) (op other : OpId) (c : Command) → op.actor ≡ a → other.actor ≡ a → May m (Began op c)
+    → May m (Began other c) → op ≡ other
 begun_same m a op other c own same one two =
     let first : op.number ≡ (m.actors a).number + 1 = rw own at (one.0).next in
     let second : other.number ≡ (m.actors a).number + 1 = rw same at (two.0).next in
@@ -44,7 +45,8 @@ begins_to_end a c es none b =
     record { op = b.0; rest = b.2; count = (b.6).0; own = b.3; is = b.4 ∙ ap (λ e. e ∷ b.2) begin; ends = (b.6).1 }
 
 -- the same op's begin, and then the same
-does_same : (m : WorldState) (a : ℕ) (c : Command) (d e : List Event) → RunFrom m d → RunFrom m e → NoneFails d → NoneFails e → BeginsToEnd a c d → BeginsToEnd a c e → d ≡ e
+does_same : (m : WorldState) (a : ℕ) (c : Command) (d e : List Event) → RunFrom m d → RunFrom m e → NoneFails d → NoneFails e
+    → BeginsToEnd a c d → BeginsToEnd a c e → d ≡ e
 does_same m a c d e one two none clean first second =
     let run : RunFrom m (Began first.op c ∷ first.rest) = rw first.is at one in
     let other : RunFrom m (Began second.op c ∷ second.rest) = rw second.is at two in
@@ -59,12 +61,14 @@ does_same m a c d e one two none clean first second =
     first.is ∙ whole ∙ sym second.is
 
 -- the op's begin alone
-begins_alone : (op : OpId) (c : Command) (begin : Event) (es : List Event) → NoneFails es → es ≡ begin ∷ [] → IsBeginOf op c begin → es ≡ Began op c ∷ []
+begins_alone : (op : OpId) (c : Command) (begin : Event) (es : List Event) → NoneFails es → es ≡ begin ∷ [] → IsBeginOf op c begin
+    → es ≡ Began op c ∷ []
 begins_alone op c begin es none is begins =
     let fine : NoneFails (begin ∷ []) = rw is at none in
     is ∙ ap (λ e. e ∷ []) (begin_is op c begin begins fine.0)
 
-begins_same : (m : WorldState) (a : ℕ) (c : Command) (d e : List Event) (op other : OpId) → op.actor ≡ a → other.actor ≡ a → d ≡ Began op c ∷ [] → e ≡ Began other c ∷ [] → RunFrom m d → RunFrom m e → d ≡ e
+begins_same : (m : WorldState) (a : ℕ) (c : Command) (d e : List Event) (op other : OpId) → op.actor ≡ a → other.actor ≡ a
+    → d ≡ Began op c ∷ [] → e ≡ Began other c ∷ [] → RunFrom m d → RunFrom m e → d ≡ e
 begins_same m a c d e op other own same first second one two =
     let run : RunFrom m (Began op c ∷ []) = rw first at one in
     let also : RunFrom m (Began other c ∷ []) = rw second at two in
@@ -73,7 +77,8 @@ begins_same m a c d e op other own same first second one two =
     first ∙ whole ∙ sym second
 
 -- a step of so many transactions leaves an answer where another comes to the end
-step_not_both : (m : WorldState) (op : OpId) (n k : ℕ) (d e : List Event) (next : Option OpId) → RunFrom m d → RunFrom m e → Acts op n d → next ≡ Some op → IsSettled (after_all m d) (acts.Step n) next → k ≤ n
+step_not_both : (m : WorldState) (op : OpId) (n k : ℕ) (d e : List Event) (next : Option OpId) → RunFrom m d → RunFrom m e → Acts op n d
+    → next ≡ Some op → IsSettled (after_all m d) (acts.Step n) next → k ≤ n
     → EndsAfter op k e → NoneFails e → ⊥
 step_not_both m op n k d e next one two done goes_on settled few ends clean =
     let says : answered (after_all m d) op ≡ None = subst (λ (o : Option OpId). IsSettled (after_all m d) (acts.Step n) o) goes_on settled in
@@ -81,7 +86,8 @@ step_not_both m op n k d e next one two done goes_on settled few ends clean =
 
 -- what an actor does at a line
 module _ (m : WorldState) (a : ℕ) (d e : List Event) (one : RunFrom m d) (two : RunFrom m e) (none : NoneFails d) (clean : NoneFails e) where
-  line_same : (act : Act) (busy next last : Option OpId) → DoesLine a busy act d next → DoesLine a busy act e last → IsSettled (after_all m d) act next → IsSettled (after_all m e) act last → d ≡ e
+  line_same : (act : Act) (busy next last : Option OpId) → DoesLine a busy act d next → DoesLine a busy act e last
+      → IsSettled (after_all m d) act next → IsSettled (after_all m e) act last → d ≡ e
   line_same (acts.Do c) None next last first second settled also = does_same m a c d e one two none clean (begins_to_end a c d none first.0) (begins_to_end a c e clean second.0)
   line_same (acts.Begin c) None next last first second settled also =
       begins_same m a c d e first.0 second.0 first.2 second.2 (begins_alone first.0 c first.1 d none first.3 first.4) (begins_alone second.0 c second.1 e clean second.3 second.4) one two
@@ -106,15 +112,18 @@ abbrev IsFixed : List Line → Type 0
 IsFixed ls = (m : WorldState) (d e : List Event) → RunFrom m d → RunFrom m e → NoneFails d → NoneFails e → Settles m ls d → Settles m ls e → d ≡ e
 
 module _ (client : List ℕ) (a : ℕ) (act : Act) (ls : List Line) (others : IsFixed ls) (m : WorldState) where
-  rest_fixed : (part other d e : List Event) → part ≡ other → RunFrom (after_all m part) d → RunFrom (after_all m other) e → NoneFails d → NoneFails e
+  rest_fixed : (part other d e : List Event) → part ≡ other → RunFrom (after_all m part) d → RunFrom (after_all m other) e → NoneFails d
+      → NoneFails e
       → Settles (after_all m part) ls d → Settles (after_all m other) ls e → part ++ d ≡ other ++ e
   rest_fixed part other d e same one two none clean first second =
       let back : (P : List Event → Type 0) → P other → P part = λ P. subst P (sym same) in
       let rest : d ≡ e = others (after_all m part) d e one (back (λ l. RunFrom (after_all m l) e) two) none clean first (back (λ l. Settles (after_all m l) ls e) second) in
       λ i. same i ++ rest i
 
-  line_fixed : (part other d e : List Event) (next last : Option OpId) → RunFrom m (part ++ d) → RunFrom m (other ++ e) → NoneFails (part ++ d) → NoneFails (other ++ e)
-      → DoesLine a (busy_at m a) act part next → DoesLine a (busy_at m a) act other last → IsSettled (after_all m part) act next → IsSettled (after_all m other) act last
+  line_fixed : (part other d e : List Event) (next last : Option OpId) → RunFrom m (part ++ d) → RunFrom m (other ++ e)
+      → NoneFails (part ++ d) → NoneFails (other ++ e)
+      → DoesLine a (busy_at m a) act part next → DoesLine a (busy_at m a) act other last → IsSettled (after_all m part) act next
+      → IsSettled (after_all m other) act last
       → Settles (after_all m part) ls d → Settles (after_all m other) ls e → part ++ d ≡ other ++ e
   line_fixed part other d e next last one two none clean does also settled as_well first second =
       let same : part ≡ other =

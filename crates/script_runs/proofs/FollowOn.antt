@@ -10,10 +10,10 @@ use Rattle.world_runs.specs.declared.event.Event.TheVariants.{Dumped}
 use Rattle.world_runs.specs.Moments.{WorldState, opening, after_all, RunFrom, moment}
 use Rattle.world_runs.specs.Follows.{DoesLine, Busy, with_busy, FollowsFrom}
 use Rattle.world_runs.specs.Turns.{Turns, all_idle, with_turn, turn_after, turns_after, TakesAct, InTurnFrom}
-use Rattle.world_runs.proofs.Histories.{run-front, run-rest}
+use Rattle.script_runs.proofs.Histories.{run-front, run-rest}
 use Rattle.world_runs.proofs.Actors.{after_all-append}
 use Rattle.world_runs.specs.Standing.{busy_at}
-use Rattle.world_runs.proofs.Running.{AllWell, opening_well, run_well}
+use Rattle.script_runs.proofs.Running.{AllWell, opening_well, run_well}
 use Rattle.script_runs.specs.Laws.{RunFollowsOn, Stands, StandsByTurn}
 use Rattle.world_runs.proofs.Actors.{changed}
 use Rattle.script_runs.proofs.Lines.{IsDone, line_does, busy_after, turn_stands}
@@ -21,16 +21,19 @@ use Rattle.script_runs.proofs.Lines.{IsDone, line_does, busy_after, turn_stands}
 -- ---- following on
 
 -- no event came first
-none_first : (m : WorldState) (back : List Line) (history more : List Event) → history ≡ [] → FollowsFrom (busy_at (after_all m history)) back more → FollowsFrom (busy_at m) back (history ++ more)
+none_first : (m : WorldState) (back : List Line) (history more : List Event) → history ≡ []
+    → FollowsFrom (busy_at (after_all m history)) back more → FollowsFrom (busy_at m) back (history ++ more)
 none_first m back history more none =
     subst (λ (h : List Event). FollowsFrom (busy_at (after_all m h)) back more → FollowsFrom (busy_at m) back (h ++ more)) (sym none) (λ f. f)
 
 -- the moment after the events of a line and of further lines
-moment_by : (m : WorldState) (history part rest : List Event) → history ≡ part ++ rest → after_all m history ≡ after_all (after_all m part) rest
+moment_by : (m : WorldState) (history part rest : List Event) → history ≡ part ++ rest
+    → after_all m history ≡ after_all (after_all m part) rest
 moment_by m history part rest parts = ap (after_all m) parts ∙ after_all-append m part rest
 
 -- one line, and then the others
-pub follows_on : (front back : List Line) (m : WorldState) (history more : List Event) → AllWell m → RunFrom m history → FollowsFrom (busy_at m) front history
+pub follows_on : (front back : List Line) (m : WorldState) (history more : List Event) → AllWell m → RunFrom m history
+    → FollowsFrom (busy_at m) front history
     → FollowsFrom (busy_at (after_all m history)) back more → FollowsFrom (busy_at m) (front ++ back) (history ++ more)
 follows_on [] back m history more s run f then = none_first m back history more f then
 follows_on (lines.Client client a act ∷ ls) back m history more s run f then =
@@ -82,7 +85,8 @@ abbrev pub AllStand : WorldState → Turns → ℕ → Type 0
 AllStand m turns n = (a : ℕ) → Stands (turns a) n (m.actors a)
 
 -- they stand by the turns after a line
-pub stand_after : (m n : WorldState) (turns : Turns) (k a : ℕ) (act : Act) (part : List Event) (next : Option OpId) → IsDone m n a act next → DoesLine a (busy_at m a) act part next
+pub stand_after : (m n : WorldState) (turns : Turns) (k a : ℕ) (act : Act) (part : List Event) (next : Option OpId) → IsDone m n a act next
+    → DoesLine a (busy_at m a) act part next
     → TakesAct (turns a) act → AllStand m turns k → AllStand n (with_turn turns a (turn_after act)) (k + 1)
 stand_after m n turns k a act part next done does takes all b =
     changed (λ t. Stands t (k + 1) (n.actors b)) turns a (turn_after act) b (λ e. rw e own) other
@@ -97,7 +101,8 @@ stand_after m n turns k a act part next done does takes all b =
     other d = rw (done.others b d) record { stands = (all b).stands; began = omega (arith, (all b).began) }
 
 -- so they do after all lines
-pub stand_by_turn : (ls : List Line) (m : WorldState) (turns : Turns) (k : ℕ) (history : List Event) → AllWell m → InTurnFrom turns ls → RunFrom m history → FollowsFrom (busy_at m) ls history
+pub stand_by_turn : (ls : List Line) (m : WorldState) (turns : Turns) (k : ℕ) (history : List Event) → AllWell m → InTurnFrom turns ls
+    → RunFrom m history → FollowsFrom (busy_at m) ls history
     → AllStand m turns k → AllStand (after_all m history) (turns_after turns ls) (k + length ls)
 stand_by_turn [] m turns k history s in_turn run f all = rw f (λ a. record { stands = (all a).stands; began = omega (arith, (all a).began) })
 stand_by_turn (lines.Client client a act ∷ ls) m turns k history s in_turn run f all =

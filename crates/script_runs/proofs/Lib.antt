@@ -1,3 +1,5 @@
+pub mod Histories
+pub mod Running
 pub mod Moves
 pub mod Lines
 pub mod FollowOn

@@ -14,7 +14,7 @@ use Rattle.world_runs.specs.Follows.{Acts, EndsAfter, IsBeginOf, BeginsAndEnds, 
 use Rattle.world_runs.specs.Turns.{ClientTurn, TakesAct, turn_after}
 use Rattle.world_runs.specs.Turns as turns
 use Rattle.world_runs.specs.Standing.{op_of, busy_at, AtTurn}
-use Rattle.world_runs.proofs.Running.{AllWell}
+use Rattle.script_runs.proofs.Running.{AllWell}
 use Rattle.world_runs.proofs.Actors.{changed}
 use Rattle.script_runs.proofs.Moves.{Moves, Keeps, none_moves, moves_on, acts_move, ends_move, begin_moves, stopped_moves}
 
@@ -55,21 +55,22 @@ idle_is (Some p) e = absurd (let k : Some p.op ≡ None = e in cc)
 -- ---- a line
 
 -- the actor does not stop by it
-abbrev pub GoesOn : Act → Type 0
-GoesOn acts.Stop = ⊥
-GoesOn _ = Unit {0}
+abbrev pub IsNoStop : Act → Type 0
+IsNoStop acts.Stop = ⊥
+IsNoStop _ = Unit {0}
 
 -- what the line changes: nothing of the others; the actor begins one command or none, and is then busy with this
 pub record IsDone (m n : WorldState) (a : ℕ) (act : Act) (next : Option OpId) : Type 0 where
   pub others : (b : ℕ) → b ≢ a → n.actors b ≡ m.actors b
   pub number : (n.actors a).number ≤ (m.actors a).number + 1
-  pub goes_on : GoesOn act → (n.actors a).stopped ≡ (m.actors a).stopped
+  pub goes_on : IsNoStop act → (n.actors a).stopped ≡ (m.actors a).stopped
   pub busy : busy_at n a ≡ next
 
 pub keeps_done : (m n : WorldState) (a : ℕ) (act : Act) (next : Option OpId) → Keeps m n a next → IsDone m n a act next
 keeps_done m n a act next k = record { others = k.others; number = rw k.number (omega arith); goes_on = λ g. k.stopped; busy = k.busy }
 
-begun_done : (m n : WorldState) (a : ℕ) (act : Act) (next : Option OpId) → Moves m n a ((m.actors a).number + 1) (m.actors a).stopped next → IsDone m n a act next
+begun_done : (m n : WorldState) (a : ℕ) (act : Act) (next : Option OpId) → Moves m n a ((m.actors a).number + 1) (m.actors a).stopped next
+    → IsDone m n a act next
 begun_done m n a act next k = record { others = k.others; number = rw k.number (omega arith); goes_on = λ g. k.stopped; busy = k.busy }
 
 stopped_done : (m n : WorldState) (a : ℕ) (next : Option OpId) → Moves m n a (m.actors a).number true next → IsDone m n a acts.Stop next
@@ -86,23 +87,27 @@ module _ (m : WorldState) (a : ℕ) (act : Act) where
       rw (d.0, d.1) (keeps_done m m a act None (subst (λ (o : Option OpId). Keeps m m a o) is (none_moves m a)))
 
   -- the op ran to its end
-  ends_done : (op : OpId) (n : ℕ) (part : List Event) (next : Option OpId) → op.actor ≡ a → EndsAfter op n part → next ≡ None → Done next part
+  ends_done : (op : OpId) (n : ℕ) (part : List Event) (next : Option OpId) → op.actor ≡ a → EndsAfter op n part → next ≡ None
+      → Done next part
   ends_done op n part next own e last = rw last (keeps_done m _ a act None (subst (λ (i : ℕ). Keeps m (after_all m part) i None) own (ends_move m op n part e)))
 
   -- the op did transactions
-  acts_done : (op : OpId) (n : ℕ) (part : List Event) (next : Option OpId) → op.actor ≡ a → busy_at m a ≡ Some op → Acts op n part → next ≡ Some op → Done next part
+  acts_done : (op : OpId) (n : ℕ) (part : List Event) (next : Option OpId) → op.actor ≡ a → busy_at m a ≡ Some op → Acts op n part
+      → next ≡ Some op → Done next part
   acts_done op n part next own is e last =
       rw last (keeps_done m _ a act (Some op) (subst (λ (o : Option OpId). Keeps m (after_all m part) a o) is
       (subst (λ (i : ℕ). Keeps m (after_all m part) i (busy_at m i)) own (acts_move m op n part e))))
 
   -- the op began
-  begins_done : (op : OpId) (c : Command) (begin : Event) (part : List Event) (next : Option OpId) → op.actor ≡ a → part ≡ begin ∷ [] → IsBeginOf op c begin → RunFrom m part → next ≡ Some op → Done next part
+  begins_done : (op : OpId) (c : Command) (begin : Event) (part : List Event) (next : Option OpId) → op.actor ≡ a → part ≡ begin ∷ []
+      → IsBeginOf op c begin → RunFrom m part → next ≡ Some op → Done next part
   begins_done op c begin part next own is begins run last =
       rw (is, last) (begun_done m _ a act (Some op) (subst (λ (i : ℕ). Moves m (after m begin) i ((m.actors i).number + 1) (m.actors i).stopped (Some op)) own
       (begin_moves m op c begin begins (rw is at run).0)))
 
   -- the op began and ran to its end
-  does_done : (c : Command) (part : List Event) (next : Option OpId) → BeginsAndEnds a c part → RunFrom m part → next ≡ None → Done next part
+  does_done : (c : Command) (part : List Event) (next : Option OpId) → BeginsAndEnds a c part → RunFrom m part → next ≡ None
+      → Done next part
   does_done c part next b run last =
       let op : OpId = b.0 in
       let mid : WorldState = after m b.1 in
@@ -112,7 +117,8 @@ module _ (m : WorldState) (a : ℕ) (act : Act) where
       rw (b.4, last) (begun_done m _ a act None (subst (λ (i : ℕ). Moves m (after_all mid b.2) i ((m.actors i).number + 1) (m.actors i).stopped None) b.3 whole))
 
 -- the events of a line
-pub line_done : (m : WorldState) (a : ℕ) (act : Act) (part : List Event) (busy next : Option OpId) → busy_at m a ≡ busy → ((op : OpId) → busy ≡ Some op → op.actor ≡ a) → RunFrom m part
+pub line_done : (m : WorldState) (a : ℕ) (act : Act) (part : List Event) (busy next : Option OpId) → busy_at m a ≡ busy
+    → ((op : OpId) → busy ≡ Some op → op.actor ≡ a) → RunFrom m part
     → DoesLine a busy act part next → IsDone m (after_all m part) a act next
 line_done m a (acts.Do c) part None next is own run d = does_done m a (acts.Do c) c part next d.0 run d.1
 line_done m a (acts.Begin c) part None next is own run d = begins_done m a (acts.Begin c) d.0 c d.1 part next d.2 d.3 d.4 run d.5
@@ -128,29 +134,33 @@ line_done m a acts.Stop part (Some op) next is own run d =
     rw (d.0, d.1) (stopped_done m _ a None (subst (λ (i : ℕ). Moves m (after m (Stopped op)) i (m.actors i).number true None) (own op refl) (stopped_moves m op)))
 
 -- the same of a moment of a run
-pub line_does : (m : WorldState) → AllWell m → (a : ℕ) (act : Act) (part : List Event) (next : Option OpId) → RunFrom m part → DoesLine a (busy_at m a) act part next
+pub line_does : (m : WorldState) → AllWell m → (a : ℕ) (act : Act) (part : List Event) (next : Option OpId) → RunFrom m part
+    → DoesLine a (busy_at m a) act part next
     → IsDone m (after_all m part) a act next
 line_does m s a act part next run d = line_done m a act part (busy_at m a) next refl (λ op is. (busy_is m s a op is).own) run d
 
 -- the busy ops after it
-busy_so : (m n : WorldState) (a : ℕ) (act : Act) (next : Option OpId) → IsDone m n a act next → (b : ℕ) → with_busy (busy_at m) a next b ≡ busy_at n b
+busy_so : (m n : WorldState) (a : ℕ) (act : Act) (next : Option OpId) → IsDone m n a act next → (b : ℕ)
+    → with_busy (busy_at m) a next b ≡ busy_at n b
 busy_so m n a act next d b =
     changed (λ o. o ≡ busy_at n b) (busy_at m) a next b (λ e. rw e (sym d.busy)) (λ e. ap (λ (st : Actor). op_of st.running) (sym (d.others b e)))
 
-pub busy_after : (m n : WorldState) (a : ℕ) (act : Act) (next : Option OpId) → IsDone m n a act next → with_busy (busy_at m) a next ≡ busy_at n
+pub busy_after : (m n : WorldState) (a : ℕ) (act : Act) (next : Option OpId) → IsDone m n a act next
+    → with_busy (busy_at m) a next ≡ busy_at n
 busy_after m n a act next d i b = busy_so m n a act next d b i
 
 -- ---- turns
 
 -- where the line leaves no command running
-abbrev Rests : Act → Type 0
-Rests (acts.Do c) = Unit {0}
-Rests (acts.Begin c) = ⊥
-Rests (acts.Step n) = ⊥
-Rests acts.Run = Unit {0}
-Rests acts.Stop = Unit {0}
+abbrev LeavesNone : Act → Type 0
+LeavesNone (acts.Do c) = Unit {0}
+LeavesNone (acts.Begin c) = ⊥
+LeavesNone (acts.Step n) = ⊥
+LeavesNone acts.Run = Unit {0}
+LeavesNone acts.Stop = Unit {0}
 
-rests_next : (a : ℕ) (busy : Option OpId) (act : Act) (part : List Event) (next : Option OpId) → Rests act → DoesLine a busy act part next → next ≡ None
+rests_next : (a : ℕ) (busy : Option OpId) (act : Act) (part : List Event) (next : Option OpId) → LeavesNone act → DoesLine a busy act part next
+    → next ≡ None
 rests_next a None (acts.Do c) part next r d = d.1
 rests_next a None (acts.Begin c) part next r d = absurd r
 rests_next a None (acts.Step n) part next r d = absurd r
@@ -163,11 +173,12 @@ rests_next a (Some op) acts.Run part next r d = d.1
 rests_next a (Some op) acts.Stop part next r d = d.1
 
 module _ (m n : WorldState) (a : ℕ) (busy : Option OpId) (act : Act) (part : List Event) (next : Option OpId) (done : IsDone m n a act next) (does : DoesLine a busy act part next) where
-  rests : Rests act → (n.actors a).running ≡ None
+  rests : LeavesNone act → (n.actors a).running ≡ None
   rests r = idle_is (n.actors a).running (done.busy ∙ rests_next a busy act part next r does)
 
 -- the actor stands as its turn after the line tells
-pub turn_stands : (m n : WorldState) (a : ℕ) (busy : Option OpId) (turn : ClientTurn) (act : Act) (part : List Event) (next : Option OpId) → IsDone m n a act next → DoesLine a busy act part next
+pub turn_stands : (m n : WorldState) (a : ℕ) (busy : Option OpId) (turn : ClientTurn) (act : Act) (part : List Event) (next : Option OpId)
+    → IsDone m n a act next → DoesLine a busy act part next
     → TakesAct turn act → AtTurn turn (m.actors a) → AtTurn (turn_after act) (n.actors a)
 turn_stands m n a busy turns.Idle (acts.Do c) part next done does takes stood = (rests m n a busy (acts.Do c) part next done does tt, done.goes_on tt ∙ stood.1)
 turn_stands m n a busy turns.Idle (acts.Begin c) part next done does takes stood = done.goes_on tt ∙ stood.1

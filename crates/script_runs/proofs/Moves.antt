@@ -28,7 +28,8 @@ Keeps m n a busy = Moves m n a (m.actors a).number (m.actors a).stopped busy
 pub none_moves : (m : WorldState) (a : ℕ) → Keeps m m a (busy_at m a)
 none_moves m a = record { others = λ b d. refl; number = refl; stopped = refl; busy = refl }
 
-pub moves_on : (m n k : WorldState) (a number : ℕ) (stopped : Bool) (busy last : Option OpId) → Moves m n a number stopped busy → Keeps n k a last → Moves m k a number stopped last
+pub moves_on : (m n k : WorldState) (a number : ℕ) (stopped : Bool) (busy last : Option OpId) → Moves m n a number stopped busy
+    → Keeps n k a last → Moves m k a number stopped last
 moves_on m n k a number stopped busy last f s = record {
   others = λ b d. s.others b d ∙ f.others b d;
   number = s.number ∙ f.number;
@@ -37,7 +38,8 @@ moves_on m n k a number stopped busy last f s = record {
 }
 
 -- the actor is put in this state
-pub put_moves : (m : WorldState) (s : Store) (a : ℕ) (state : Actor) → Moves m (with_actor (record m { store = s }) a state) a state.number state.stopped (op_of state.running)
+pub put_moves : (m : WorldState) (s : Store) (a : ℕ) (state : Actor)
+    → Moves m (with_actor (record m { store = s }) a state) a state.number state.stopped (op_of state.running)
 put_moves m s a state = record {
   others = λ b d. changed (λ st. st ≡ m.actors b) m.actors a state b (λ e. absurd (d e)) (λ e. refl);
   number = changed_there (λ st. st.number ≡ state.number) m.actors a state refl;
@@ -56,7 +58,8 @@ acted_moves m op q x =
     (put_moves m (store_step m.store q) op.actor (went_on m.counts (m.actors op.actor) q x))
 
 -- transactions
-pub acts_move : (m : WorldState) (op : OpId) (n : ℕ) (es : List Event) → Acts op n es → Keeps m (after_all m es) op.actor (busy_at m op.actor)
+pub acts_move : (m : WorldState) (op : OpId) (n : ℕ) (es : List Event) → Acts op n es
+    → Keeps m (after_all m es) op.actor (busy_at m op.actor)
 acts_move m op n [] acts = none_moves m op.actor
 acts_move m op n (Acted o q x ∷ es) acts =
     let e : Event = Acted o q x in
@@ -88,18 +91,21 @@ ends_move m op n es e =
     subst (λ (z : WorldState). Keeps m z op.actor None) (sym whole) (moves_on m mid (after mid e.1) op.actor _ _ _ _ (acts_move m op n e.0 e.3) (end_moves mid op e.1 e.4))
 
 -- its begin
-begun_moves : (m : WorldState) (op : OpId) (c : Command) → May m (Began op c) → Moves m (after m (Began op c)) op.actor ((m.actors op.actor).number + 1) (m.actors op.actor).stopped (Some op)
+begun_moves : (m : WorldState) (op : OpId) (c : Command) → May m (Began op c)
+    → Moves m (after m (Began op c)) op.actor ((m.actors op.actor).number + 1) (m.actors op.actor).stopped (Some op)
 begun_moves m op c may =
     subst (λ (i : ℕ). Moves m (after m (Began op c)) op.actor i (m.actors op.actor).stopped (Some op)) (may.0).next
     (put_moves m m.store op.actor (begun (m.actors op.actor) op c))
 
-refused_moves : (m : WorldState) (op : OpId) (c : Command) → May m (Refused op c) → Moves m (after m (Refused op c)) op.actor ((m.actors op.actor).number + 1) (m.actors op.actor).stopped (Some op)
+refused_moves : (m : WorldState) (op : OpId) (c : Command) → May m (Refused op c)
+    → Moves m (after m (Refused op c)) op.actor ((m.actors op.actor).number + 1) (m.actors op.actor).stopped (Some op)
 refused_moves m op c may =
     subst (λ (i : ℕ). Moves m (after m (Refused op c)) op.actor i (m.actors op.actor).stopped (Some op)) (may.0).next
     (put_moves m m.store op.actor (refused (m.actors op.actor) op c))
 
 -- its begin or its refusal
-pub begin_moves : (m : WorldState) (op : OpId) (c : Command) (e : Event) → IsBeginOf op c e → May m e → Moves m (after m e) op.actor ((m.actors op.actor).number + 1) (m.actors op.actor).stopped (Some op)
+pub begin_moves : (m : WorldState) (op : OpId) (c : Command) (e : Event) → IsBeginOf op c e → May m e
+    → Moves m (after m e) op.actor ((m.actors op.actor).number + 1) (m.actors op.actor).stopped (Some op)
 begin_moves m op c (Began o d) is may =
     subst (λ (z : OpId). Moves m (after m (Began o d)) z.actor ((m.actors z.actor).number + 1) (m.actors z.actor).stopped (Some z)) is.0 (begun_moves m o d may)
 begin_moves m op c (Refused o d) is may =

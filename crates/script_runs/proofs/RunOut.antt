@@ -1,5 +1,6 @@
 -- each script in turn can be brought to its end without a further transaction
-use Rattle.std.proofs.Common.{◌≡◌, ◌<◌, ◌≤◌, ◌+◌, ◌^◌, ℕ, inr, Bool, true, false, Option, Some, None, List, [], ◌∷◌, ◌++◌, length, refl, sym, ap, subst, arith, append_assoc, length-append}
+use Rattle.std.proofs.Common.{◌≡◌, ◌<◌, ◌≤◌, ◌+◌, ◌^◌, ℕ, inr, Bool, true, false, Option, Some, None, List, [], ◌∷◌, ◌++◌, length, refl}
+use Rattle.std.proofs.Common.{sym, ap, subst, arith, append_assoc, length-append}
 use Rattle.std.proofs.lemmas.List.{append-nil}
 use Rattle.tect_ids.specs.declared.ids.OpId.{OpId}
 use Rattle.tect_ids.specs.declared.answer.Answer.{Answer}
@@ -16,14 +17,15 @@ use Rattle.world_runs.specs.declared.event.Event.{Event}
 use Rattle.world_runs.specs.declared.event.Event.TheVariants.{Began, Refused, Acted, Ended, Stopped, Failed, Dumped}
 use Rattle.world_runs.specs.Served.{IsServed}
 use Rattle.program_rules.specs.Lacks.{no_room}
-use Rattle.world_runs.specs.Moments.{WorldState, May, CanBegin, opening, after, after_all, RunFrom, IsWorldRun, moment, running, answered, program_of, begun, refused}
+use Rattle.world_runs.specs.Moments.{WorldState, May, CanBegin, opening, after, after_all, RunFrom, IsWorldRun, moment, running, answered}
+use Rattle.world_runs.specs.Moments.{program_of, begun, refused}
 use Rattle.world_runs.specs.Follows.{IsEndOf, IsBeginOf, DoesLine, Busy, FollowsFrom}
 use Rattle.world_runs.specs.Turns.{ClientTurn, Turns, all_idle, with_turn, turn_after, turns_after, TakesAct, InTurnFrom}
 use Rattle.world_runs.specs.Turns as turns
-use Rattle.world_runs.proofs.Histories.{run-append}
+use Rattle.script_runs.proofs.Histories.{run-append}
 use Rattle.world_runs.specs.Standing.{op_of, busy_at, AtTurn}
 use Rattle.world_runs.specs.Smooth.{EndsAtOnce}
-use Rattle.world_runs.proofs.Running.{AllWell, opening_well, run_well, all_well}
+use Rattle.script_runs.proofs.Running.{AllWell, opening_well, run_well, all_well}
 use Rattle.script_runs.specs.RunningOut.{RefusesAsFull}
 use Rattle.script_runs.specs.Laws.{EachScriptCanBeRunOut}
 use Rattle.world_runs.proofs.Actors.{changed_there}
@@ -33,10 +35,12 @@ use Rattle.script_runs.proofs.FollowOn.{turn_front, turn_back, AllStand, stand_a
 module _ (full : List Event → ℕ → Bool) where
   -- ---- one list of such events after another
 
-  refuses_on : (before : List Event) (e : Event) (es fs : List Event) → RefusesAsFull full (before ++ e ∷ es) fs → RefusesAsFull full ((before ++ e ∷ []) ++ es) fs
+  refuses_on : (before : List Event) (e : Event) (es fs : List Event) → RefusesAsFull full (before ++ e ∷ es) fs
+      → RefusesAsFull full ((before ++ e ∷ []) ++ es) fs
   refuses_on before e es fs then = subst (λ (l : List Event). RefusesAsFull full l fs) (sym (append_assoc before (e ∷ []) es)) then
 
-  pub refuses-append : (before es fs : List Event) → RefusesAsFull full before es → RefusesAsFull full (before ++ es) fs → RefusesAsFull full before (es ++ fs)
+  pub refuses-append : (before es fs : List Event) → RefusesAsFull full before es → RefusesAsFull full (before ++ es) fs
+      → RefusesAsFull full before (es ++ fs)
   refuses-append before [] fs first then = rw append-nil at then
   refuses-append before (Began op c ∷ es) fs first then = (first.0, refuses-append (before ++ Began op c ∷ []) es fs first.1 (refuses_on before (Began op c) es fs then))
   refuses-append before (Refused op c ∷ es) fs first then = (first.0, refuses-append (before ++ Refused op c ∷ []) es fs first.1 (refuses_on before (Refused op c) es fs then))
@@ -87,7 +91,8 @@ module _ (full : List Event → ℕ → Bool) where
     does : DoesLine a busy act events next
     refuses : RefusesAsFull full before events
 
-  nothing : (before : List Event) (m : WorldState) (a : ℕ) (busy next : Option OpId) (act : Act) → DoesLine a busy act [] next → CanDo before m a busy act
+  nothing : (before : List Event) (m : WorldState) (a : ℕ) (busy next : Option OpId) (act : Act) → DoesLine a busy act [] next
+      → CanDo before m a busy act
   nothing before m a busy next act does = record { events = []; next = next; run = tt; does = does; refuses = tt }
 
   -- an idle actor
@@ -169,7 +174,8 @@ module _ (full : List Event → ℕ → Bool) where
         record { events = Stopped op ∷ []; next = None; run = ((busy.program, busy_runs m a op busy), tt); does = (refl, refl); refuses = tt }
 
     -- any line in turn
-    line_can : (turn : ClientTurn) (act : Act) → 1 ≤ a → a ≤ 64 → TakesAct turn act → AtTurn turn (m.actors a) → (m.actors a).number + 1 < 2 ^ 31 → CanDo before m a (busy_at m a) act
+    line_can : (turn : ClientTurn) (act : Act) → 1 ≤ a → a ≤ 64 → TakesAct turn act → AtTurn turn (m.actors a)
+        → (m.actors a).number + 1 < 2 ^ 31 → CanDo before m a (busy_at m a) act
     line_can turns.Idle (acts.Do c) from upto takes stood few =
         subst (λ (o : Option OpId). CanDo before m a o (acts.Do c)) (sym (ap op_of stood.0)) (do_can before m a c from upto takes stood few)
     line_can turns.Idle (acts.Begin c) from upto takes stood few =
@@ -193,7 +199,8 @@ module _ (full : List Event → ℕ → Bool) where
     pub follows : FollowsFrom (busy_at m) ls events
     pub refuses : RefusesAsFull full before events
 
-  pub lines_run_out : (ls : List Line) (before : List Event) (m : WorldState) (turns : Turns) (k : ℕ) → AllWell m → InTurnFrom turns ls → AllStand m turns k → k + length ls < 2 ^ 31
+  pub lines_run_out : (ls : List Line) (before : List Event) (m : WorldState) (turns : Turns) (k : ℕ) → AllWell m → InTurnFrom turns ls
+      → AllStand m turns k → k + length ls < 2 ^ 31
       → CanRunOut before m ls
   lines_run_out [] before m turns k s in_turn all few = record { events = []; run = tt; follows = refl; refuses = tt }
   lines_run_out (lines.Client client a act ∷ ls) before m turns k s in_turn all few =

@@ -13,7 +13,8 @@ use Rattle.script_runs.proofs.AtOnce.{not_both}
 
 -- ---- an event
 
-acted_same : (m : WorldState) (op o u : OpId) (q r : AnyReq) (x y : AnyReply) → May m (Acted o q x) → May m (Acted u r y) → o ≡ op → u ≡ op → Acted o q x ≡ Acted u r y
+acted_same : (m : WorldState) (op o u : OpId) (q r : AnyReq) (x y : AnyReply) → May m (Acted o q x) → May m (Acted u r y) → o ≡ op → u ≡ op
+    → Acted o q x ≡ Acted u r y
 acted_same m op o u q r x y one other its same =
     let first : asked m op ≡ Some q = rw its at one.0 in
     let second : asked m op ≡ Some r = rw same at other.0 in
@@ -23,7 +24,8 @@ acted_same m op o u q r x y one other its same =
     let ops : o ≡ u = its ∙ sym same in
     λ i. Acted (ops i) (reqs i) (replies i)
 
-ended_same : (m : WorldState) (op o u : OpId) (a b : Answer) → May m (Ended o a) → May m (Ended u b) → o ≡ op → u ≡ op → Ended o a ≡ Ended u b
+ended_same : (m : WorldState) (op o u : OpId) (a b : Answer) → May m (Ended o a) → May m (Ended u b) → o ≡ op → u ≡ op
+    → Ended o a ≡ Ended u b
 ended_same m op o u a b one other its same =
     let first : answered m op ≡ Some a = rw its at one in
     let second : answered m op ≡ Some b = rw same at other in
@@ -32,11 +34,13 @@ ended_same m op o u a b one other its same =
     let ops : o ≡ u = its ∙ sym same in
     λ i. Ended (ops i) (answers i)
 
-acts_or_ends : (m : WorldState) (op o u : OpId) (q : AnyReq) (x : AnyReply) (a : Answer) → May m (Acted o q x) → May m (Ended u a) → o ≡ op → u ≡ op → ⊥
+acts_or_ends : (m : WorldState) (op o u : OpId) (q : AnyReq) (x : AnyReply) (a : Answer) → May m (Acted o q x) → May m (Ended u a) → o ≡ op
+    → u ≡ op → ⊥
 acts_or_ends m op o u q x a act end its same = not_both m op q a (rw its at act.0) (rw same at end)
 
 -- the same first event, and the same others from there on
-more_same : (m : WorldState) (d e : Event) (ds es : List Event) → d ≡ e → RunFrom (after m d) ds → (RunFrom (after m e) ds → ds ≡ es) → (d ∷ ds) ≡ (e ∷ es)
+more_same : (m : WorldState) (d e : Event) (ds es : List Event) → d ≡ e → RunFrom (after m d) ds → (RunFrom (after m e) ds → ds ≡ es)
+    → (d ∷ ds) ≡ (e ∷ es)
 more_same m d e ds es same run rest =
     let others : ds ≡ es = rest (subst (λ (z : Event). RunFrom (after m z) ds) same run) in
     λ i. same i ∷ others i
@@ -63,7 +67,8 @@ end_answers op n (Acted o q x) is none = absurd is
 end_answers op n (Stopped o) is none = absurd is
 end_answers op n Dumped is none = absurd is
 
-acts_answer : (op : OpId) (n : ℕ) (front : List Event) (end : Event) → Acts op n front → IsEndOf op end → NoneFails (front ++ end ∷ []) → Answers op n (front ++ end ∷ [])
+acts_answer : (op : OpId) (n : ℕ) (front : List Event) (end : Event) → Acts op n front → IsEndOf op end → NoneFails (front ++ end ∷ [])
+    → Answers op n (front ++ end ∷ [])
 acts_answer op n [] end acts is none = end_answers op n end is none
 acts_answer op n (Acted o q x ∷ es) end acts is none = (acts.0, ((acts.1).0, (acts.1).1, acts_answer op (acts.1).0 es end (acts.1).2 is none.1))
 acts_answer op n (Began o c ∷ es) end acts is none = absurd acts
@@ -77,7 +82,8 @@ pub ends_answer : (op : OpId) (n : ℕ) (es : List Event) → EndsAfter op n es 
 ends_answer op n es e none = rw e.2 (acts_answer op n e.0 e.1 e.3 e.4 (rw e.2 at none))
 
 -- two of them
-pub answers_same : (op : OpId) (m : WorldState) (n k : ℕ) (ds es : List Event) → RunFrom m ds → RunFrom m es → Answers op n ds → Answers op k es → ds ≡ es
+pub answers_same : (op : OpId) (m : WorldState) (n k : ℕ) (ds es : List Event) → RunFrom m ds → RunFrom m es → Answers op n ds
+    → Answers op k es → ds ≡ es
 answers_same op m n k (Acted o q x ∷ ds) (Acted u r y ∷ es) one other first second =
     more_same m (Acted o q x) (Acted u r y) ds es (acted_same m op o u q r x y one.0 other.0 first.0 second.0) one.1
     (λ run. answers_same op (after m (Acted u r y)) (first.1).0 (second.1).0 ds es run other.1 (first.1).2 (second.1).2)
@@ -101,7 +107,8 @@ answers_same op m n k ds (Failed o a ∷ es) one other first second = absurd sec
 answers_same op m n k ds (Dumped ∷ es) one other first second = absurd second
 
 -- so many transactions
-pub acts_same : (op : OpId) (m : WorldState) (n : ℕ) (ds es : List Event) → RunFrom m ds → RunFrom m es → Acts op n ds → Acts op n es → ds ≡ es
+pub acts_same : (op : OpId) (m : WorldState) (n : ℕ) (ds es : List Event) → RunFrom m ds → RunFrom m es → Acts op n ds → Acts op n es
+    → ds ≡ es
 acts_same op m n [] [] one other first second = refl
 acts_same op m n (Acted o q x ∷ ds) (Acted u r y ∷ es) one other first second =
     more_same m (Acted o q x) (Acted u r y) ds es (acted_same m op o u q r x y one.0 other.0 first.0 second.0) one.1
@@ -123,7 +130,8 @@ acts_same op m n ds (Failed o a ∷ es) one other first second = absurd second
 acts_same op m n ds (Dumped ∷ es) one other first second = absurd second
 
 -- an op that can do so many transactions, and has no answer then, does not end before
-pub acts_not_ends : (op : OpId) (m : WorldState) (n k : ℕ) (ds es : List Event) → RunFrom m ds → RunFrom m es → Acts op n ds → answered (after_all m ds) op ≡ None → k ≤ n → Answers op k es → ⊥
+pub acts_not_ends : (op : OpId) (m : WorldState) (n k : ℕ) (ds es : List Event) → RunFrom m ds → RunFrom m es → Acts op n ds
+    → answered (after_all m ds) op ≡ None → k ≤ n → Answers op k es → ⊥
 acts_not_ends op m n k [] (Acted u r y ∷ es) one other first none few second = omega (arith, first, few, (second.1).1)
 acts_not_ends op m n k [] (Ended u a ∷ es) one other first none few second = let e : None ≡ Some a = sym none ∙ (rw second.0 at other.0) in cc
 acts_not_ends op m n k (Acted o q x ∷ ds) (Ended u a ∷ es) one other first none few second = acts_or_ends m op o u q x a one.0 other.0 first.0 second.0

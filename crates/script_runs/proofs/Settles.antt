@@ -1,5 +1,6 @@
 -- the end of an op that came to its answer by the last transaction of a step is the step's
-use Rattle.std.proofs.Common.{◌≡◌, ◌≢◌, ◌≤◌, ℕ, inl, inr, ◌⊎◌, Option, Some, None, List, [], ◌∷◌, ◌++◌, refl, sym, ap, subst, ◌∙◌, arith, append_assoc}
+use Rattle.std.proofs.Common.{◌≡◌, ◌≢◌, ◌≤◌, ℕ, inl, inr, ◌⊎◌, Option, Some, None, List, [], ◌∷◌, ◌++◌, refl, sym, ap, subst, ◌∙◌, arith}
+use Rattle.std.proofs.Common.{append_assoc}
 use Rattle.tect_ids.specs.declared.ids.OpId.{OpId}
 use Rattle.tect_ids.specs.declared.answer.Answer.{Answer}
 use Rattle.tect_ids.specs.declared.command.Command.{Command}
@@ -12,11 +13,11 @@ use Rattle.world_runs.specs.declared.event.Event.{Event}
 use Rattle.world_runs.specs.declared.event.Event.TheVariants.{Began, Refused, Acted, Ended, Stopped, Failed, Dumped}
 use Rattle.world_runs.specs.Moments.{WorldState, after, after_all, RunFrom, answered}
 use Rattle.world_runs.specs.Follows.{Acts, IsEndOf, IsBeginOf, EndsAfter, DoesLine, Busy, with_busy, FollowsFrom}
-use Rattle.world_runs.proofs.Histories.{run-front, run-rest}
+use Rattle.script_runs.proofs.Histories.{run-front, run-rest}
 use Rattle.world_runs.proofs.Actors.{after_all-append}
 use Rattle.world_runs.specs.Standing.{busy_at}
 use Rattle.world_runs.specs.Smooth.{EndIsNext, EndsAtOnce, StepsOn, AllStepOn, IsNoStep, NoneSteps}
-use Rattle.world_runs.proofs.Running.{AllWell, run_well}
+use Rattle.script_runs.proofs.Running.{AllWell, run_well}
 use Rattle.world_runs.proofs.Actors.{changed}
 use Rattle.script_runs.proofs.Moves.{Keeps, end_moves}
 use Rattle.script_runs.proofs.Lines.{busy_is, IsDone, keeps_done, line_does, busy_after}
@@ -83,7 +84,8 @@ record IsEnd (o : OpId) (e : Event) (rest part later : List Event) : Type 0 wher
   end : IsEndOf o e
   alone : rest ≡ later
 
-end_alone : (op o : OpId) (n : ℕ) (e : Event) (rest part later front : List Event) (last : Event) → IsEndOf op e → e ∷ rest ≡ part ++ later → part ≡ front ++ last ∷ [] → Acts o n front → IsEndOf o last
+end_alone : (op o : OpId) (n : ℕ) (e : Event) (rest part later front : List Event) (last : Event) → IsEndOf op e → e ∷ rest ≡ part ++ later
+    → part ≡ front ++ last ∷ [] → Acts o n front → IsEndOf o last
     → IsEnd o e rest part later
 end_alone op o n e rest part later [] last end parts is acts lasts =
     let whole : e ∷ rest ≡ last ∷ later = parts ∙ ap (λ l. l ++ later) is in
@@ -95,17 +97,20 @@ end_alone op o n e rest part later (d ∷ ds) last end parts is acts lasts =
     let same : e ≡ d = cc in
     absurd (end_no_act op o n d ds (subst (λ (z : Event). IsEndOf op z) same end) acts)
 
-ends_alone : (op o : OpId) (n : ℕ) (e : Event) (rest part later : List Event) → IsEndOf op e → e ∷ rest ≡ part ++ later → EndsAfter o n part → IsEnd o e rest part later
+ends_alone : (op o : OpId) (n : ℕ) (e : Event) (rest part later : List Event) → IsEndOf op e → e ∷ rest ≡ part ++ later
+    → EndsAfter o n part → IsEnd o e rest part later
 ends_alone op o n e rest part later end parts ends = end_alone op o n e rest part later ends.0 ends.1 end parts ends.2 ends.3 ends.4
 
 -- where it comes first, no transaction does
-acts_none : (op o : OpId) (n : ℕ) (e : Event) (rest part later : List Event) → IsEndOf op e → e ∷ rest ≡ part ++ later → Acts o n part → part ≡ []
+acts_none : (op o : OpId) (n : ℕ) (e : Event) (rest part later : List Event) → IsEndOf op e → e ∷ rest ≡ part ++ later → Acts o n part
+    → part ≡ []
 acts_none op o n e rest [] later end parts acts = refl
 acts_none op o n e rest (d ∷ ds) later end parts acts =
     let same : e ≡ d = cc in absurd (end_no_act op o n d ds (subst (λ (z : Event). IsEndOf op z) same end) acts)
 
 -- another event does not come first then
-not_first : (op : OpId) (e d : Event) (rest part later ds : List Event) → IsEndOf op e → e ∷ rest ≡ part ++ later → part ≡ d ∷ ds → IsEndOf op d
+not_first : (op : OpId) (e d : Event) (rest part later ds : List Event) → IsEndOf op e → e ∷ rest ≡ part ++ later → part ≡ d ∷ ds
+    → IsEndOf op d
 not_first op e d rest part later ds end parts is =
     let whole : e ∷ rest ≡ d ∷ (ds ++ later) = parts ∙ ap (λ l. l ++ later) is in
     let same : e ≡ d = cc in
@@ -120,7 +125,8 @@ module _ (n : WorldState) (s : AllWell n) (a : ℕ) (op : OpId) (is : busy_at n 
     idle : next ≡ None
     does : DoesLine a None act [] None
 
-  own_over : (act : Act) (part later rest : List Event) (next : Option OpId) → StepsOn (lines.Client [] a act) → e ∷ rest ≡ part ++ later → DoesLine a (Some op) act part next → IsOver act next rest later
+  own_over : (act : Act) (part later rest : List Event) (next : Option OpId) → StepsOn (lines.Client [] a act) → e ∷ rest ≡ part ++ later
+      → DoesLine a (Some op) act part next → IsOver act next rest later
   own_over (acts.Do c) part later rest next some parts does = absurd does
   own_over (acts.Begin c) part later rest next some parts does = absurd does
   own_over (acts.Step k) part later rest next some parts (inl d) =
@@ -138,7 +144,8 @@ module _ (n : WorldState) (s : AllWell n) (a : ℕ) (op : OpId) (is : busy_at n 
       apart (sym own ∙ ap (λ (z : OpId). z.actor) same ∙ (busy_is n s a op is).own)
 
   -- another actor's line does nothing then
-  other_none : (c : ℕ) (busy : Option OpId) (act : Act) (part later rest : List Event) (next : Option OpId) → c ≢ a → ((o : OpId) → busy ≡ Some o → o.actor ≡ c) → e ∷ rest ≡ part ++ later
+  other_none : (c : ℕ) (busy : Option OpId) (act : Act) (part later rest : List Event) (next : Option OpId) → c ≢ a
+      → ((o : OpId) → busy ≡ Some o → o.actor ≡ c) → e ∷ rest ≡ part ++ later
       → DoesLine c busy act part next → part ≡ []
   other_none c None (acts.Do x) part later rest next apart own parts d = absurd (end_no_begin op (d.0).0 x (d.0).1 (not_first op e (d.0).1 rest part later (d.0).2 end parts (d.0).4) (d.0).5)
   other_none c None (acts.Begin x) part later rest next apart own parts d = absurd (end_no_begin op d.0 x d.1 (not_first op e d.1 rest part later [] end parts d.3) d.4)
@@ -156,8 +163,10 @@ module _ (n : WorldState) (s : AllWell n) (a : ℕ) (op : OpId) (is : busy_at n 
   abbrev WithoutEnd : List Line → Type 0
   WithoutEnd ls = (rest : List Event) → FollowsFrom (busy_at n) ls (e ∷ rest) → FollowsFrom (with_busy (busy_at n) a None) ls rest
 
-  own_without : (client : List ℕ) (act : Act) (ls : List Line) (part later rest : List Event) (next : Option OpId) → StepsOn (lines.Client client a act) → e ∷ rest ≡ part ++ later
-      → DoesLine a (busy_at n a) act part next → FollowsFrom (with_busy (busy_at n) a next) ls later → FollowsFrom (with_busy (busy_at n) a None) (lines.Client client a act ∷ ls) rest
+  own_without : (client : List ℕ) (act : Act) (ls : List Line) (part later rest : List Event) (next : Option OpId)
+      → StepsOn (lines.Client client a act) → e ∷ rest ≡ part ++ later
+      → DoesLine a (busy_at n a) act part next → FollowsFrom (with_busy (busy_at n) a next) ls later
+      → FollowsFrom (with_busy (busy_at n) a None) (lines.Client client a act ∷ ls) rest
   own_without client act ls part later rest next some parts does more =
       let over : IsOver act next rest later = own_over act part later rest next some parts (rw is at does) in
       let idle : with_busy (busy_at n) a None a ≡ None = changed (λ o. o ≡ None) (busy_at n) a None a (λ z. refl) (λ z. absurd (z refl)) in
@@ -171,14 +180,17 @@ module _ (n : WorldState) (s : AllWell n) (a : ℕ) (op : OpId) (is : busy_at n 
         subst (λ (b : Busy). FollowsFrom b ls rest) (sym (twice (busy_at n) a None None)) lines_on,
       )
 
-  own_so : (c : ℕ) (act : Act) (ls : List Line) (client : List ℕ) → c ≡ a → StepsOn (lines.Client client c act) → (rest : List Event) → FollowsFrom (busy_at n) (lines.Client client c act ∷ ls) (e ∷ rest)
+  own_so : (c : ℕ) (act : Act) (ls : List Line) (client : List ℕ) → c ≡ a → StepsOn (lines.Client client c act) → (rest : List Event)
+      → FollowsFrom (busy_at n) (lines.Client client c act ∷ ls) (e ∷ rest)
       → FollowsFrom (with_busy (busy_at n) a None) (lines.Client client c act ∷ ls) rest
   own_so c act ls client same some rest f =
       subst (λ (z : ℕ). StepsOn (lines.Client client z act) → FollowsFrom (busy_at n) (lines.Client client z act ∷ ls) (e ∷ rest) → FollowsFrom (with_busy (busy_at n) a None) (lines.Client client z act ∷ ls) rest) (sym same)
       (λ some_here f_here. own_without client act ls f_here.0 f_here.1 rest f_here.2 some_here f_here.3 f_here.4 f_here.5) some f
 
-  other_without : (client : List ℕ) (c : ℕ) (act : Act) (ls : List Line) (part later rest : List Event) (next : Option OpId) → c ≢ a → WithoutEnd ls → e ∷ rest ≡ part ++ later
-      → DoesLine c (busy_at n c) act part next → FollowsFrom (with_busy (busy_at n) c next) ls later → FollowsFrom (with_busy (busy_at n) a None) (lines.Client client c act ∷ ls) rest
+  other_without : (client : List ℕ) (c : ℕ) (act : Act) (ls : List Line) (part later rest : List Event) (next : Option OpId) → c ≢ a
+      → WithoutEnd ls → e ∷ rest ≡ part ++ later
+      → DoesLine c (busy_at n c) act part next → FollowsFrom (with_busy (busy_at n) c next) ls later
+      → FollowsFrom (with_busy (busy_at n) a None) (lines.Client client c act ∷ ls) rest
   other_without client c act ls part later rest next apart others parts does more =
       let none : part ≡ [] = other_none c (busy_at n c) act part later rest next apart (λ o at. (busy_is n s c o at).own) parts does in
       let idle : DoesLine c (busy_at n c) act [] next = subst (λ (l : List Event). DoesLine c (busy_at n c) act l next) none does in
@@ -253,7 +265,8 @@ some_acts op n (Failed o a) es acts = absurd acts
 some_acts op n Dumped es acts = absurd acts
 
 -- after which the op has its answer
-end_follows_acts : (m : WorldState) (op : OpId) (n : ℕ) (es rest : List Event) (a : Answer) → 1 ≤ n → Acts op n es → EndsAtOnce m (es ++ rest) → answered (after_all m es) op ≡ Some a → EndIsNext op rest
+end_follows_acts : (m : WorldState) (op : OpId) (n : ℕ) (es rest : List Event) (a : Answer) → 1 ≤ n → Acts op n es
+    → EndsAtOnce m (es ++ rest) → answered (after_all m es) op ≡ Some a → EndIsNext op rest
 end_follows_acts m op n [] rest a some acts all says = absurd (omega (arith, some, acts))
 end_follows_acts m op n (Acted o q x ∷ []) rest a some acts all says =
     subst (λ (z : OpId). EndIsNext z rest) acts.0 (all.0 a (subst (λ (z : OpId). answered (after m (Acted o q x)) z ≡ Some a) (sym acts.0) says))
@@ -267,7 +280,8 @@ end_follows_acts m op n (Failed o b ∷ es) rest a some acts all says = absurd a
 end_follows_acts m op n (Dumped ∷ es) rest a some acts all says = absurd acts
 
 -- what a step that leaves its op running did
-step_acts : (a : ℕ) (busy : Option OpId) (k : ℕ) (part : List Event) (op : OpId) → DoesLine a busy (acts.Step k) part (Some op) → (busy ≡ Some op) × Acts op k part
+step_acts : (a : ℕ) (busy : Option OpId) (k : ℕ) (part : List Event) (op : OpId) → DoesLine a busy (acts.Step k) part (Some op)
+    → (busy ≡ Some op) × Acts op k part
 step_acts a None k part op d = absurd (let z : Some op ≡ None = d.1 in cc)
 step_acts a (Some o) k part op (inl d) =
     let z : Some op ≡ Some o = d.1 in
@@ -281,8 +295,10 @@ CanSettle ls = (m : WorldState) (es : List Event) → AllWell m → RunFrom m es
 
 module _ (client : List ℕ) (ls : List Line) (some : AllStepOn ls) (others : CanSettle ls) (m : WorldState) (s : AllWell m) (a k : ℕ) (steps : 1 ≤ k) where
   -- the end that comes next is the step's
-  takes_end : (part rest : List Event) (op : OpId) (x : Answer) → RunFrom m (part ++ rest) → EndsAtOnce m (part ++ rest) → DoesLine a (busy_at m a) (acts.Step k) part (Some op)
-      → FollowsFrom (busy_at (after_all m part)) ls rest → busy_at (after_all m part) a ≡ Some op → EndIsNext op rest → Settles m (lines.Client client a (acts.Step k) ∷ ls) (part ++ rest)
+  takes_end : (part rest : List Event) (op : OpId) (x : Answer) → RunFrom m (part ++ rest) → EndsAtOnce m (part ++ rest)
+      → DoesLine a (busy_at m a) (acts.Step k) part (Some op)
+      → FollowsFrom (busy_at (after_all m part)) ls rest → busy_at (after_all m part) a ≡ Some op → EndIsNext op rest
+      → Settles m (lines.Client client a (acts.Step k) ∷ ls) (part ++ rest)
   takes_end part [] op x run all does more busy next = absurd next
   takes_end part (e ∷ rest) op x run all does more busy next =
       let did : (busy_at m a ≡ Some op) × Acts op k part = step_acts a (busy_at m a) k part op does in
@@ -303,7 +319,8 @@ module _ (client : List ℕ) (ls : List Line) (some : AllStepOn ls) (others : Ca
       others (after_all m whole) rest (run_well whole m s (run-front m whole rest runs)) (run-rest m whole rest runs) (at_once-rest m whole rest at_once) on in
       (whole, rest, None, parts, subst (λ (o : Option OpId). DoesLine a o (acts.Step k) whole None) (sym did.0) (inr (k, omega arith, (part, e, refl, did.1, next), refl)), tt, settled)
 
-  leaves_end : (part rest : List Event) (op : OpId) (x : Answer) → RunFrom m (part ++ rest) → EndsAtOnce m (part ++ rest) → DoesLine a (busy_at m a) (acts.Step k) part (Some op)
+  leaves_end : (part rest : List Event) (op : OpId) (x : Answer) → RunFrom m (part ++ rest) → EndsAtOnce m (part ++ rest)
+      → DoesLine a (busy_at m a) (acts.Step k) part (Some op)
       → answered (after_all m part) op ≡ Some x → FollowsFrom (busy_at (after_all m part)) ls rest → busy_at (after_all m part) a ≡ Some op
       → Settles m (lines.Client client a (acts.Step k) ∷ ls) (part ++ rest)
   leaves_end part rest op x run all does says more busy =
@@ -311,7 +328,8 @@ module _ (client : List ℕ) (ls : List Line) (some : AllStepOn ls) (others : Ca
 
 -- a line
 module _ (client : List ℕ) (a : ℕ) (act : Act) (ls : List Line) (some : AllStepOn (lines.Client client a act ∷ ls)) (others : CanSettle ls) (m : WorldState) (s : AllWell m) where
-  line_settles : (part rest : List Event) (next : Option OpId) → RunFrom m (part ++ rest) → EndsAtOnce m (part ++ rest) → DoesLine a (busy_at m a) act part next
+  line_settles : (part rest : List Event) (next : Option OpId) → RunFrom m (part ++ rest) → EndsAtOnce m (part ++ rest)
+      → DoesLine a (busy_at m a) act part next
       → FollowsFrom (with_busy (busy_at m) a next) ls rest → Settles m (lines.Client client a act ∷ ls) (part ++ rest)
   line_settles part rest next run all does more =
       let mine : RunFrom m part = run-front m part rest run in
@@ -343,14 +361,16 @@ follows_settled (lines.Lose disk ∷ ls) some m es s run all f = absurd f
 
 -- ---- a script without steps
 
-settled_aside : (n : WorldState) (client : List ℕ) (a : ℕ) (act : Act) (next : Option OpId) → IsNoStep (lines.Client client a act) → IsSettled n act next
+settled_aside : (n : WorldState) (client : List ℕ) (a : ℕ) (act : Act) (next : Option OpId) → IsNoStep (lines.Client client a act)
+    → IsSettled n act next
 settled_aside n client a (acts.Step k) next aside = absurd aside
 settled_aside n client a (acts.Do c) next aside = tt
 settled_aside n client a (acts.Begin c) next aside = tt
 settled_aside n client a acts.Run next aside = tt
 settled_aside n client a acts.Stop next aside = tt
 
-pub settled_without_steps : (ls : List Line) → NoneSteps ls → (m : WorldState) (es : List Event) → AllWell m → RunFrom m es → FollowsFrom (busy_at m) ls es → Settles m ls es
+pub settled_without_steps : (ls : List Line) → NoneSteps ls → (m : WorldState) (es : List Event) → AllWell m → RunFrom m es
+    → FollowsFrom (busy_at m) ls es → Settles m ls es
 settled_without_steps [] aside m es s run f = f
 settled_without_steps (lines.Client client a act ∷ ls) aside m es s run f =
     let part : List Event = f.0 in

@@ -34,7 +34,8 @@ abbrev pub EachScriptCanBeRunOut : Type 0
 EachScriptCanBeRunOut =
     (full : List Event → ℕ → Bool) (counts : Counts) (front back : List Line) (history : List Event) → InTurn (front ++ back)
     → length (front ++ back) < 2 ^ 31 → IsWorldRun counts history → Follows front history
-    → (more : List Event) × IsWorldRun counts (history ++ more) × Follows (front ++ back) (history ++ more) × EndsAtOnce (moment counts history) more
+    → (more : List Event) × IsWorldRun counts (history ++ more) × Follows (front ++ back) (history ++ more)
+    × EndsAtOnce (moment counts history) more
     × RefusesAsFull full history more
 
 -- The same of a run that stopped within a line: some further events, which need not be such as may happen, would have it
@@ -42,18 +43,22 @@ EachScriptCanBeRunOut =
 abbrev pub EachCutLineCanBeRunOut : Type 0
 EachCutLineCanBeRunOut =
     (full : List Event → ℕ → Bool) (counts : Counts) (front back : List Line) (history rest : List Event) → InTurn (front ++ back)
-    → length (front ++ back) < 2 ^ 31 → IsWorldRun counts history → Follows front (history ++ rest) → EndsAtOnce (opening counts) (history ++ rest)
-    → (more : List Event) × IsWorldRun counts (history ++ more) × Follows (front ++ back) (history ++ more) × EndsAtOnce (opening counts) (history ++ more)
+    → length (front ++ back) < 2 ^ 31 → IsWorldRun counts history → Follows front (history ++ rest)
+    → EndsAtOnce (opening counts) (history ++ rest)
+    → (more : List Event) × IsWorldRun counts (history ++ more) × Follows (front ++ back) (history ++ more)
+    × EndsAtOnce (opening counts) (history ++ more)
     × RefusesAsFull full history more
 
 -- the script fixes its smooth run
 abbrev pub ScriptFixesRun : Type 0
 ScriptFixesRun =
-    (counts : Counts) (lines : List Line) (one other : List Event) → AllStepOn lines → IsSmoothRun counts one → IsSmoothRun counts other → Follows lines one
+    (counts : Counts) (lines : List Line) (one other : List Event) → AllStepOn lines → IsSmoothRun counts one → IsSmoothRun counts other
+    → Follows lines one
     → Follows lines other → one ≡ other
 
 -- and, where it has no steps, its one run in which no command fails or is refused
 abbrev pub ScriptWithoutStepsFixesRun : Type 0
 ScriptWithoutStepsFixesRun =
-    (counts : Counts) (lines : List Line) (one other : List Event) → NoneSteps lines → IsWorldRun counts one → IsWorldRun counts other → NoneFails one → NoneFails other
+    (counts : Counts) (lines : List Line) (one other : List Event) → NoneSteps lines → IsWorldRun counts one → IsWorldRun counts other
+    → NoneFails one → NoneFails other
     → Follows lines one → Follows lines other → one ≡ other

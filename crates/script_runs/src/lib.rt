@@ -3,14 +3,8 @@
 //! keeps. Nothing here is called: each function's contract is a law.
 #![tactic(auto)]
 
-ghost use Rattle.script_runs.specs.Laws.{
-  RunFollowsOn,
-  StandsByTurn,
-  EachScriptCanBeRunOut,
-  EachCutLineCanBeRunOut,
-  ScriptFixesRun,
-  ScriptWithoutStepsFixesRun,
-};
+ghost use Rattle.script_runs.specs.Laws.{RunFollowsOn, StandsByTurn, EachScriptCanBeRunOut, EachCutLineCanBeRunOut, ScriptFixesRun};
+ghost use Rattle.script_runs.specs.Laws.{ScriptWithoutStepsFixesRun};
 
 /// Where a run of the world follows some lines, and what comes after follows further lines from the ops that are then busy,
 /// the whole follows all lines.

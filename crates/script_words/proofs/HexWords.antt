@@ -1,6 +1,35 @@
 -- Bytes and their words in hexadecimal.
-use Rattle.std.proofs.Common.{◌≡◌, ℕ, ◌+◌, ◌*◌, ◌/◌, ◌%◌, ◌-◌, ◌<◌, ◌≤◌, Bool, true, false, ◌&&◌, ◌||◌, nat_le, nat_lt, List, [], ◌∷◌,
-    length, refl, sym, ap, ◌∙◌, arith, rules, tests, inl, inr}
+use Rattle.std.proofs.Common.{
+  ◌≡◌,
+  ℕ,
+  ◌+◌,
+  ◌*◌,
+  ◌/◌,
+  ◌%◌,
+  ◌-◌,
+  ◌<◌,
+  ◌≤◌,
+  Bool,
+  true,
+  false,
+  ◌&&◌,
+  ◌||◌,
+  nat_le,
+  nat_lt,
+  List,
+  [],
+  ◌∷◌,
+  length,
+  refl,
+  sym,
+  ap,
+  ◌∙◌,
+  arith,
+  rules,
+  tests,
+  inl,
+  inr,
+}
 use Rattle.std.specs.List.{AllByRecursion}
 use Rattle.script_words.specs.WordText.{hex_digit, hex_text}
 use Rattle.script_words.specs.WordForm.{is_hex_digit, hex_value, are_hex_pairs, hex_bytes}
@@ -51,9 +80,11 @@ bytes_of_text (byte ∷ bytes) small =
     let h : byte / 16 < 16 = omega arith in
     let l : byte % 16 < 16 = omega arith in
     let back : byte / 16 * 16 + byte % 16 ≡ byte = omega arith in
-    let rest = bytes_of_text bytes small.1 in
-    (rw (digit_is (byte / 16) h, digit_is (byte % 16) l, rest.0) refl, rw (value_back (byte / 16) h, value_back (byte % 16) l, back, rest.1)
-        refl)
+    let rest = bytes_of_text bytes small.1 in (
+      rw (digit_is (byte / 16) h, digit_is (byte % 16) l, rest.0) refl,
+      rw (value_back (byte / 16) h, value_back (byte % 16) l, back, rest.1)
+          refl,
+    )
 
 pub length-hex_text : (bytes : List ℕ) → length (hex_text bytes) ≡ 2 * length bytes
 length-hex_text [] = refl

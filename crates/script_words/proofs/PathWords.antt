@@ -18,7 +18,7 @@ path_of_parts : (bytes : List ℕ) (names : List (List ℕ)) (name : List ℕ) (
     ∷ others → path_text names ≡ 47 ∷ bytes
 path_of_parts bytes names name others is some =
     rw some (names_join name others ∙ ap (λ (bs : List ℕ). 47 ∷ bs)
-        (ap (λ (ps : List (List ℕ)). join_with_byte 47 ps) (sym (is ∙ some)) ∙ join_with_byte-slice_split 47 bytes))
+    (ap (λ (ps : List (List ℕ)). join_with_byte 47 ps) (sym (is ∙ some)) ∙ join_with_byte-slice_split 47 bytes))
 
 -- a word of the form is the text of its names
 pub path_spelled : (word : List ℕ) → is_path_form word ≡ true → path_text (path_names word) ≡ word
@@ -27,7 +27,7 @@ path_spelled (slash ∷ []) is = ap (λ (b : ℕ). b ∷ []) (sym (eqb-true slas
 path_spelled (slash ∷ byte ∷ bytes) is =
     let some = parts_some 47 (byte ∷ bytes) in
     path_of_parts (byte ∷ bytes) (parts 47 (byte ∷ bytes)) some.0 some.1 refl some.2 ∙ ap (λ (b : ℕ). b ∷ byte ∷ bytes)
-        (sym (eqb-true slash 47 (both _ _ is).0))
+    (sym (eqb-true slash 47 (both _ _ is).0))
 
 pub path_names_are : (word : List ℕ) → is_path_form word ≡ true → are_name_forms (path_names word) ≡ true
 path_names_are [] is = refl
@@ -46,7 +46,7 @@ names_parts name [] is = rw (append-nil name) (parts_one 47 is_name_byte no_slas
 names_parts name (next ∷ names) is =
     let p = both (is_name_form name) (are_name_forms (next ∷ names)) is in
     parts_first 47 is_name_byte no_slash refl name (next ++ names_text names) (both _ _ p.0).1 ∙ ap (λ (ps : List (List ℕ)). name ∷ ps)
-        (names_parts next names p.1)
+    (names_parts next names p.1)
 
 -- the names that a path's text has
 pub names_of_text : (names : List (List ℕ)) → are_name_forms names ≡ true → path_names (path_text names) ≡ names

@@ -1,5 +1,6 @@
 -- each running command can go on to its end, at whatever moment of a run
-use Rattle.std.proofs.Common.{◌≡◌, ◌≤◌, ◌+◌, ℕ, zero, suc, ◌⊎◌, inl, inr, true, false, ◌||◌, is_some, Option, Some, None, List, [], ◌∷◌, ◌++◌, refl, sym, subst, ◌∙◌, arith, take}
+use Rattle.std.proofs.Common.{◌≡◌, ◌≤◌, ◌+◌, ℕ, zero, suc, ◌⊎◌, inl, inr, true, false, ◌||◌, is_some, Option, Some, None, List, [], ◌∷◌}
+use Rattle.std.proofs.Common.{◌++◌, refl, sym, subst, ◌∙◌, arith, take}
 use Rattle.tect_ids.specs.declared.ids.OpId.{OpId}
 use Rattle.tect_ids.specs.declared.answer.Answer.{Answer}
 use Rattle.store_rules.specs.declared.any.AnyReq.{AnyReq}
@@ -10,8 +11,8 @@ use Rattle.world_runs.specs.declared.event.Event.TheVariants.{Began, Refused, Ac
 use Rattle.world_runs.specs.Moments.{WorldState, RunFrom, after, running, asked, answered}
 use Rattle.world_runs.specs.Follows.{Acts, EndsAfter, NoneFails}
 use Rattle.world_runs.specs.Report.{is_act_of}
-use Rattle.world_runs.proofs.Running.{AllWell, RunsAs, event_well, running_does, running_is_of}
-use Rattle.world_runs.proofs.Histories.{acts_none_fail, none_fails-append}
+use Rattle.script_runs.proofs.Running.{AllWell, RunsAs, event_well, running_does, running_is_of}
+use Rattle.script_runs.proofs.Histories.{acts_none_fail, none_fails-append}
 use Rattle.run_claims.specs.Bounds.{is_look_of, is_other_of}
 use Rattle.run_claims.proofs.PhasesLeft.{looks_left, others_left, one_if}
 use Rattle.run_claims.proofs.Steps.{Runs, GoesOn, own_acts, same_op}
@@ -22,7 +23,8 @@ abbrev pub left : Program → ℕ
 left p = looks_left p.command p.phase + others_left p.phase
 
 -- a transaction leaves one less
-falls : (m : WorldState) (op : OpId) (q : AnyReq) (p : Program) (g : GoesOn m (Acted op q (store_reply m.store q)) op p) → left g.next + 1 ≤ left p
+falls : (m : WorldState) (op : OpId) (q : AnyReq) (p : Program) (g : GoesOn m (Acted op q (store_reply m.store q)) op p)
+    → left g.next + 1 ≤ left p
 falls m op q p g =
     let e : Event = Acted op q (store_reply m.store q) in
     let one : 1 ≡ one_if (is_look_of op e) + one_if (is_other_of op e) = let own : one_if (is_act_of op e) ≡ 1 = rw (same_op op op refl) refl in sym own ∙ event_splits e op in
@@ -47,7 +49,8 @@ pub record CanEnd (m : WorldState) (op : OpId) : Type 0 where
 end_now : (m : WorldState) (op : OpId) (a : Answer) → answered m op ≡ Some a → CanEnd m op
 end_now m op a is = record { front = []; count = 0; answer = a; acts = refl; run = (is, tt) }
 
-act_then : (m : WorldState) (op : OpId) (q : AnyReq) → asked m op ≡ Some q → CanEnd (after m (Acted op q (store_reply m.store q))) op → CanEnd m op
+act_then : (m : WorldState) (op : OpId) (q : AnyReq) → asked m op ≡ Some q → CanEnd (after m (Acted op q (store_reply m.store q))) op
+    → CanEnd m op
 act_then m op q asks e = record {
   front = Acted op q (store_reply m.store q) ∷ e.front;
   count = e.count + 1;
@@ -57,17 +60,20 @@ act_then m op q asks e = record {
 }
 
 -- the op's own transaction
-goes_on : (m : WorldState) → AllWell m → (op : OpId) (p : Program) → running m op ≡ Some p → (q : AnyReq) → asked m op ≡ Some q → GoesOn m (Acted op q (store_reply m.store q)) op p
+goes_on : (m : WorldState) → AllWell m → (op : OpId) (p : Program) → running m op ≡ Some p → (q : AnyReq) → asked m op ≡ Some q
+    → GoesOn m (Acted op q (store_reply m.store q)) op p
 goes_on m s op p is q asks = own_acts m op q (store_reply m.store q) (asks, refl) p (runs_old m s op p is)
 
 -- it asks, or has its answer
-asks_or_says : (o : Option AnyReq) (x : Option Answer) → (is_some o || is_some x) ≡ true → ((q : AnyReq) × (o ≡ Some q)) ⊎ ((a : Answer) × (x ≡ Some a))
+asks_or_says : (o : Option AnyReq) (x : Option Answer) → (is_some o || is_some x) ≡ true
+    → ((q : AnyReq) × (o ≡ Some q)) ⊎ ((a : Answer) × (x ≡ Some a))
 asks_or_says (Some q) x does = inl (q, refl)
 asks_or_says None (Some a) does = inr (a, refl)
 asks_or_says None None does = absurd (let k : false ≡ true = does in cc)
 
 -- with so many transactions left, or fewer
-pub ends_within : (bound : ℕ) (m : WorldState) → AllWell m → (op : OpId) (p : Program) → running m op ≡ Some p → left p ≤ bound → CanEnd m op
+pub ends_within : (bound : ℕ) (m : WorldState) → AllWell m → (op : OpId) (p : Program) → running m op ≡ Some p → left p ≤ bound
+    → CanEnd m op
 ends_within zero m s op p is few =
     elim (asks_or_says (asked m op) (answered m op) (running_does m s op p is)) [
       | inl ask ↦ absurd (omega (arith, falls m op ask.0 p (goes_on m s op p is ask.0 ask.1), few))

@@ -1,5 +1,6 @@
 -- a running command of one actor that goes on to its end, as the tree plays it
-use Rattle.std.proofs.Common.{◌≡◌, ◌+◌, ℕ, eqb, Bool, true, is_some, if◌then◌else◌, Option, Some, None, List, [], ◌∷◌, ◌++◌, refl, sym, ap, subst, ◌∙◌, arith}
+use Rattle.std.proofs.Common.{◌≡◌, ◌+◌, ℕ, eqb, Bool, true, is_some, if◌then◌else◌, Option, Some, None, List, [], ◌∷◌, ◌++◌, refl, sym, ap}
+use Rattle.std.proofs.Common.{subst, ◌∙◌, arith}
 use Rattle.std.specs.Option.{option_map}
 use Rattle.std.specs.FinMap.{get}
 use Rattle.tect_ids.specs.declared.ids.DirId.{DirId}
@@ -38,12 +39,13 @@ use Rattle.tree_model.specs.Tree.{Tree, tree_reply, tree_next}
 use Rattle.program_rules.specs.declared.program.Phase.{Phase}
 use Rattle.program_rules.specs.declared.program.Phase.TheVariants.{Walk, Bind, Release, End}
 use Rattle.program_rules.specs.declared.program.Program.{Program}
-use Rattle.program_rules.specs.Programs.{object_number, own_hold, phase_ask, phase_hear, phase_answer, release_ask, then_release, bound_heard, looked, refusal}
+use Rattle.program_rules.specs.Programs.{object_number, own_hold, phase_ask, phase_hear, phase_answer, release_ask, then_release}
+use Rattle.program_rules.specs.Programs.{bound_heard, looked, refusal}
 use Rattle.world_runs.specs.declared.event.Event.{Event}
 use Rattle.world_runs.specs.declared.event.Event.TheVariants.{Began, Refused as declined, Acted, Ended, Stopped, Failed, Dumped}
 use Rattle.world_runs.specs.Moments.{WorldState, May, after, after_all, RunFrom, running, asked, answered, next_serial}
-use Rattle.world_runs.specs.TreeSteps.{told_of, told_as, tree_steps, tree_step, says, tree_after, IsTreeRun}
-use Rattle.world_runs.specs.Points.{refused_answer, done_answer}
+use Rattle.claim_words.specs.TreeSteps.{told_of, told_as, tree_steps, tree_step, says, tree_after, IsTreeRun}
+use Rattle.claim_words.specs.Points.{refused_answer, done_answer}
 use Rattle.world_runs.specs.Follows.{Acts}
 use Rattle.tree_runs.specs.View.{AllMade, shown_entry}
 use Rattle.session_runs.specs.Session.{Played, stepped, found_answer, releases}
@@ -55,7 +57,7 @@ use Rattle.tree_runs.proofs.Replies.{RefusesSo, why_of, look_some, look_none, bi
 use Rattle.tree_runs.proofs.Runs.{event_tracked, tree_after-append}
 
 -- the command runs as that op, at that phase, and the store shows that tree
-pub record Stands (m : WorldState) (t : Tree) (op : OpId) (c : Command) (own : ℕ) (at : Phase) : Type 0 where
+pub record StandsAt (m : WorldState) (t : Tree) (op : OpId) (c : Command) (own : ℕ) (at : Phase) : Type 0 where
   pub tracks : Tracks m t
   pub runs : (m.actors op.actor).running ≡ Some record { op = op; command = c; phase = at }
   pub serial : (m.actors op.actor).serial ≡ own
@@ -75,7 +77,7 @@ Goes m t op p left = (front : List Event) (n : ℕ) (a : Answer) → Acts op n f
 abbrev program_at : OpId → Command → Phase → Program
 program_at op c at = record { op = op; command = c; phase = at }
 
-module _ (m : WorldState) (t : Tree) (op : OpId) (c : Command) (own : ℕ) (at : Phase) (st : Stands m t op c own at) where
+module _ (m : WorldState) (t : Tree) (op : OpId) (c : Command) (own : ℕ) (at : Phase) (st : StandsAt m t op c own at) where
   -- the number of the next object that its actor makes
   abbrev number_now : ℕ
   number_now = object_number op.actor own
@@ -110,7 +112,8 @@ module _ (m : WorldState) (t : Tree) (op : OpId) (c : Command) (own : ℕ) (at :
     pub may_now : May m did
     may_now = (asked_now ∙ asks, refl)
 
-    pub next_stands : Stands (after m did) (tree_after t (told_of did)) op c (next_serial own x) (phase_hear (request_place m.counts q) op number_now c at x)
+    pub next_stands : StandsAt (after m did) (tree_after t (told_of did)) op c (next_serial own x)
+        (phase_hear (request_place m.counts q) op number_now c at x)
     next_stands = record {
       tracks = (event_tracked m t did st.tracks may_now).0;
       runs = rw (same_actor, st.runs, st.serial) refl;
@@ -121,7 +124,8 @@ module _ (m : WorldState) (t : Tree) (op : OpId) (c : Command) (own : ℕ) (at :
     step_said s is = let run : IsTreeRun t (told_as op (tree_step q x) (says x)) = (event_tracked m t did st.tracks may_now).1 in (rw is at run).0
 
     -- one transaction, and then the others
-    step_here : (p : Played) (left n rest : ℕ) (a : Answer) (es : List Event) → n ≡ rest + 1 → Comes (after m did) (tree_after t (told_of did)) op es rest a p left → Comes m t op (did ∷ es) n a p (left + 1)
+    step_here : (p : Played) (left n rest : ℕ) (a : Answer) (es : List Event) → n ≡ rest + 1
+        → Comes (after m did) (tree_after t (told_of did)) op es rest a p left → Comes m t op (did ∷ es) n a p (left + 1)
     step_here p left n rest a es is r = record {
       count = omega (arith, r.count);
       answer = r.answer;
@@ -129,7 +133,8 @@ module _ (m : WorldState) (t : Tree) (op : OpId) (c : Command) (own : ℕ) (at :
       serial = r.serial;
     }
 
-    pub step_goes : (p : Played) (left : ℕ) → phase_answer at ≡ None → Goes (after m did) (tree_after t (told_of did)) op p left → Goes m t op p (left + 1)
+    pub step_goes : (p : Played) (left : ℕ) → phase_answer at ≡ None → Goes (after m did) (tree_after t (told_of did)) op p left
+        → Goes m t op p (left + 1)
     step_goes p left no_end more [] n a acts run = absurd (let k : Some a ≡ None = sym run.0 ∙ answered_now ∙ no_end in cc)
     step_goes p left no_end more (Acted o q2 x2 ∷ es) n a acts run =
         let os : o ≡ op = acts.0 in
@@ -148,12 +153,14 @@ module _ (m : WorldState) (t : Tree) (op : OpId) (c : Command) (own : ℕ) (at :
     step_goes p left no_end more (Dumped ∷ es) n a acts run = absurd acts
 
 -- what stands so, in other words
-pub stands_as : (m : WorldState) (t u : Tree) (op : OpId) (c : Command) (own new : ℕ) (at to : Phase) → Stands m t op c own at → t ≡ u → own ≡ new → at ≡ to → Stands m u op c new to
+pub stands_as : (m : WorldState) (t u : Tree) (op : OpId) (c : Command) (own new : ℕ) (at to : Phase) → StandsAt m t op c own at → t ≡ u
+    → own ≡ new → at ≡ to → StandsAt m u op c new to
 stands_as m t u op c own new at to st tree serial phase =
-    subst (λ (v : Tree). Stands m v op c new to) tree (subst (λ (i : ℕ). Stands m t op c i to) serial (subst (λ (z : Phase). Stands m t op c own z) phase st))
+    subst (λ (v : Tree). StandsAt m v op c new to) tree (subst (λ (i : ℕ). StandsAt m t op c i to) serial (subst (λ (z : Phase). StandsAt m t op c own z) phase st))
 
 -- a command that has its answer
-end_goes : (m : WorldState) (t : Tree) (op : OpId) (c : Command) (own : ℕ) (b : Answer) (p : Played) → Stands m t op c own (End b) → t ≡ p.tree → own ≡ p.serial → b ≡ p.answer → Goes m t op p 0
+end_goes : (m : WorldState) (t : Tree) (op : OpId) (c : Command) (own : ℕ) (b : Answer) (p : Played) → StandsAt m t op c own (End b)
+    → t ≡ p.tree → own ≡ p.serial → b ≡ p.answer → Goes m t op p 0
 end_goes m t op c own b p st tree serial answer [] n a acts run =
     let now : Some b ≡ Some a = sym (answered_now m t op c own (End b) st) ∙ run.0 in
     let same : b ≡ a = cc in
@@ -171,10 +178,10 @@ end_goes m t op c own b p st tree serial answer (Dumped ∷ es) n a acts run = a
 
 -- a release is no step
 module _ (m : WorldState) (t : Tree) (op : OpId) (c : Command) (own : ℕ) (b : Answer) (p : Played) (tree : t ≡ p.tree) (serial : own ≡ p.serial) (answer : b ≡ p.answer) where
-  release_goes : (n : Node) (h : Hold) → Stands m t op c own (Release n h None b) → Goes m t op p 1
+  release_goes : (n : Node) (h : Hold) → StandsAt m t op c own (Release n h None b) → Goes m t op p 1
   release_goes n h st =
       let q : AnyReq = release_ask n h in
-      let next : Stands (after m (Acted op q (store_reply m.store q))) (tree_after t (told_of (Acted op q (store_reply m.store q)))) op c (next_serial own (store_reply m.store q)) (End b) =
+      let next : StandsAt (after m (Acted op q (store_reply m.store q))) (tree_after t (told_of (Acted op q (store_reply m.store q)))) op c (next_serial own (store_reply m.store q)) (End b) =
       next_stands m t op c own (Release n h None b) st q refl in
       step_goes m t op c own (Release n h None b) st q refl p 0 refl
       (end_goes _ _ op c _ b p next (no_step n h ∙ tree) (rw (release_same m.store t.made op n h).1 serial) answer)
@@ -184,7 +191,7 @@ module _ (m : WorldState) (t : Tree) (op : OpId) (c : Command) (own : ℕ) (b : 
       no_step (nodes.File f) h = refl
 
   -- the hold of a file that was replaced is released
-  then_goes : (o : Option Replaced) → Stands m t op c own (then_release o b) → Goes m t op p (if is_some o then 1 else 0)
+  then_goes : (o : Option Replaced) → StandsAt m t op c own (then_release o b) → Goes m t op p (if is_some o then 1 else 0)
   then_goes None st = end_goes m t op c own b p st tree serial answer
   then_goes (Some old) st = release_goes (nodes.File old.file) old.hold st
 
@@ -197,7 +204,8 @@ module _ (m : WorldState) (t : Tree) (op : OpId) (c : Command) (own : ℕ) where
   refused_said : (k : Key) (r : TreeReply) (why : Refusal) → r ≡ Refused why → refused_answer k why ≡ found_answer k r
   refused_said k r why e = rw e refl
 
-  pub look_goes : (d : DirId) (n : List ℕ) → c ≡ commands.Look (n ∷ []) → Stands m t op c own (Walk d []) → Goes m t op (session.looked t own (key_in d n)) 1
+  pub look_goes : (d : DirId) (n : List ℕ) → c ≡ commands.Look (n ∷ []) → StandsAt m t op c own (Walk d [])
+      → Goes m t op (session.looked t own (key_in d n)) 1
   look_goes d n is st =
       let k : Key = key_in d n in
       let q : AnyReq = any.Name (names.Look k) in
@@ -205,7 +213,7 @@ module _ (m : WorldState) (t : Tree) (op : OpId) (c : Command) (own : ℕ) where
       let x : AnyReply = store_reply m.store q in
       let said : says x ≡ tree_reply t (step.Look k) = step_said m t op c own (Walk d []) st q asks (step.Look k) refl in
       let hears : phase_hear (request_place m.counts q) op (object_number op.actor own) c (Walk d []) x ≡ looked (request_place m.counts q) k x (as_found x) = rw is refl in
-      let next : Stands (after m (Acted op q x)) t op c own (looked (request_place m.counts q) k x (as_found x)) =
+      let next : StandsAt (after m (Acted op q x)) t op c own (looked (request_place m.counts q) k x (as_found x)) =
       stands_as _ _ t op c _ own _ _ (next_stands m t op c own (Walk d []) st q asks) (unread (says x)) (rw (look_same m.store t.made op k).1 refl) hears in
       subst (λ (u : Tree). Goes (after m (Acted op q x)) u op (session.looked t own k) 0 → Goes m t op (session.looked t own k) 1) (unread (says x))
       (step_goes m t op c own (Walk d []) st q asks (session.looked t own k) 0 refl)
@@ -215,8 +223,9 @@ module _ (m : WorldState) (t : Tree) (op : OpId) (c : Command) (own : ℕ) where
       unread (Ok shows) = refl
       unread (Refused why) = refl
 
-      ends : (k : Key) (place : Place) (o : Option Node) → as_found (store_reply m.store (any.Name (names.Look k))) ≡ o → says (store_reply m.store (any.Name (names.Look k))) ≡ tree_reply t (step.Look k)
-          → Stands (after m (Acted op (any.Name (names.Look k)) (store_reply m.store (any.Name (names.Look k))))) t op c own (looked place k (store_reply m.store (any.Name (names.Look k))) o)
+      ends : (k : Key) (place : Place) (o : Option Node) → as_found (store_reply m.store (any.Name (names.Look k))) ≡ o
+          → says (store_reply m.store (any.Name (names.Look k))) ≡ tree_reply t (step.Look k)
+          → StandsAt (after m (Acted op (any.Name (names.Look k)) (store_reply m.store (any.Name (names.Look k))))) t op c own (looked place k (store_reply m.store (any.Name (names.Look k))) o)
           → Goes (after m (Acted op (any.Name (names.Look k)) (store_reply m.store (any.Name (names.Look k))))) t op (session.looked t own k) 0
       ends k place None e said next =
           let no : RefusesSo place k (store_reply m.store (any.Name (names.Look k))) = look_none m.store place k e in
@@ -245,7 +254,7 @@ not_said : (k : Key) (a : Answer) (r : TreeReply) (why : Refusal) → r ≡ Refu
 not_said k a r why e = rw e refl
 
 -- after the bind of a file
-module _ (m : WorldState) (t : Tree) (op : OpId) (c : Command) (own : ℕ) (k : Key) (f : FileId) (st : Stands m t op c own (Bind k (nodes.File f) over.File)) where
+module _ (m : WorldState) (t : Tree) (op : OpId) (c : Command) (own : ℕ) (k : Key) (f : FileId) (st : StandsAt m t op c own (Bind k (nodes.File f) over.File)) where
   -- the file as a node
   abbrev n : Node
   n = nodes.File f
@@ -286,7 +295,8 @@ module _ (m : WorldState) (t : Tree) (op : OpId) (c : Command) (own : ℕ) (k : 
       let seen : get t.entries k ≡ option_map shown_entry (get (m.store).names.entries k) = ap (λ (v : Tree). get v.entries k) (sym st.tracks.shown) ∙ get-map_values shown_entry (m.store).names.entries k in
       bind_replaces m.store (request_place m.counts q) k n (own_hold op) over.File old e ∙ sym (ap is_some seen ∙ seen_there (get (m.store).names.entries k))
 
-  bound_goes : (place : Place) (o : Option (Option Replaced)) → as_bound y ≡ o → Stands mid u op c own (bound_heard place op k n y o) → Goes mid u op p (releases (get t.entries k) (tree_reply t bind))
+  bound_goes : (place : Place) (o : Option (Option Replaced)) → as_bound y ≡ o → StandsAt mid u op c own (bound_heard place op k n y o)
+      → Goes mid u op p (releases (get t.entries k) (tree_reply t bind))
   bound_goes place None e next =
       let no : RefusesSo place k y = bind_none m.store place k n (own_hold op) over.File e in
       let said : tree_reply t bind ≡ Refused (why_of (says y)) = sym bind_said ∙ no.0 in
@@ -302,13 +312,13 @@ module _ (m : WorldState) (t : Tree) (op : OpId) (c : Command) (own : ℕ) (k : 
 
   bind_goes : Goes m t op p (releases (get t.entries k) (tree_reply t bind) + 1)
   bind_goes =
-      let next : Stands mid u op c own (bound_heard (request_place m.counts q) op k n y (as_bound y)) =
+      let next : StandsAt mid u op c own (bound_heard (request_place m.counts q) op k n y (as_bound y)) =
       stands_as mid _ u op c _ own _ _ (next_stands m t op c own (Bind k n over.File) st q refl) bind_tree (rw (bind_same m.store t.made op k n (own_hold op) over.File).1 refl) refl in
       subst (λ (v : Tree). Goes mid v op p (releases (get t.entries k) (tree_reply t bind)) → Goes m t op p (releases (get t.entries k) (tree_reply t bind) + 1)) bind_tree
       (step_goes m t op c own (Bind k n over.File) st q refl p (releases (get t.entries k) (tree_reply t bind)) refl)
       (bound_goes (request_place m.counts q) (as_bound y) refl next)
 
-module _ (m : WorldState) (t : Tree) (op : OpId) (own : ℕ) (d : DirId) (n : List ℕ) (st : Stands m t op (commands.Create (n ∷ [])) own (Walk d [])) where
+module _ (m : WorldState) (t : Tree) (op : OpId) (own : ℕ) (d : DirId) (n : List ℕ) (st : StandsAt m t op (commands.Create (n ∷ [])) own (Walk d [])) where
   -- the file that is made
   abbrev file : FileId
   file = record { 0 = object_number op.actor own }
@@ -353,7 +363,7 @@ module _ (m : WorldState) (t : Tree) (op : OpId) (own : ℕ) (d : DirId) (n : Li
       let v : Tree = stepped t make in
       let p : Played = session.created t own k file in
       let left : ℕ = releases (get v.entries k) (tree_reply v (step.Bind k (nodes.File file) over.File)) in
-      let next : Stands mid v op c (own + 1) (Bind k (nodes.File file) over.File) =
+      let next : StandsAt mid v op c (own + 1) (Bind k (nodes.File file) over.File) =
       stands_as mid _ v op c _ (own + 1) _ _ (next_stands m t op c own (Walk d []) st making refl) make_tree (rw made_now refl) (rw made_now refl) in
       let all : Goes m t op p (left + 1 + 1) =
       subst (λ (w : Tree). Goes mid w op p (left + 1) → Goes m t op p (left + 1 + 1)) make_tree

@@ -8,19 +8,20 @@ use Rattle.tree_model.specs.Tree.{Tree}
 use Rattle.world_runs.specs.declared.event.Event.{Event}
 use Rattle.world_runs.specs.declared.event.Event.TheVariants.{Began, Refused, Acted, Ended, Stopped, Failed, Dumped}
 use Rattle.world_runs.specs.Moments.{WorldState, May, after, after_all, RunFrom}
-use Rattle.world_runs.specs.TreeSteps.{told_of, tree_after}
+use Rattle.claim_words.specs.TreeSteps.{told_of, tree_after}
 use Rattle.world_runs.specs.Report.{is_act_of, transactions}
 use Rattle.tree_runs.proofs.Tracks.{Tracks}
 use Rattle.tree_runs.proofs.Runs.{event_tracked}
 use Rattle.tree_runs.proofs.Histories.{acts_last}
-use Rattle.world_runs.proofs.Histories.{numbers_grow}
+use Rattle.script_runs.proofs.Histories.{numbers_grow}
 use Rattle.world_runs.proofs.OwnLines.{transactions-append}
 
 -- an op of a number that its actor did not come to has no transaction
 abbrev pub Quiet : WorldState → List Event → Type 0
 Quiet m before = (op : OpId) → (m.actors op.actor).number < op.number → transactions before op ≡ 0
 
-not_act : (m : WorldState) (t : Tree) (e : Event) → Tracks m t → May m e → (op : OpId) → (m.actors op.actor).number < op.number → is_act_of op e ≡ false
+not_act : (m : WorldState) (t : Tree) (e : Event) → Tracks m t → May m e → (op : OpId) → (m.actors op.actor).number < op.number
+    → is_act_of op e ≡ false
 not_act m t (Acted other q x) tracks may op late = differs (op_eq other op) refl
   where
     differs : (b : Bool) → op_eq other op ≡ b → op_eq other op ≡ false
@@ -37,13 +38,15 @@ not_act m t (Stopped other) tracks may op late = refl
 not_act m t (Failed other x) tracks may op late = refl
 not_act m t Dumped tracks may op late = refl
 
-pub quiet_more : (m : WorldState) (t : Tree) (before : List Event) (e : Event) → Tracks m t → Quiet m before → May m e → Quiet (after m e) (before ++ e ∷ [])
+pub quiet_more : (m : WorldState) (t : Tree) (before : List Event) (e : Event) → Tracks m t → Quiet m before → May m e
+    → Quiet (after m e) (before ++ e ∷ [])
 quiet_more m t before e tracks quiet may op late =
     let old : (m.actors op.actor).number < op.number = omega (arith, numbers_grow m e may op.actor) in
     let none : transactions (e ∷ []) op ≡ 0 = rw (not_act m t e tracks may op old) refl in
     transactions-append before (e ∷ []) op ∙ omega (arith, quiet op old, none)
 
-pub quiet_run : (m : WorldState) (t : Tree) (before es : List Event) → Tracks m t → Quiet m before → RunFrom m es → Quiet (after_all m es) (before ++ es)
+pub quiet_run : (m : WorldState) (t : Tree) (before es : List Event) → Tracks m t → Quiet m before → RunFrom m es
+    → Quiet (after_all m es) (before ++ es)
 quiet_run m t before [] tracks quiet run = rw append-nil quiet
 quiet_run m t before (e ∷ es) tracks quiet run =
     let more : Quiet (after_all (after m e) es) ((before ++ e ∷ []) ++ es) =

@@ -1,5 +1,6 @@
 -- each script in turn can be run on
-use Rattle.std.proofs.Common.{◌≡◌, ◌<◌, ◌≤◌, ◌+◌, ◌^◌, ℕ, inl, inr, ◌⊎◌, Option, Some, None, List, [], ◌∷◌, ◌++◌, length, refl, sym, ap, subst, arith, take, length-append}
+use Rattle.std.proofs.Common.{◌≡◌, ◌<◌, ◌≤◌, ◌+◌, ◌^◌, ℕ, inl, inr, ◌⊎◌, Option, Some, None, List, [], ◌∷◌, ◌++◌, length, refl, sym, ap}
+use Rattle.std.proofs.Common.{subst, arith, take, length-append}
 use Rattle.tect_ids.specs.declared.ids.OpId.{OpId}
 use Rattle.tect_ids.specs.declared.command.Command.{Command}
 use Rattle.tect_ids.specs.declared.script.Act.{Act}
@@ -14,9 +15,9 @@ use Rattle.world_runs.specs.Moments.{WorldState, May, opening, after, after_all,
 use Rattle.world_runs.specs.Follows.{Acts, DoesLine, Busy, FollowsFrom, NoneFails}
 use Rattle.world_runs.specs.Turns.{ClientTurn, Turns, all_idle, with_turn, turn_after, turns_after, TakesAct, InTurnFrom}
 use Rattle.world_runs.specs.Turns as turns
-use Rattle.world_runs.proofs.Running.{AllWell, all_well, event_well, opening_well, run_well}
-use Rattle.world_runs.proofs.Histories.{front_runs}
-use Rattle.world_runs.proofs.Histories.{run-front, run-append, none_fails-append, acts_none_fail}
+use Rattle.script_runs.proofs.Running.{AllWell, all_well, event_well, opening_well, run_well}
+use Rattle.script_runs.proofs.Histories.{front_runs}
+use Rattle.script_runs.proofs.Histories.{run-front, run-append, none_fails-append, acts_none_fail}
 use Rattle.world_runs.specs.Standing.{op_of, busy_at, AtTurn}
 use Rattle.world_runs.specs.Smooth.{EndsAtOnce}
 use Rattle.session_runs.specs.RunningOn.{EachScriptCanBeRunOn}
@@ -121,7 +122,8 @@ module _ (m : WorldState) (s : AllWell m) (a : ℕ) where
   stop_can (Some op) is = can_stop m s a op is
 
   -- any line in turn
-  line_can : (turn : ClientTurn) (act : Act) → 1 ≤ a → a ≤ 64 → TakesAct turn act → AtTurn turn (m.actors a) → (m.actors a).number + 1 < 2 ^ 31 → CanDo m a (busy_at m a) act
+  line_can : (turn : ClientTurn) (act : Act) → 1 ≤ a → a ≤ 64 → TakesAct turn act → AtTurn turn (m.actors a)
+      → (m.actors a).number + 1 < 2 ^ 31 → CanDo m a (busy_at m a) act
   line_can turns.Idle (acts.Do c) from upto takes stood few =
       subst (λ (o : Option OpId). CanDo m a o (acts.Do c)) (sym (ap op_of stood.0)) (can_do m s a c from upto takes stood few)
   line_can turns.Idle (acts.Begin c) from upto takes stood few =
@@ -146,7 +148,8 @@ record CanFollow (m : WorldState) (ls : List Line) : Type 0 where
   none_fails : NoneFails events
   at_once : EndsAtOnce m events
 
-lines_can : (ls : List Line) (m : WorldState) (turns : Turns) (k : ℕ) → AllWell m → InTurnFrom turns ls → AllStand m turns k → k + length ls < 2 ^ 31 → CanFollow m ls
+lines_can : (ls : List Line) (m : WorldState) (turns : Turns) (k : ℕ) → AllWell m → InTurnFrom turns ls → AllStand m turns k
+    → k + length ls < 2 ^ 31 → CanFollow m ls
 lines_can [] m turns k s in_turn all few = record { events = []; run = tt; follows = refl; none_fails = tt; at_once = tt }
 lines_can (lines.Client client a act ∷ ls) m turns k s in_turn all few =
     let d : CanDo m a (busy_at m a) act = line_can m s a (turns a) act in_turn.0 in_turn.1 in_turn.2 (all a).stands (omega (arith, (all a).began, few)) in

@@ -17,24 +17,26 @@ use Rattle.program_rules.specs.Programs.{root, object_number, first_phase}
 use Rattle.world_runs.specs.declared.event.Event.{Event}
 use Rattle.world_runs.specs.declared.event.Event.TheVariants.{Began, Refused, Acted, Ended, Stopped, Failed, Dumped}
 use Rattle.world_runs.specs.Moments.{WorldState, opening, CanBegin, after, after_all, RunFrom, IsWorldRun}
-use Rattle.world_runs.specs.TreeSteps.{tree_steps, tree_after}
+use Rattle.claim_words.specs.TreeSteps.{tree_steps, tree_after}
 use Rattle.world_runs.specs.Report.{transactions, report, report_after, answer_line, client_name}
-use Rattle.world_runs.specs.Follows.{Acts, IsEndOf, EndsAfter, BeginsAndEnds, DoesLine, Busy, none_busy, with_busy, FollowsFrom, Follows, NoneFails}
+use Rattle.world_runs.specs.Follows.{Acts, IsEndOf, EndsAfter, BeginsAndEnds, DoesLine, Busy, none_busy, with_busy, FollowsFrom, Follows}
+use Rattle.world_runs.specs.Follows.{NoneFails}
 use Rattle.session_runs.specs.Session.{Played, played, played_line, IsPlayed, session_lines, session_script}
 use Rattle.session_runs.specs.Session as session
 use Rattle.tree_runs.proofs.Tracks.{Tracks, opening_tracks}
 use Rattle.tree_runs.proofs.Runs.{event_tracked, run_tracked}
 use Rattle.tree_runs.proofs.Histories.{tree_steps-append}
 use Rattle.session_runs.proofs.Quiet.{Quiet, quiet_run}
-use Rattle.world_runs.proofs.Histories.{run-front, run-rest, report-append, none_fails-front, none_fails-rest, begin_is}
+use Rattle.script_runs.proofs.Histories.{run-front, run-rest, report-append, none_fails-front, none_fails-rest, begin_is}
 use Rattle.world_runs.proofs.Actors.{after_all-append, changed}
 use Rattle.world_runs.proofs.OwnLines.{transactions-append}
-use Rattle.session_runs.proofs.Comes.{Stands, Comes, Goes, look_goes, create_goes}
+use Rattle.session_runs.proofs.Comes.{StandsAt, Comes, Goes, look_goes, create_goes}
 
 -- ---- transactions alone
 
 -- they change no number
-pub acts_numbers : (m : WorldState) (op : OpId) (n : ℕ) (es : List Event) (a : ℕ) → Acts op n es → ((after_all m es).actors a).number ≡ (m.actors a).number
+pub acts_numbers : (m : WorldState) (op : OpId) (n : ℕ) (es : List Event) (a : ℕ) → Acts op n es
+    → ((after_all m es).actors a).number ≡ (m.actors a).number
 acts_numbers m op n [] a acts = refl
 acts_numbers m op n (Acted o q x ∷ es) a acts =
     acts_numbers (after m (Acted o q x)) op (acts.1).0 es a (acts.1).2 ∙ changed (λ st. st.number ≡ (m.actors a).number) m.actors o.actor _ a (λ e. rw e refl) (λ d. refl)
@@ -46,7 +48,8 @@ acts_numbers m op n (Failed o c ∷ es) a acts = absurd acts
 acts_numbers m op n (Dumped ∷ es) a acts = absurd acts
 
 -- they make no line
-acts_no_lines : (counts : Counts) (clients : List (List ℕ)) (before : List Event) (op : OpId) (n : ℕ) (es : List Event) → Acts op n es → report_after counts clients before es ≡ []
+acts_no_lines : (counts : Counts) (clients : List (List ℕ)) (before : List Event) (op : OpId) (n : ℕ) (es : List Event) → Acts op n es
+    → report_after counts clients before es ≡ []
 acts_no_lines counts clients before op n [] acts = refl
 acts_no_lines counts clients before op n (Acted o q x ∷ es) acts = acts_no_lines counts clients (before ++ Acted o q x ∷ []) op (acts.1).0 es (acts.1).2
 acts_no_lines counts clients before op n (Began o c ∷ es) acts = absurd acts
@@ -74,7 +77,8 @@ acts_count op n (Dumped ∷ es) acts = absurd acts
 -- ---- a command
 
 -- as the tree plays it
-command_goes : (m : WorldState) (t : Tree) (op : OpId) (c : Command) (own number : ℕ) → op.actor ≡ 1 → IsPlayed c → Stands m t op c own (first_phase c)
+command_goes : (m : WorldState) (t : Tree) (op : OpId) (c : Command) (own number : ℕ) → op.actor ≡ 1 → IsPlayed c
+    → StandsAt m t op c own (first_phase c)
     → Goes m t op (played t own number c) (played t own number c).transactions
 command_goes m t op (commands.Look (n ∷ [])) own number one is st = look_goes m t op (commands.Look (n ∷ [])) own root n refl st
 command_goes m t op (commands.Create (n ∷ [])) own number one is st =
@@ -83,14 +87,14 @@ command_goes m t op (commands.Create (n ∷ [])) own number one is st =
 command_goes m t op c own number one is st = absurd is
 
 -- between two commands: what stood in the history so far has no transaction of a later op
-record Rests (m : WorldState) (t : Tree) (before : List Event) (own number : ℕ) : Type 0 where
+record Between (m : WorldState) (t : Tree) (before : List Event) (own number : ℕ) : Type 0 where
   tracks : Tracks m t
   quiet : Quiet m before
   serial : (m.actors 1).serial ≡ own
   count : (m.actors 1).number ≡ number
 
 -- the events of a line
-module _ (counts : Counts) (clients : List (List ℕ)) (m : WorldState) (t : Tree) (before : List Event) (own number : ℕ) (rests : Rests m t before own number)
+module _ (counts : Counts) (clients : List (List ℕ)) (m : WorldState) (t : Tree) (before : List Event) (own number : ℕ) (rests : Between m t before own number)
     (op : OpId) (c : Command) (one : op.actor ≡ 1) (is : IsPlayed c) (front : List Event) (n : ℕ) (a : Answer) (acts : Acts op n front)
     (run : RunFrom m (Began op c ∷ front ++ Ended op a ∷ [])) where
   -- what the tree plays
@@ -121,7 +125,7 @@ module _ (counts : Counts) (clients : List (List ℕ)) (m : WorldState) (t : Tre
   same_actor : eqb op.actor op.actor ≡ true
   same_actor = grind (arith, num_eq_cases op.actor op.actor)
 
-  stands : Stands mid t op c own (first_phase c)
+  stands : StandsAt mid t op c own (first_phase c)
   stands = record {
     tracks = (event_tracked m t (Began op c) rests.tracks run.0).0;
     runs = rw same_actor refl;
@@ -164,7 +168,7 @@ module _ (counts : Counts) (clients : List (List ℕ)) (m : WorldState) (t : Tre
   unfolding last
   count_after = ap (λ (z : WorldState). (z.actors 1).number) ended ∙ subst (λ (i : ℕ). ((after last (Ended op a)).actors i).number ≡ number + 1) one (rw same_actor (acts_numbers mid op n front op.actor acts ∙ rw same_actor number_now))
 
-  rests_after : Rests (after_all m part) p.tree (before ++ part) p.serial (number + 1)
+  rests_after : Between (after_all m part) p.tree (before ++ part) p.serial (number + 1)
   rests_after = record {
     tracks = subst (λ (u : Tree). Tracks (after_all m part) u) tree_now (run_tracked m t part rests.tracks run).0;
     quiet = quiet_run m t before part rests.tracks rests.quiet run;
@@ -177,29 +181,33 @@ module _ (counts : Counts) (clients : List (List ℕ)) (m : WorldState) (t : Tre
 -- the lines of the commands are those of the tree, from each moment between two commands
 abbrev LinesAgree : Counts → List (List ℕ) → List ℕ → List Command → Type 0
 LinesAgree counts clients client cs =
-    (m : WorldState) (t : Tree) (before es : List Event) (own number : ℕ) (busy : Busy) → Rests m t before own number → busy 1 ≡ None → AllByRecursion IsPlayed cs
-    → RunFrom m es → NoneFails es → FollowsFrom busy (session_script client cs) es → report_after counts clients before es ≡ session_lines clients t own number cs
+    (m : WorldState) (t : Tree) (before es : List Event) (own number : ℕ) (busy : Busy) → Between m t before own number → busy 1 ≡ None
+    → AllByRecursion IsPlayed cs
+    → RunFrom m es → NoneFails es → FollowsFrom busy (session_script client cs) es
+    → report_after counts clients before es ≡ session_lines clients t own number cs
 
 module _ (counts : Counts) (clients : List (List ℕ)) (client : List ℕ) (c : Command) (cs : List Command) (others : LinesAgree counts clients client cs) (m : WorldState) (t : Tree) (before es : List Event) (own number : ℕ)
-    (busy : Busy) (rests : Rests m t before own number) (all : AllByRecursion IsPlayed (c ∷ cs)) (run : RunFrom m es) (none : NoneFails es) where
+    (busy : Busy) (rests : Between m t before own number) (all : AllByRecursion IsPlayed (c ∷ cs)) (run : RunFrom m es) (none : NoneFails es) where
   -- the lines from here on are those of the tree
   abbrev Agrees : Type 0
   Agrees = report_after counts clients before es ≡ session_lines clients t own number (c ∷ cs)
 
-  first_agrees : (op : OpId) (front rest : List Event) (n : ℕ) (a : Answer) (next : Option OpId) → op.actor ≡ 1 → Acts op n front → es ≡ (Began op c ∷ front ++ Ended op a ∷ []) ++ rest → next ≡ None
+  first_agrees : (op : OpId) (front rest : List Event) (n : ℕ) (a : Answer) (next : Option OpId) → op.actor ≡ 1 → Acts op n front
+      → es ≡ (Began op c ∷ front ++ Ended op a ∷ []) ++ rest → next ≡ None
       → FollowsFrom (with_busy busy 1 next) (session_script client cs) rest → Agrees
   first_agrees op front rest n a next one acts parts free more =
       let part : List Event = Began op c ∷ front ++ Ended op a ∷ [] in
       let p : Played = played t own number c in
       let whole : RunFrom m (part ++ rest) = rw parts at run in
       let mine : RunFrom m part = run-front m part rest whole in
-      let next_rests : Rests (after_all m part) p.tree (before ++ part) p.serial (number + 1) =
+      let next_rests : Between (after_all m part) p.tree (before ++ part) p.serial (number + 1) =
       rests_after counts clients m t before own number rests op c one all.0 front n a acts mine in
       let tail : report_after counts clients (before ++ part) rest ≡ session_lines clients p.tree p.serial (number + 1) cs =
       others (after_all m part) p.tree (before ++ part) rest p.serial (number + 1) (with_busy busy 1 next) next_rests free all.1 (run-rest m part rest whole) (none_fails-rest part rest (rw parts at none)) more in
       ap (report_after counts clients before) parts ∙ report-append counts clients before part rest ∙ rw (line counts clients m t before own number rests op c one all.0 front n a acts mine, tail) refl
 
-  end_agrees : (op : OpId) (front rest : List Event) (n : ℕ) (end : Event) (next : Option OpId) → op.actor ≡ 1 → Acts op n front → IsEndOf op end → es ≡ (Began op c ∷ front ++ end ∷ []) ++ rest → next ≡ None
+  end_agrees : (op : OpId) (front rest : List Event) (n : ℕ) (end : Event) (next : Option OpId) → op.actor ≡ 1 → Acts op n front
+      → IsEndOf op end → es ≡ (Began op c ∷ front ++ end ∷ []) ++ rest → next ≡ None
       → FollowsFrom (with_busy busy 1 next) (session_script client cs) rest → Agrees
   end_agrees op front rest n (Ended o a) next one acts is parts free more = first_agrees op front rest n a next one acts (rw is at parts) free more
   end_agrees op front rest n (Failed o a) next one acts is parts free more =
@@ -211,7 +219,8 @@ module _ (counts : Counts) (clients : List (List ℕ)) (client : List ℕ) (c : 
   end_agrees op front rest n (Stopped o) next one acts is parts free more = absurd is
   end_agrees op front rest n Dumped next one acts is parts free more = absurd is
 
-  line_agrees : (part rest : List Event) (next : Option OpId) → es ≡ part ++ rest → DoesLine 1 None (acts.Do c) part next → FollowsFrom (with_busy busy 1 next) (session_script client cs) rest → Agrees
+  line_agrees : (part rest : List Event) (next : Option OpId) → es ≡ part ++ rest → DoesLine 1 None (acts.Do c) part next
+      → FollowsFrom (with_busy busy 1 next) (session_script client cs) rest → Agrees
   line_agrees part rest next parts d more =
       let b : BeginsAndEnds 1 c part = d.0 in
       let mine : NoneFails part = none_fails-front part rest (rw parts at none) in
@@ -226,10 +235,12 @@ lines_agree counts clients client [] m t before es own number busy rests idle al
 lines_agree counts clients client (c ∷ cs) m t before es own number busy rests idle all run none follows =
     line_agrees counts clients client c cs (lines_agree counts clients client cs) m t before es own number busy rests all run none follows.0 follows.1 follows.2 follows.3 (rw idle at follows.4) follows.5
 
-opening_rests : (counts : Counts) → Rests (opening counts) opening_tree [] 1 0
+opening_rests : (counts : Counts) → Between (opening counts) opening_tree [] 1 0
 opening_rests counts = record { tracks = opening_tracks counts; quiet = λ op late. refl; serial = refl; count = refl }
 
-pub session_reported : (counts : Counts) (clients : List (List ℕ)) (client : List ℕ) (cs : List Command) (history : List Event) → AllByRecursion IsPlayed cs
-    → IsWorldRun counts history → NoneFails history → Follows (session_script client cs) history → report counts clients history ≡ session_lines clients opening_tree 1 0 cs
+pub session_reported : (counts : Counts) (clients : List (List ℕ)) (client : List ℕ) (cs : List Command) (history : List Event)
+    → AllByRecursion IsPlayed cs
+    → IsWorldRun counts history → NoneFails history → Follows (session_script client cs) history
+    → report counts clients history ≡ session_lines clients opening_tree 1 0 cs
 session_reported counts clients client cs history all run none follows =
     lines_agree counts clients client cs (opening counts) opening_tree [] history 1 0 none_busy (opening_rests counts) refl all run none follows

@@ -23,7 +23,7 @@ use Rattle.tree_model.specs.declared.step.TreeReply.{TreeReply}
 use Rattle.tree_model.specs.declared.step.TreeReply.TheVariants.{Ok, Refused}
 use Rattle.tree_model.specs.Tree.{Tree, tree_reply, tree_next}
 use Rattle.program_rules.specs.Programs.{root, object_number}
-use Rattle.world_runs.specs.Points.{refused_answer, done_answer}
+use Rattle.claim_words.specs.Points.{refused_answer, done_answer}
 use Rattle.world_runs.specs.Report.{client_name}
 
 -- what a command comes to: the tree after it, the serial of the client's next object, how many transactions it took, and

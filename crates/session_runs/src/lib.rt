@@ -25,7 +25,8 @@ pub fn each_script_can_be_run_on()
 /// very lines that the tree alone gives, where no command fails for want of memory or is refused for want of room.
 pub fn report_is_session()
     ensures { (counts : Counts) (clients : List (List ℕ)) (client : List ℕ) (commands : List Command) (history : List Event)
-        → AllByRecursion IsPlayed commands → IsWorldRun counts history → NoneFails history → Follows (session_script client commands) history
+        → AllByRecursion IsPlayed commands → IsWorldRun counts history → NoneFails history
+        → Follows (session_script client commands) history
         → report counts clients history ≡ session_lines clients opening_tree 1 0 commands }
 {}
 

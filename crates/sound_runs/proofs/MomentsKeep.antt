@@ -1,5 +1,6 @@
 -- each event keeps what is so at every moment
-use Rattle.std.proofs.Common.{◌≡◌, ℕ, ◌+◌, ◌<◌, ◌≤◌, ◌^◌, [], ◌∷◌, Bool, true, false, eqb, Option, Some, None, refl, arith, subst, if◌then◌else◌}
+use Rattle.std.proofs.Common.{◌≡◌, ℕ, ◌+◌, ◌<◌, ◌≤◌, ◌^◌, [], ◌∷◌, Bool, true, false, eqb, Option, Some, None, refl, arith, subst}
+use Rattle.std.proofs.Common.{if◌then◌else◌}
 use Rattle.tect_ids.specs.declared.ids.Counts.{Counts}
 use Rattle.tect_ids.specs.declared.ids.Node.TheVariants.{Dir, File}
 use Rattle.tect_ids.specs.declared.ids.OpId.{OpId}
@@ -25,14 +26,15 @@ use Rattle.store_world.specs.Later.{actor_of, Later, Within, by_actor}
 use Rattle.store_world.specs.Requests.{Needs, Kept, touched_by}
 use Rattle.store_world.proofs.Frames.{weaken}
 use Rattle.store_world.proofs.Rows.{row_kept, opening_sound}
-use Rattle.world_runs.proofs.Running.{Asks, asks_by}
+use Rattle.script_runs.proofs.Running.{Asks, asks_by}
 use Rattle.sound_runs.specs.Pasts.{ghost_after, world_of}
 use Rattle.sound_runs.specs.Known.{PhaseKnows, Knows, RunningKnows, IsFresh, ActorSound, AllSound}
 use Rattle.sound_runs.proofs.PhasesAsk.{IsFree, phase_needs, phase_own, phase_later, MakesNoLater}
 use Rattle.sound_runs.proofs.PhasesKeep.{phase_stays, phase_goes_on}
 
 -- one of the actors has changed
-with_cases : {X : Type 0} (P : X → Type 0) (others : ℕ → X) (a : ℕ) (x : X) (b : ℕ) → (b ≡ a → P x) → (eqb b a ≡ false → P (others b)) → P (if eqb b a then x else others b)
+with_cases : {X : Type 0} (P : X → Type 0) (others : ℕ → X) (a : ℕ) (x : X) (b : ℕ) → (b ≡ a → P x) → (eqb b a ≡ false → P (others b))
+    → P (if eqb b a then x else others b)
 with_cases P others a x b here there =
     elim (eqb b a) as (λ t. eqb b a ≡ t → P (if t then x else others b)) [
       | true ↦ λ e. here (grind (arith, keys))
@@ -120,7 +122,8 @@ module _ (m : WorldState) (g : Ghost) (s : AllSound m g) (p : Program) (is : (m.
   none_later : MakesNoLater (touched_by q) p.op (next_serial st.serial x) × (next_serial st.serial x ≤ p.op.number + 1)
   none_later = (rw ask at (phase_later w v p.op st.serial few_made p.command p.phase knows.phase)) kept
 
-  goes_on : PhaseKnows v p.op (next_serial st.serial x) p.command (phase_hear (request_place m.counts q) p.op (object_number p.op.actor st.serial) p.command p.phase x)
+  goes_on : PhaseKnows v p.op (next_serial st.serial x) p.command
+      (phase_hear (request_place m.counts q) p.op (object_number p.op.actor st.serial) p.command p.phase x)
   goes_on = (rw ask at (phase_goes_on w v p.op st.serial few (request_place m.counts q) p.command p.phase knows.phase)) kept
 
   acts_on : ActorSound v p.op.actor (went_on m.counts st q x)
@@ -220,7 +223,8 @@ module _ (m : WorldState) (g : Ghost) (s : AllSound m g) (a : ℕ) where
     actors = λ b. with_cases (λ z. ActorSound (world_of m g) b z) m.actors a _ b (λ e. rw e (rests stopped)) (λ apart. s.actors b);
   }
 
-acts_sound : (m : WorldState) (g : Ghost) (op : OpId) (q : AnyReq) (x : AnyReply) → AllSound m g → May m (Acted op q x) → AllSound (after m (Acted op q x)) (ghost_next m.store g q)
+acts_sound : (m : WorldState) (g : Ghost) (op : OpId) (q : AnyReq) (x : AnyReply) → AllSound m g → May m (Acted op q x)
+    → AllSound (after m (Acted op q x)) (ghost_next m.store g q)
 acts_sound m g op q x s can =
     let by : (p : Program) × Asks m op q p = asks_by m op q can.0 in
     rw can.1 (subst (λ (o : OpId). AllSound (after m (Acted o q (store_reply m.store q))) (ghost_next m.store g q)) by.1.same (acted_sound m g s by.0 by.1.is q by.1.ask))

@@ -38,7 +38,8 @@ IsFree w number = (was_made w.ghost (File record { 0 = number }) ≡ false) × (
 
 -- what it asks needs no more than it knows
 module _ (w : World) (op : OpId) (number : ℕ) (free : IsFree w number) where
-  first_needs : (d : DirId) (c : Command) → was_made w.ghost (Dir d) ≡ true → w.ghost.given (own_hold op) ≡ None → OfAsked (Needs w) (first_ask op number d c)
+  first_needs : (d : DirId) (c : Command) → was_made w.ghost (Dir d) ≡ true → w.ghost.given (own_hold op) ≡ None
+      → OfAsked (Needs w) (first_ask op number d c)
   first_needs d (commands.Look []) made fresh = tt
   first_needs d (commands.Look (n ∷ ns)) made fresh = tt
   first_needs d (commands.List p) made fresh = tt
@@ -52,7 +53,8 @@ module _ (w : World) (op : OpId) (number : ℕ) (free : IsFree w number) where
   first_needs d (commands.Rename (n ∷ ns) to) made fresh = tt
   first_needs d _ made fresh = tt
 
-  grant_needs : (p : List (List ℕ)) (k : Key) (n : Node) → GrantNeeds w (own_hold op) k → OfAsked (Needs w) (at_last p (λ to. grant_ask n (own_hold op) (key_in k.dir to)))
+  grant_needs : (p : List (List ℕ)) (k : Key) (n : Node) → GrantNeeds w (own_hold op) k
+      → OfAsked (Needs w) (at_last p (λ to. grant_ask n (own_hold op) (key_in k.dir to)))
   grant_needs [] k n needs = tt
   grant_needs (m ∷ ms) k (Dir d) needs = needs
   grant_needs (m ∷ ms) k (File f) needs = needs
@@ -112,17 +114,20 @@ module _ (op : OpId) where
     first_own d (commands.Rename (n ∷ ns) to) = nothing_own
     first_own d _ = tt
 
-    grant_own : (p : List (List ℕ)) (k : Key) (n : Node) → OfAsked (OwnAlone op) (at_last p (λ to. grant_ask n (own_hold op) (key_in k.dir to)))
+    grant_own : (p : List (List ℕ)) (k : Key) (n : Node)
+        → OfAsked (OwnAlone op) (at_last p (λ to. grant_ask n (own_hold op) (key_in k.dir to)))
     grant_own [] k n = tt
     grant_own (m ∷ ms) k (Dir d) = hold_own
     grant_own (m ∷ ms) k (File f) = hold_own
 
-    swap_own : (p : List (List ℕ)) (k : Key) (n : Node) → OfAsked (OwnAlone op) (at_last p (λ to. any.Name (names.Swap k.dir k.name to n (own_hold op))))
+    swap_own : (p : List (List ℕ)) (k : Key) (n : Node)
+        → OfAsked (OwnAlone op) (at_last p (λ to. any.Name (names.Swap k.dir k.name to n (own_hold op))))
     swap_own [] k n = tt
     swap_own (m ∷ ms) k n = hold_own
 
     -- what a phase asks touches its actor's own alone
-    pub phase_own : (w : World) (c : Command) (at : Phase) → PhaseKnows w op serial c at → OfAsked (OwnAlone op) (phase_ask op (object_number op.actor serial) c at)
+    pub phase_own : (w : World) (c : Command) (at : Phase) → PhaseKnows w op serial c at
+        → OfAsked (OwnAlone op) (phase_ask op (object_number op.actor serial) c at)
     phase_own w c (Walk d []) k = first_own d c
     phase_own w c (Walk d (n ∷ ns)) k = nothing_own
     phase_own w c (Bind key n o) k = named_own n k.2
@@ -184,17 +189,20 @@ module _ (w v : World) (op : OpId) (serial : ℕ) where
     first_later _ = tt
 
   module _ (le : serial ≤ op.number + 1) where
-    grant_later : (p : List (List ℕ)) (k : Key) (n : Node) → OfAsked (NoLater w v op serial) (at_last p (λ to. grant_ask n (own_hold op) (key_in k.dir to)))
+    grant_later : (p : List (List ℕ)) (k : Key) (n : Node)
+        → OfAsked (NoLater w v op serial) (at_last p (λ to. grant_ask n (own_hold op) (key_in k.dir to)))
     grant_later [] k n = tt
     grant_later (m ∷ ms) k (Dir d) = same_serial _ refl le hold_later
     grant_later (m ∷ ms) k (File f) = same_serial _ refl le hold_later
 
-    swap_later : (p : List (List ℕ)) (k : Key) (n : Node) → OfAsked (NoLater w v op serial) (at_last p (λ to. any.Name (names.Swap k.dir k.name to n (own_hold op))))
+    swap_later : (p : List (List ℕ)) (k : Key) (n : Node)
+        → OfAsked (NoLater w v op serial) (at_last p (λ to. any.Name (names.Swap k.dir k.name to n (own_hold op))))
     swap_later [] k n = tt
     swap_later (m ∷ ms) k n = same_serial _ refl le hold_later
 
     -- what a phase asks makes nothing of later
-    pub phase_later : (c : Command) (at : Phase) → PhaseKnows w op serial c at → OfAsked (NoLater w v op serial) (phase_ask op (object_number op.actor serial) c at)
+    pub phase_later : (c : Command) (at : Phase) → PhaseKnows w op serial c at
+        → OfAsked (NoLater w v op serial) (phase_ask op (object_number op.actor serial) c at)
     phase_later c (Walk d []) k = first_later d k.2 c
     phase_later c (Walk d (n ∷ ns)) k = same_serial _ refl le nothing_later
     phase_later c (Bind key n o) k = same_serial _ refl le (named_later n)

@@ -1,5 +1,6 @@
 -- what a running command knows stays so while others act, and after its own request it knows what it needs next
-use Rattle.std.proofs.Common.{◌≡◌, ◌≢◌, ℕ, ◌<◌, ◌≤◌, ◌^◌, List, [], ◌∷◌, Bool, true, false, eqb, is_some, Option, Some, None, refl, arith, if◌then◌else◌}
+use Rattle.std.proofs.Common.{◌≡◌, ◌≢◌, ℕ, ◌<◌, ◌≤◌, ◌^◌, List, [], ◌∷◌, Bool, true, false, eqb, is_some, Option, Some, None, refl, arith}
+use Rattle.std.proofs.Common.{if◌then◌else◌}
 use Rattle.tect_ids.specs.declared.ids.DirId.{DirId}
 use Rattle.tect_ids.specs.declared.ids.FileId.{FileId}
 use Rattle.tect_ids.specs.declared.ids.Hold.{Hold}
@@ -30,14 +31,17 @@ use Rattle.store_rules.specs.Views.{as_found, as_parent, as_listing, is_made, is
 use Rattle.program_rules.specs.declared.program.Phase.{Phase}
 use Rattle.program_rules.specs.declared.program.Phase.TheVariants.{Walk, Bind, Grant, Swap, Release, End}
 use Rattle.program_rules.specs.Paths.{last_name}
-use Rattle.program_rules.specs.Programs.{object_number, own_hold, new_path, at_last, grant_ask, release_ask, phase_ask, phase_hear, refusal, dir_refusal, walked, looked, checked, entries_heard, unbound_heard, source_heard, bound_heard, swapped_heard, then_release}
+use Rattle.program_rules.specs.Programs.{object_number, own_hold, new_path, at_last, grant_ask, release_ask, phase_ask, phase_hear, refusal}
+use Rattle.program_rules.specs.Programs.{dir_refusal, walked, looked, checked, entries_heard, unbound_heard, source_heard, bound_heard}
+use Rattle.program_rules.specs.Programs.{swapped_heard, then_release}
 use Rattle.world_runs.specs.Moments.{next_serial}
 use Rattle.store_world.specs.Worlds.{World}
 use Rattle.store_world.specs.Sound.{was_made, IsGranted}
 use Rattle.store_world.specs.Later.{actor_of, Later, Touched, by_actor}
 use Rattle.store_world.specs.Requests.{Kept, touched_by, FoundTaught, OldSpent, BoundTaught, SwappedTaught, UnboundTaught}
 use Rattle.sound_runs.specs.Known.{PhaseKnows, is_whole, has_name, is_odd, new_key}
-use Rattle.sound_runs.proofs.Refusals.{look_not_odd, check_not_odd, list_not_odd, bind_not_odd, swap_not_odd, unbind_not_odd, dir_grant_not_odd, file_grant_not_odd, makes_none}
+use Rattle.sound_runs.proofs.Refusals.{look_not_odd, check_not_odd, list_not_odd, bind_not_odd, swap_not_odd, unbind_not_odd}
+use Rattle.sound_runs.proofs.Refusals.{dir_grant_not_odd, file_grant_not_odd, makes_none}
 use Rattle.sound_runs.proofs.PhasesAsk.{OfAsked, own_file, own_dir}
 
 old_stays : (by : Touched) (w v : World) → Later by w v → (old : Option Replaced) → OldSpent w old → OldSpent v old
@@ -45,7 +49,8 @@ old_stays by w v l None k = tt
 old_stays by w v l (Some old) k = l.spent old.hold k
 
 -- other actors leave what it knows
-pub phase_stays : (a : ℕ) (w v : World) → Later (by_actor a) w v → (op : OpId) → eqb op.actor a ≡ false → (serial : ℕ) (c : Command) (at : Phase) → PhaseKnows w op serial c at → PhaseKnows v op serial c at
+pub phase_stays : (a : ℕ) (w v : World) → Later (by_actor a) w v → (op : OpId) → eqb op.actor a ≡ false
+    → (serial : ℕ) (c : Command) (at : Phase) → PhaseKnows w op serial c at → PhaseKnows v op serial c at
 phase_stays a w v l op other serial c (Walk d ns) k = (l.made (Dir d) k.0, l.fresh (own_hold op) other k.1, k.2, k.3)
 phase_stays a w v l op other serial c (Bind key n o) k = (l.live (own_hold op) _ other k.0 refl, l.unnamed n (rw k.2 other) k.1, k.2)
 phase_stays a w v l op other serial c (Grant key n) k = (l.made (Dir key.dir) k.0, l.fresh (own_hold op) other k.1, k.2, k.3)
@@ -69,20 +74,24 @@ module _ (v : World) (op : OpId) (serial : ℕ) (c : Command) (place : Place) (x
   checked_on d true plain = refl
   checked_on d false plain = plain refl
 
-  listed_on : (o : Option (List Listed)) → (o ≡ None → is_odd (dir_refusal place x) ≡ false) → PhaseKnows v op serial c (entries_heard place x o)
+  listed_on : (o : Option (List Listed)) → (o ≡ None → is_odd (dir_refusal place x) ≡ false)
+      → PhaseKnows v op serial c (entries_heard place x o)
   listed_on None plain = plain refl
   listed_on (Some items) plain = refl
 
-  made_on : (k : Key) (n : Node) (o : Over) (b : Bool) → b ≡ true → IsGranted v (own_hold op) n k → v.ghost.home n ≡ None → actor_of n ≡ op.actor
+  made_on : (k : Key) (n : Node) (o : Over) (b : Bool) → b ≡ true → IsGranted v (own_hold op) n k → v.ghost.home n ≡ None
+      → actor_of n ≡ op.actor
       → PhaseKnows v op serial c (if b then Bind k n o else End (refusal place k x))
   made_on k n o true e granted home mine = (granted, home, mine)
   made_on k n o false e granted home mine = absurd (grind (arith, e))
 
-  unbound_on : (k : Key) (o : Option (Node × Hold)) → (o ≡ None → is_odd (refusal place k x) ≡ false) → UnboundTaught v o → PhaseKnows v op serial c (unbound_heard place k x o)
+  unbound_on : (k : Key) (o : Option (Node × Hold)) → (o ≡ None → is_odd (refusal place k x) ≡ false) → UnboundTaught v o
+      → PhaseKnows v op serial c (unbound_heard place k x o)
   unbound_on k None plain t = plain refl
   unbound_on k (Some p) plain t = (t, tt, refl)
 
-  source_on : (k : Key) (o : Option Node) → (o ≡ None → is_odd (refusal place k x) ≡ false) → was_made v.ghost (Dir k.dir) ≡ true → v.ghost.given (own_hold op) ≡ None
+  source_on : (k : Key) (o : Option Node) → (o ≡ None → is_odd (refusal place k x) ≡ false) → was_made v.ghost (Dir k.dir) ≡ true
+      → v.ghost.given (own_hold op) ≡ None
       → has_name (new_path c) ≡ true → PhaseKnows v op serial c (source_heard place k (last_name (new_path c)) x o)
   source_on k None plain made fresh whole = plain refl
   source_on k (Some n) plain made fresh whole = at (name_eq k.name (last_name (new_path c))) refl
@@ -95,17 +104,21 @@ module _ (v : World) (op : OpId) (serial : ℕ) (c : Command) (place : Place) (x
   then_on None a t plain = plain
   then_on (Some old) a t plain = (t, tt, plain)
 
-  bound_on : (k : Key) (n : Node) (o : Option (Option Replaced)) → (o ≡ None → is_odd (refusal place k x) ≡ false) → BoundTaught v (own_hold op) o
+  bound_on : (k : Key) (n : Node) (o : Option (Option Replaced)) → (o ≡ None → is_odd (refusal place k x) ≡ false)
+      → BoundTaught v (own_hold op) o
       → PhaseKnows v op serial c (bound_heard place op k n x o)
   bound_on k n None plain t = (t, tt, plain refl)
   bound_on k n (Some old) plain t = then_on old _ t refl
 
-  granted_on : (k : Key) (n : Node) (b : Bool) → (b ≡ false → is_odd (refusal place k x) ≡ false) → (b ≡ true → IsGranted v (own_hold op) n (new_key k c))
-      → k.name ≢ last_name (new_path c) → has_name (new_path c) ≡ true → PhaseKnows v op serial c (if b then Swap k n else End (refusal place k x))
+  granted_on : (k : Key) (n : Node) (b : Bool) → (b ≡ false → is_odd (refusal place k x) ≡ false)
+      → (b ≡ true → IsGranted v (own_hold op) n (new_key k c))
+      → k.name ≢ last_name (new_path c) → has_name (new_path c) ≡ true
+      → PhaseKnows v op serial c (if b then Swap k n else End (refusal place k x))
   granted_on k n true plain t other whole = (t refl, other, whole)
   granted_on k n false plain t other whole = plain refl
 
-  swapped_on : (k : Key) (n : Node) (o : Option (Hold × Option Replaced)) → (o ≡ None → is_odd (refusal place k x) ≡ false) → SwappedTaught v (own_hold op) o
+  swapped_on : (k : Key) (n : Node) (o : Option (Hold × Option Replaced)) → (o ≡ None → is_odd (refusal place k x) ≡ false)
+      → SwappedTaught v (own_hold op) o
       → PhaseKnows v op serial c (swapped_heard place op k n x o)
   swapped_on k n None plain t = (t, tt, plain refl)
   swapped_on k n (Some p) plain t = (t.0, t.1, refl)
@@ -164,7 +177,8 @@ module _ (w v : World) (op : OpId) (serial : ℕ) (few : serial < 2 ^ 32) (place
       source_on v op (later q) (commands.Rename (n ∷ ns) to) place (said q) key (as_found (said q)) (look_not_odd w.store place key key) (kept.later.made (Dir d) k.0) (kept.later.fresh (own_hold op) refl k.1) named
   first_goes_on _ d k = tt
 
-  walk_goes_on : (c : Command) (d : DirId) (n : List ℕ) (ns : List (List ℕ)) → PhaseKnows w op serial c (Walk d (n ∷ ns)) → Goes c (Walk d (n ∷ ns))
+  walk_goes_on : (c : Command) (d : DirId) (n : List ℕ) (ns : List (List ℕ)) → PhaseKnows w op serial c (Walk d (n ∷ ns))
+      → Goes c (Walk d (n ∷ ns))
   walk_goes_on c d n ns k = λ kept.
       let key : Key = key_in d n in
       let q : AnyReq = any.Name (names.Look key) in

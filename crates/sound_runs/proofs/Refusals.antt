@@ -21,30 +21,39 @@ use Rattle.sound_runs.specs.Known.{is_odd}
 
 -- of requests that concern a whole directory
 module _ (s : Store) (place : Place) (d : DirId) where
-  pub check_not_odd : is_some (as_parent (store_reply s (any.Name (names.CheckDir d)))) ≡ false → is_odd (dir_refusal place (store_reply s (any.Name (names.CheckDir d)))) ≡ false
+  pub check_not_odd : is_some (as_parent (store_reply s (any.Name (names.CheckDir d)))) ≡ false
+      → is_odd (dir_refusal place (store_reply s (any.Name (names.CheckDir d)))) ≡ false
   check_not_odd none = grind arith
 
-  pub list_not_odd : as_listing (store_reply s (any.Name (names.List d))) ≡ None → is_odd (dir_refusal place (store_reply s (any.Name (names.List d)))) ≡ false
+  pub list_not_odd : as_listing (store_reply s (any.Name (names.List d))) ≡ None
+      → is_odd (dir_refusal place (store_reply s (any.Name (names.List d)))) ≡ false
   list_not_odd none = grind arith
 
 -- of requests that concern an entry, or a hold for one
 module _ (s : Store) (place : Place) (l : Key) where
-  pub look_not_odd : (k : Key) → as_found (store_reply s (any.Name (names.Look k))) ≡ None → is_odd (refusal place l (store_reply s (any.Name (names.Look k)))) ≡ false
+  pub look_not_odd : (k : Key) → as_found (store_reply s (any.Name (names.Look k))) ≡ None
+      → is_odd (refusal place l (store_reply s (any.Name (names.Look k)))) ≡ false
   look_not_odd k none = grind arith
 
-  pub bind_not_odd : (k : Key) (n : Node) (h : Hold) (o : Over) → as_bound (store_reply s (any.Name (names.Bind k n h o))) ≡ None → is_odd (refusal place l (store_reply s (any.Name (names.Bind k n h o)))) ≡ false
+  pub bind_not_odd : (k : Key) (n : Node) (h : Hold) (o : Over) → as_bound (store_reply s (any.Name (names.Bind k n h o))) ≡ None
+      → is_odd (refusal place l (store_reply s (any.Name (names.Bind k n h o)))) ≡ false
   bind_not_odd k n h o none = grind arith
 
-  pub swap_not_odd : (d : DirId) (from to : List ℕ) (n : Node) (h : Hold) → as_swapped (store_reply s (any.Name (names.Swap d from to n h))) ≡ None → is_odd (refusal place l (store_reply s (any.Name (names.Swap d from to n h)))) ≡ false
+  pub swap_not_odd : (d : DirId) (from to : List ℕ) (n : Node) (h : Hold)
+      → as_swapped (store_reply s (any.Name (names.Swap d from to n h))) ≡ None
+      → is_odd (refusal place l (store_reply s (any.Name (names.Swap d from to n h)))) ≡ false
   swap_not_odd d from to n h none = grind arith
 
-  pub unbind_not_odd : (k : Key) (want : Want) → as_unbound (store_reply s (any.Name (names.Unbind k want))) ≡ None → is_odd (refusal place l (store_reply s (any.Name (names.Unbind k want)))) ≡ false
+  pub unbind_not_odd : (k : Key) (want : Want) → as_unbound (store_reply s (any.Name (names.Unbind k want))) ≡ None
+      → is_odd (refusal place l (store_reply s (any.Name (names.Unbind k want)))) ≡ false
   unbind_not_odd k want none = grind arith
 
-  pub dir_grant_not_odd : (d : DirId) (h : Hold) (k : Key) → is_granted (store_reply s (any.Name (names.Grant d h k))) ≡ false → is_odd (refusal place l (store_reply s (any.Name (names.Grant d h k)))) ≡ false
+  pub dir_grant_not_odd : (d : DirId) (h : Hold) (k : Key) → is_granted (store_reply s (any.Name (names.Grant d h k))) ≡ false
+      → is_odd (refusal place l (store_reply s (any.Name (names.Grant d h k)))) ≡ false
   dir_grant_not_odd d h k none = grind arith
 
-  pub file_grant_not_odd : (f : FileId) (h : Hold) (k : Key) → is_granted (store_reply s (any.File (files.Grant f h k))) ≡ false → is_odd (refusal place l (store_reply s (any.File (files.Grant f h k)))) ≡ false
+  pub file_grant_not_odd : (f : FileId) (h : Hold) (k : Key) → is_granted (store_reply s (any.File (files.Grant f h k))) ≡ false
+      → is_odd (refusal place l (store_reply s (any.File (files.Grant f h k)))) ≡ false
   file_grant_not_odd f h k none = grind arith
 
 -- only two requests make a node
@@ -59,7 +68,8 @@ look_makes_none s k = grind arith
 bind_makes_none : (s : Store) (k : Key) (n : Node) (h : Hold) (o : Over) → is_made (store_reply s (any.Name (names.Bind k n h o))) ≡ false
 bind_makes_none s k n h o = grind arith
 
-swap_makes_none : (s : Store) (d : DirId) (from to : List ℕ) (n : Node) (h : Hold) → is_made (store_reply s (any.Name (names.Swap d from to n h))) ≡ false
+swap_makes_none : (s : Store) (d : DirId) (from to : List ℕ) (n : Node) (h : Hold)
+    → is_made (store_reply s (any.Name (names.Swap d from to n h))) ≡ false
 swap_makes_none s d from to n h = grind arith
 
 unbind_makes_none : (s : Store) (k : Key) (want : Want) → is_made (store_reply s (any.Name (names.Unbind k want))) ≡ false

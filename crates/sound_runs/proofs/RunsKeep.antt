@@ -11,8 +11,9 @@ use Rattle.program_rules.specs.declared.program.Phase.TheVariants.{Walk, Bind, G
 use Rattle.program_rules.specs.declared.program.Program.{Program}
 use Rattle.program_rules.specs.Programs.{object_number, phase_answer}
 use Rattle.world_runs.specs.declared.event.Event.{Event}
-use Rattle.world_runs.specs.Moments.{WorldState, Actor, RunFrom, IsWorldRun, moment, after, after_all, opening, running, asked, program_answer}
-use Rattle.world_runs.specs.Sound.{IsSound, IsSoundStore}
+use Rattle.world_runs.specs.Moments.{WorldState, Actor, RunFrom, IsWorldRun, moment, after, after_all, opening, running, asked}
+use Rattle.world_runs.specs.Moments.{program_answer}
+use Rattle.claim_words.specs.Sound.{IsSound, IsSoundStore}
 use Rattle.store_world.specs.Worlds.{World, Ghost, opening_ghost}
 use Rattle.store_world.specs.Sound.{Sound}
 use Rattle.store_world.specs.Later.{Within, by_actor}
@@ -20,8 +21,8 @@ use Rattle.store_world.specs.Requests.{Needs, touched_by}
 use Rattle.sound_runs.specs.Pasts.{ghost_after, ghosts_after, ghosts, world_of, world}
 use Rattle.sound_runs.specs.Known.{PhaseKnows, Knows, AllSound, is_odd}
 use Rattle.sound_runs.specs.Laws.{EveryMomentIsSound, NoRunAnswersOdd, HasSmallNumbers, NumbersStaySmall}
-use Rattle.world_runs.proofs.Histories.{front_runs}
-use Rattle.world_runs.proofs.Running.{RunsAs, Asks, asks_by, running_is_of}
+use Rattle.script_runs.proofs.Histories.{front_runs}
+use Rattle.script_runs.proofs.Running.{RunsAs, Asks, asks_by, running_is_of}
 use Rattle.sound_runs.proofs.MomentsKeep.{event_sound, opening_all_sound, asks_what_it_needs, touches_its_own}
 
 -- a sound world's store is sound
@@ -33,7 +34,8 @@ store_sound w s = record {
 }
 
 -- a run keeps what is so at every moment
-pub run_keeps : (events : List Event) (m : WorldState) (g : Ghost) → AllSound m g → RunFrom m events → AllSound (after_all m events) (ghosts_after m g events)
+pub run_keeps : (events : List Event) (m : WorldState) (g : Ghost) → AllSound m g → RunFrom m events
+    → AllSound (after_all m events) (ghosts_after m g events)
 run_keeps [] m g s run = s
 run_keeps (e ∷ es) m g s run = run_keeps es (after m e) (ghost_after m g e) (event_sound m g e s run.0) run.1
 
@@ -61,7 +63,8 @@ numbers_stay_small counts events run a =
     record { serial_small = (all.actors a).few_made; number_small = (all.actors a).few_begun }
 
 -- what the running command of an actor knows
-pub knows_of : (m : WorldState) (g : Ghost) → AllSound m g → (a : ℕ) (p : Program) → (m.actors a).running ≡ Some p → Knows (world_of m g) a (m.actors a).serial (m.actors a).number p
+pub knows_of : (m : WorldState) (g : Ghost) → AllSound m g → (a : ℕ) (p : Program) → (m.actors a).running ≡ Some p
+    → Knows (world_of m g) a (m.actors a).serial (m.actors a).number p
 knows_of m g s a p is = rw is at (s.actors a).running
 
 -- so one more serial and each object's number fit
@@ -76,13 +79,15 @@ pub asked_needs : (m : WorldState) (g : Ghost) → AllSound m g → (op : OpId) 
 asked_needs m g s op q e = let by : (p : Program) × Asks m op q p = asks_by m op q e in asks_what_it_needs m g s by.0 by.1.is q by.1.ask
 
 -- and touches its actor's own alone
-pub asked_touches : (m : WorldState) (g : Ghost) → AllSound m g → (op : OpId) (q : AnyReq) → asked m op ≡ Some q → Within (touched_by q) (by_actor op.actor)
+pub asked_touches : (m : WorldState) (g : Ghost) → AllSound m g → (op : OpId) (q : AnyReq) → asked m op ≡ Some q
+    → Within (touched_by q) (by_actor op.actor)
 asked_touches m g s op q e =
     let by : (p : Program) × Asks m op q p = asks_by m op q e in
     subst (λ (o : OpId). Within (touched_by q) (by_actor o.actor)) by.1.same (touches_its_own m g s by.0 by.1.is q by.1.ask)
 
 -- an answer that a command has come to is not odd
-plain_answer : (w : World) (op : OpId) (serial : ℕ) (c : Command) (at : Phase) (a : Answer) → PhaseKnows w op serial c at → phase_answer at ≡ Some a → is_odd a ≡ false
+plain_answer : (w : World) (op : OpId) (serial : ℕ) (c : Command) (at : Phase) (a : Answer) → PhaseKnows w op serial c at
+    → phase_answer at ≡ Some a → is_odd a ≡ false
 plain_answer w op serial c (Walk d ns) a k e = absurd (grind (arith, e))
 plain_answer w op serial c (Bind key n o) a k e = absurd (grind (arith, e))
 plain_answer w op serial c (Grant key n) a k e = absurd (grind (arith, e))
@@ -91,7 +96,8 @@ plain_answer w op serial c (Release n h old b) a k e = absurd (grind (arith, e))
 plain_answer w op serial c (End b) a k e = let same : b ≡ a = cc in rw (← same) k
 
 -- the same of an op at a moment
-pub answered_plain : (m : WorldState) (g : Ghost) → AllSound m g → (op : OpId) (o : Option Program) → running m op ≡ o → (a : Answer) → program_answer o ≡ Some a → is_odd a ≡ false
+pub answered_plain : (m : WorldState) (g : Ghost) → AllSound m g → (op : OpId) (o : Option Program) → running m op ≡ o → (a : Answer)
+    → program_answer o ≡ Some a → is_odd a ≡ false
 answered_plain m g s op None e a is = absurd (grind (arith, is))
 answered_plain m g s op (Some p) e a is =
     let r : RunsAs (m.actors op.actor).running op p = running_is_of m op p e in

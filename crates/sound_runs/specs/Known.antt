@@ -48,11 +48,14 @@ new_key k c = key_in k.dir (last_name (new_path c))
 
 -- What a command knows in a phase, which keeps its requests safe. The serial is that of its actor's next object.
 abbrev pub PhaseKnows : World → OpId → ℕ → Command → Phase → Type 0
-PhaseKnows w op serial c (Walk d rest) = (was_made w.ghost (Dir d) ≡ true) × (w.ghost.given (own_hold op) ≡ None) × (serial ≤ op.number) × (is_whole c ≡ true)
+PhaseKnows w op serial c (Walk d rest) =
+    (was_made w.ghost (Dir d) ≡ true) × (w.ghost.given (own_hold op) ≡ None) × (serial ≤ op.number) × (is_whole c ≡ true)
 PhaseKnows w op serial c (Bind k n o) = IsGranted w (own_hold op) n k × (w.ghost.home n ≡ None) × (actor_of n ≡ op.actor)
 PhaseKnows w op serial c (Grant k n) =
-    (was_made w.ghost (Dir k.dir) ≡ true) × (w.ghost.given (own_hold op) ≡ None) × (k.name ≢ last_name (new_path c)) × (has_name (new_path c) ≡ true)
-PhaseKnows w op serial c (Swap k n) = IsGranted w (own_hold op) n (new_key k c) × (k.name ≢ last_name (new_path c)) × (has_name (new_path c) ≡ true)
+    (was_made w.ghost (Dir k.dir) ≡ true) × (w.ghost.given (own_hold op) ≡ None)
+    × (k.name ≢ last_name (new_path c)) × (has_name (new_path c) ≡ true)
+PhaseKnows w op serial c (Swap k n) =
+    IsGranted w (own_hold op) n (new_key k c) × (k.name ≢ last_name (new_path c)) × (has_name (new_path c) ≡ true)
 PhaseKnows w op serial c (Release n h old a) = (is_spent w h ≡ true) × OldSpent w old × (is_odd a ≡ false)
 PhaseKnows w op serial c (End a) = is_odd a ≡ false
 

@@ -70,7 +70,8 @@ module _ (w : World) (s : Sound w) (h : Hold) (n : Node) (k : Key) (granted : Is
 
 -- Bind
 module _ (w : World) (s : Sound w) (k : Key) (n : Node) (h : Hold) (o : Over) (needs : Needs w (any.Name (names.Bind k n h o))) where
-  pub bind_done : store_changes w.store (any.Name (names.Bind k n h o)) ≡ true → Kept w (done w (any.Name (names.Bind k n h o))) (any.Name (names.Bind k n h o))
+  pub bind_done : store_changes w.store (any.Name (names.Bind k n h o)) ≡ true
+      → Kept w (done w (any.Name (names.Bind k n h o))) (any.Name (names.Bind k n h o))
   bind_done ok =
       let able : dead_in w.store k.dir h.op ≡ false = grind arith in
       record {
@@ -113,10 +114,12 @@ module _ (w : World) (s : Sound w) (k : Key) (want : Want) where
   taken None = None
   taken (Some e) = Some (e.node, e.hold)
 
-  unbind_says : store_changes w.store (any.Name (names.Unbind k want)) ≡ true → as_unbound (store_reply w.store (any.Name (names.Unbind k want))) ≡ taken (get w.store.names.entries k)
+  unbind_says : store_changes w.store (any.Name (names.Unbind k want)) ≡ true
+      → as_unbound (store_reply w.store (any.Name (names.Unbind k want))) ≡ taken (get w.store.names.entries k)
   unbind_says ok = grind arith
 
-  pub unbind_done : store_changes w.store (any.Name (names.Unbind k want)) ≡ true → Kept w (done w (any.Name (names.Unbind k want))) (any.Name (names.Unbind k want))
+  pub unbind_done : store_changes w.store (any.Name (names.Unbind k want)) ≡ true
+      → Kept w (done w (any.Name (names.Unbind k want))) (any.Name (names.Unbind k want))
   unbind_done ok = record {
     sound = record {
       entries = record {
@@ -167,7 +170,9 @@ module _ (w : World) (s : Sound w) (d : DirId) (from to : List ℕ) (n : Node) (
   both_gone None old = None
   both_gone (Some e) old = Some (e.hold, gone old)
 
-  swap_says : store_changes w.store (any.Name (names.Swap d from to n h)) ≡ true → as_swapped (store_reply w.store (any.Name (names.Swap d from to n h))) ≡ both_gone (get w.store.names.entries from_key) (get w.store.names.entries to_key)
+  swap_says : store_changes w.store (any.Name (names.Swap d from to n h)) ≡ true
+      → as_swapped (store_reply w.store (any.Name (names.Swap d from to n h)))
+      ≡ both_gone (get w.store.names.entries from_key) (get w.store.names.entries to_key)
   swap_says ok = grind arith
 
   -- the node of an entry
@@ -179,7 +184,8 @@ module _ (w : World) (s : Sound w) (d : DirId) (from to : List ℕ) (n : Node) (
   swap_from : store_changes w.store (any.Name (names.Swap d from to n h)) ≡ true → node_at (get w.store.names.entries from_key) ≡ Some n
   swap_from ok = grind (arith, maps)
 
-  pub swap_done : store_changes w.store (any.Name (names.Swap d from to n h)) ≡ true → Kept w (done w (any.Name (names.Swap d from to n h))) (any.Name (names.Swap d from to n h))
+  pub swap_done : store_changes w.store (any.Name (names.Swap d from to n h)) ≡ true
+      → Kept w (done w (any.Name (names.Swap d from to n h))) (any.Name (names.Swap d from to n h))
   swap_done ok =
       let able : dead_in w.store d h.op ≡ false = grind arith in
       let was : node_at (get w.store.names.entries from_key) ≡ Some n = swap_from ok in

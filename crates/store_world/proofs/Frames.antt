@@ -2,7 +2,7 @@
 use Rattle.std.proofs.Common.{◌≡◌, Bool, true, false, refl}
 use Rattle.store_rules.specs.declared.any.AnyReq.{AnyReq}
 use Rattle.store_rules.specs.Store.{store_changes, store_reply}
-use Rattle.store_world.specs.Worlds.{World, done, refused, next}
+use Rattle.store_world.specs.Worlds.{World, done, after_refusal, next}
 use Rattle.store_world.specs.Sound.{Sound}
 use Rattle.store_world.specs.Later.{Touched, Later, Within}
 use Rattle.store_world.specs.Requests.{Taught, Kept}
@@ -47,9 +47,10 @@ weaken t u w v i l = record {
 }
 
 -- a request, refused or done
-pub by_answer : (w : World) (q : AnyReq) (b : Bool) → store_changes w.store q ≡ b → (b ≡ false → Kept w (refused w q) q) → (b ≡ true → Kept w (done w q) q) → Kept w (next w q) q
+pub by_answer : (w : World) (q : AnyReq) (b : Bool) → store_changes w.store q ≡ b → (b ≡ false → Kept w (after_refusal w q) q)
+    → (b ≡ true → Kept w (done w q) q) → Kept w (next w q) q
 by_answer w q true e stayed did = let k : Kept w (done w q) q = did refl in record { sound = rw e k.sound; later = rw e k.later; taught = rw e k.taught }
-by_answer w q false e stayed did = let k : Kept w (refused w q) q = stayed refl in record { sound = rw e k.sound; later = rw e k.later; taught = rw e k.taught }
+by_answer w q false e stayed did = let k : Kept w (after_refusal w q) q = stayed refl in record { sound = rw e k.sound; later = rw e k.later; taught = rw e k.taught }
 
 -- a request that only reads
 pub by_reading : (w : World) (q : AnyReq) → Sound w → Taught w q (store_reply w.store q) → Kept w w q

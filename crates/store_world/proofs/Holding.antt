@@ -16,7 +16,8 @@ use Rattle.store_world.specs.Requests.{Needs, Kept}
 
 -- Grant at a directory
 module _ (w : World) (s : Sound w) (d : DirId) (h : Hold) (k : Key) (needs : Needs w (any.Name (names.Grant d h k))) where
-  pub dir_granted : store_changes w.store (any.Name (names.Grant d h k)) ≡ true → Kept w (done w (any.Name (names.Grant d h k))) (any.Name (names.Grant d h k))
+  pub dir_granted : store_changes w.store (any.Name (names.Grant d h k)) ≡ true
+      → Kept w (done w (any.Name (names.Grant d h k))) (any.Name (names.Grant d h k))
   dir_granted ok = record {
     sound = record {
       entries = record {
@@ -52,7 +53,8 @@ module _ (w : World) (s : Sound w) (d : DirId) (h : Hold) (k : Key) (needs : Nee
 
 -- Grant at a file
 module _ (w : World) (s : Sound w) (f : FileId) (h : Hold) (k : Key) (needs : Needs w (any.File (files.Grant f h k))) where
-  pub file_granted : store_changes w.store (any.File (files.Grant f h k)) ≡ true → Kept w (done w (any.File (files.Grant f h k))) (any.File (files.Grant f h k))
+  pub file_granted : store_changes w.store (any.File (files.Grant f h k)) ≡ true
+      → Kept w (done w (any.File (files.Grant f h k))) (any.File (files.Grant f h k))
   file_granted ok = record {
     sound = record {
       entries = record {

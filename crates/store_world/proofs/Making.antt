@@ -11,13 +11,14 @@ use Rattle.store_rules.specs.declared.names.NameReq.TheVariants as names
 use Rattle.store_rules.specs.declared.files.FileReq.TheVariants as files
 use Rattle.store_rules.specs.declared.any.AnyReq.TheVariants as any
 use Rattle.store_rules.specs.Store.{store_changes}
-use Rattle.store_world.specs.Worlds.{World, done, refused}
+use Rattle.store_world.specs.Worlds.{World, done, after_refusal}
 use Rattle.store_world.specs.Sound.{Sound}
 use Rattle.store_world.specs.Requests.{Needs, Kept}
 
 -- MakeFile
 module _ (w : World) (s : Sound w) (f : FileId) (h : Hold) (k : Key) (t : Option OpId) (needs : Needs w (any.File (files.MakeFile f h k t))) where
-  pub file_made : store_changes w.store (any.File (files.MakeFile f h k t)) ≡ true → Kept w (done w (any.File (files.MakeFile f h k t))) (any.File (files.MakeFile f h k t))
+  pub file_made : store_changes w.store (any.File (files.MakeFile f h k t)) ≡ true
+      → Kept w (done w (any.File (files.MakeFile f h k t))) (any.File (files.MakeFile f h k t))
   file_made ok = record {
     sound = record {
       entries = record {
@@ -51,12 +52,14 @@ module _ (w : World) (s : Sound w) (f : FileId) (h : Hold) (k : Key) (t : Option
     taught = grind (arith, maps, s.nodes.named_made (File f));
   }
 
-  pub file_not_refused : store_changes w.store (any.File (files.MakeFile f h k t)) ≡ false → Kept w (refused w (any.File (files.MakeFile f h k t))) (any.File (files.MakeFile f h k t))
+  pub file_not_refused : store_changes w.store (any.File (files.MakeFile f h k t)) ≡ false
+      → Kept w (after_refusal w (any.File (files.MakeFile f h k t))) (any.File (files.MakeFile f h k t))
   file_not_refused stayed = absurd (grind (arith, maps, s.nodes.standing_made (File f)))
 
 -- MakeDir
 module _ (w : World) (s : Sound w) (d parent : DirId) (h : Hold) (k : Key) (needs : Needs w (any.Name (names.MakeDir d parent h k))) where
-  pub dir_made : store_changes w.store (any.Name (names.MakeDir d parent h k)) ≡ true → Kept w (done w (any.Name (names.MakeDir d parent h k))) (any.Name (names.MakeDir d parent h k))
+  pub dir_made : store_changes w.store (any.Name (names.MakeDir d parent h k)) ≡ true
+      → Kept w (done w (any.Name (names.MakeDir d parent h k))) (any.Name (names.MakeDir d parent h k))
   dir_made ok = record {
     sound = record {
       entries = record {
@@ -90,5 +93,6 @@ module _ (w : World) (s : Sound w) (d parent : DirId) (h : Hold) (k : Key) (need
     taught = grind (arith, maps, s.nodes.named_made (Dir d));
   }
 
-  pub dir_not_refused : store_changes w.store (any.Name (names.MakeDir d parent h k)) ≡ false → Kept w (refused w (any.Name (names.MakeDir d parent h k))) (any.Name (names.MakeDir d parent h k))
+  pub dir_not_refused : store_changes w.store (any.Name (names.MakeDir d parent h k)) ≡ false
+      → Kept w (after_refusal w (any.Name (names.MakeDir d parent h k))) (any.Name (names.MakeDir d parent h k))
   dir_not_refused stayed = absurd (grind (arith, maps, s.nodes.standing_made (Dir d)))

@@ -22,7 +22,7 @@ use Rattle.store_rules.specs.declared.any.AnyReq.TheVariants as any
 use Rattle.store_rules.specs.Names.{key_in}
 use Rattle.store_rules.specs.Store.{opening_store, store_changes, store_reply}
 use Rattle.store_rules.specs.Views.{as_found, as_bound, as_swapped, as_unbound}
-use Rattle.store_world.specs.Worlds.{World, refused, next, opening_ghost}
+use Rattle.store_world.specs.Worlds.{World, after_refusal, next, opening_ghost}
 use Rattle.store_world.specs.Sound.{Sound, was_made}
 use Rattle.store_world.specs.Requests.{Needs, Kept, FoundTaught, GrantTaught, UnboundTaught}
 use Rattle.store_world.proofs.Frames.{by_answer, by_reading}
@@ -37,19 +37,25 @@ named_was_made w s k e is = s.nodes.named_made e.node (grind (arith, s.entries.a
 look_taught : (w : World) (s : Sound w) (k : Key) → FoundTaught w (as_found (store_reply w.store (any.Name (names.Look k))))
 look_taught w s k = grind (arith, named_was_made w s k)
 
-unbind_refused : (w : World) (k : Key) (want : Want) → store_changes w.store (any.Name (names.Unbind k want)) ≡ false → UnboundTaught w (as_unbound (store_reply w.store (any.Name (names.Unbind k want))))
+unbind_refused : (w : World) (k : Key) (want : Want) → store_changes w.store (any.Name (names.Unbind k want)) ≡ false
+    → UnboundTaught w (as_unbound (store_reply w.store (any.Name (names.Unbind k want))))
 unbind_refused w k want stayed = grind arith
 
-bind_says : (w : World) (k : Key) (n : Node) (h : Hold) (o : Over) → store_changes w.store (any.Name (names.Bind k n h o)) ≡ false → as_bound (store_reply w.store (any.Name (names.Bind k n h o))) ≡ None
+bind_says : (w : World) (k : Key) (n : Node) (h : Hold) (o : Over) → store_changes w.store (any.Name (names.Bind k n h o)) ≡ false
+    → as_bound (store_reply w.store (any.Name (names.Bind k n h o))) ≡ None
 bind_says w k n h o stayed = grind arith
 
-swap_says_none : (w : World) (d : DirId) (from to : List ℕ) (n : Node) (h : Hold) → store_changes w.store (any.Name (names.Swap d from to n h)) ≡ false → as_swapped (store_reply w.store (any.Name (names.Swap d from to n h))) ≡ None
+swap_says_none : (w : World) (d : DirId) (from to : List ℕ) (n : Node) (h : Hold)
+    → store_changes w.store (any.Name (names.Swap d from to n h)) ≡ false
+    → as_swapped (store_reply w.store (any.Name (names.Swap d from to n h))) ≡ None
 swap_says_none w d from to n h stayed = grind arith
 
-dir_grant_refused : (w : World) (d : DirId) (h : Hold) (k : Key) → store_changes w.store (any.Name (names.Grant d h k)) ≡ false → GrantTaught w (Dir d) h k (store_reply w.store (any.Name (names.Grant d h k)))
+dir_grant_refused : (w : World) (d : DirId) (h : Hold) (k : Key) → store_changes w.store (any.Name (names.Grant d h k)) ≡ false
+    → GrantTaught w (Dir d) h k (store_reply w.store (any.Name (names.Grant d h k)))
 dir_grant_refused w d h k stayed = grind arith
 
-file_grant_refused : (w : World) (f : FileId) (h : Hold) (k : Key) → store_changes w.store (any.File (files.Grant f h k)) ≡ false → GrantTaught w (File f) h k (store_reply w.store (any.File (files.Grant f h k)))
+file_grant_refused : (w : World) (f : FileId) (h : Hold) (k : Key) → store_changes w.store (any.File (files.Grant f h k)) ≡ false
+    → GrantTaught w (File f) h k (store_reply w.store (any.File (files.Grant f h k)))
 file_grant_refused w f h k stayed = grind arith
 
 same_hold : (h : Hold) → hold_eq h h ≡ true
@@ -57,7 +63,8 @@ same_hold h = grind (arith, keys)
 
 -- a bind that is refused gives its hold up
 module _ (w : World) (s : Sound w) (k : Key) (n : Node) (h : Hold) (o : Over) (needs : Needs w (any.Name (names.Bind k n h o))) where
-  bind_refused : store_changes w.store (any.Name (names.Bind k n h o)) ≡ false → Kept w (refused w (any.Name (names.Bind k n h o))) (any.Name (names.Bind k n h o))
+  bind_refused : store_changes w.store (any.Name (names.Bind k n h o)) ≡ false
+      → Kept w (after_refusal w (any.Name (names.Bind k n h o))) (any.Name (names.Bind k n h o))
   bind_refused stayed = record {
     sound = given_up_sound w s h n k needs.0;
     later = given_up_later w s h n k needs.0 _ (same_hold h);
@@ -65,7 +72,8 @@ module _ (w : World) (s : Sound w) (k : Key) (n : Node) (h : Hold) (o : Over) (n
   }
 
 module _ (w : World) (s : Sound w) (d : DirId) (from to : List ℕ) (n : Node) (h : Hold) (needs : Needs w (any.Name (names.Swap d from to n h))) where
-  swap_refused : store_changes w.store (any.Name (names.Swap d from to n h)) ≡ false → Kept w (refused w (any.Name (names.Swap d from to n h))) (any.Name (names.Swap d from to n h))
+  swap_refused : store_changes w.store (any.Name (names.Swap d from to n h)) ≡ false
+      → Kept w (after_refusal w (any.Name (names.Swap d from to n h))) (any.Name (names.Swap d from to n h))
   swap_refused stayed = record {
     sound = given_up_sound w s h n (key_in d to) needs.0;
     later = given_up_later w s h n (key_in d to) needs.0 _ (same_hold h);

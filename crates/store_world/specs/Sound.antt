@@ -51,7 +51,8 @@ leads None = None
 leads (Some g) = Some (g.lower, uppers.Entry g.upper)
 
 -- of the entries: each one's hold is bound at just its key, and its node is at home there
-pub record SoundEntries (entries : FinMap key_cmp Entry) (standing : DirId → Bool) (given : Hold → Option Given) (home : Node → Option Key) : Type 0 where
+pub record SoundEntries (entries : FinMap key_cmp Entry) (standing : DirId → Bool) (given : Hold → Option Given)
+    (home : Node → Option Key) : Type 0 where
   pub bound : (k : Key) (e : Entry) → get entries k ≡ Some e → given e.hold ≡ Some record { lower = e.node; upper = k; phase = Set }
   pub at_home : (k : Key) (e : Entry) → get entries k ≡ Some e → home e.node ≡ Some k
   pub in_dir : (k : Key) → is_some (get entries k) ≡ true → standing k.dir ≡ true
@@ -59,9 +60,11 @@ pub record SoundEntries (entries : FinMap key_cmp Entry) (standing : DirId → B
   pub set : (h : Hold) (g : Given) → given h ≡ Some g → g.phase ≡ Set → hold_of (get entries g.upper) ≡ Some h
 
 -- of the holds: what is bound is listed, and so is what may still be bound
-pub record SoundHolds (lists : Node → Hold → Option Upper) (dead : DirId → OpId → Bool) (given : Hold → Option Given) (made : Node → Bool) : Type 0 where
+pub record SoundHolds (lists : Node → Hold → Option Upper) (dead : DirId → OpId → Bool) (given : Hold → Option Given)
+    (made : Node → Bool) : Type 0 where
   pub set : (h : Hold) (g : Given) → given h ≡ Some g → g.phase ≡ Set → lists g.lower h ≡ Some (uppers.Entry g.upper)
-  pub live : (h : Hold) (g : Given) → given h ≡ Some g → g.phase ≡ Live → dead g.upper.dir h.op ≡ false → lists g.lower h ≡ Some (uppers.Entry g.upper)
+  pub live : (h : Hold) (g : Given) → given h ≡ Some g → g.phase ≡ Live → dead g.upper.dir h.op ≡ false
+      → lists g.lower h ≡ Some (uppers.Entry g.upper)
   -- what a node lists, was granted so
   pub listed : (n : Node) (h : Hold) (u : Upper) → lists n h ≡ Some u → leads (given h) ≡ Some (n, u)
   pub lower_made : (h : Hold) (g : Given) → given h ≡ Some g → made g.lower ≡ true

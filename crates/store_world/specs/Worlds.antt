@@ -65,7 +65,8 @@ without_entry given k (Some e) = with_hold given e.hold (Some record { lower = e
 
 -- a node is made, with a hold for that key
 abbrev pub ghost_made : Ghost → Node → Hold → Key → Ghost
-ghost_made g n h k = record g { made = set_at g.made n (Some tt); given = with_hold g.given h (Some record { lower = n; upper = k; phase = Live }) }
+ghost_made g n h k =
+    record g { made = set_at g.made n (Some tt); given = with_hold g.given h (Some record { lower = n; upper = k; phase = Live }) }
 
 -- a hold is granted for that key
 abbrev pub ghost_granted : Ghost → Node → Hold → Key → Ghost
@@ -95,7 +96,8 @@ name_ghost s g (names.List d) = g
 name_ghost s g (names.MakeDir d p h k) = ghost_made g (Dir d) h k
 name_ghost s g (names.Bind k n h o) = ghost_bound g (get s.names.entries k) k n h
 name_ghost s g (names.Swap d from to n h) =
-    ghost_bound (ghost_unbound g (get s.names.entries (key_in d from)) (key_in d from)) (get s.names.entries (key_in d to)) (key_in d to) n h
+    ghost_bound (ghost_unbound g (get s.names.entries (key_in d from)) (key_in d from))
+    (get s.names.entries (key_in d to)) (key_in d to) n h
 name_ghost s g (names.Unbind k w) = ghost_unbound g (get s.names.entries k) k
 name_ghost s g (names.Grant d h k) = ghost_granted g (Dir d) h k
 name_ghost s g (names.Release d h) = g
@@ -131,8 +133,8 @@ abbrev pub done : World → AnyReq → World
 done w q = record { store = store_change w.store q; ghost = ghost_change w.store w.ghost q }
 
 -- the world after a request that leaves the store
-abbrev pub refused : World → AnyReq → World
-refused w q = record { store = w.store; ghost = ghost_refused w.ghost q }
+abbrev pub after_refusal : World → AnyReq → World
+after_refusal w q = record { store = w.store; ghost = ghost_refused w.ghost q }
 
 -- the world after a request
 abbrev pub next : World → AnyReq → World

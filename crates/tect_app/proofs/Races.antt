@@ -5,7 +5,7 @@ use Rattle.tect_ids.specs.declared.script.Plan.{Plan}
 use Rattle.tect_ids.specs.declared.script.ReportLine.{ReportLine}
 use Rattle.tect_edge.specs.Prefixes.{AppendsProperPrefix}
 use Rattle.place_kit.specs.declared.any.AnyKept.{AnyKept}
-use Rattle.place_kit.specs.declared.pass.Pass.{Pass}
+use Rattle.passes.specs.declared.pass.Pass.{Pass}
 use Rattle.race_ends.specs.Raced.{IsRaced}
 use Rattle.run_claims.proofs.Claims.{every_run_is_claimed}
 use Rattle.tect_app.specs.RaceEnds.{race_text, IsRaceShown, IsRaceCut}

@@ -23,7 +23,7 @@ use Rattle.run_claims.proofs.Claims.{every_run_is_claimed}
 use Rattle.script_runs.proofs.Fixed.{script_fixes_run}
 use Rattle.sound_runs.proofs.RunsKeep.{no_run_answers_odd}
 use Rattle.world_runs.proofs.Actors.{after_all-append}
-use Rattle.world_runs.proofs.Histories.{run-append}
+use Rattle.script_runs.proofs.Histories.{run-append}
 use Rattle.session_runs.proofs.Scripts.{session_reported}
 use Rattle.tect_replay.specs.Replays.{IsReplayed, IsCutReplay}
 use Rattle.tect_app.specs.Replays.{IsNotOdd, IsHistoryOf, IsReplayShown, IsReplayCut}

@@ -10,4 +10,4 @@ keeps_first room kept piece within =
     let order : min (length piece) spare ≡ min spare (length piece) = omega arith in
     let whole : length kept + spare ≡ room = omega arith in
     ap (λ n. kept ++ take n piece) order ∙ ap (λ l. kept ++ l) (take_min spare piece) ∙ sym (take-append-add kept piece spare) ∙ ap
-        (λ n. take n (kept ++ piece)) whole
+    (λ n. take n (kept ++ piece)) whole

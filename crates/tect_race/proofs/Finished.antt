@@ -12,7 +12,7 @@ use Rattle.world_runs.specs.Limits.{OwnLimits}
 use Rattle.world_runs.specs.OwnRuns.{OwnRun}
 use Rattle.clients.specs.Lives.{ClientLife, events_in, IsLife}
 use Rattle.noted_runs.proofs.Rooms.{own_notes}
-use Rattle.place_kit.specs.declared.pass.Pass.{Pass}
+use Rattle.passes.specs.declared.pass.Pass.{Pass}
 use Rattle.race_runs.specs.Stories.{Part, Story, AllSilent, all_moments, all_events}
 use Rattle.players.specs.declared.racer.Racer.{Racer}
 use Rattle.players.specs.Lives.{busy_in}

@@ -11,7 +11,7 @@ use Rattle.tect_ids.specs.declared.script.ReportLine.{ReportLine}
 use Rattle.entry_words.specs.Moments.{stamp_of}
 use Rattle.world_runs.specs.Turns.{all_idle}
 use Rattle.clients.specs.Lives.{ClientLife, idle_life, events_in, state_in}
-use Rattle.place_kit.specs.declared.pass.Pass.{Pass}
+use Rattle.passes.specs.declared.pass.Pass.{Pass}
 use Rattle.race_runs.specs.Stories.{Story, Part}
 use Rattle.race_runs.specs.Gathered.{IsLineOf, is_dump, answers_now, part_of, rest_of}
 use Rattle.race_runs.proofs.Growing.{no_story, dumped}

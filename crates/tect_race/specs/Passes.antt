@@ -1,6 +1,6 @@
 -- The passes of the clients of a race.
 use Rattle.std.specs.Prelude.{◌≡◌}
-use Rattle.place_kit.specs.declared.pass.Pass.{Pass}
+use Rattle.passes.specs.declared.pass.Pass.{Pass}
 use Rattle.players.specs.declared.racer.Racer.{Racer}
 
 -- it is what the client noted

@@ -11,7 +11,7 @@ use crate::part_ends::end_part;
 use crate::threads::run_part;
 use crate::workers::Shared;
 use clients::Client;
-use place_kit::Pass;
+use passes::Pass;
 use players::Racer;
 use race_ends::{EndedPart, RaceFault};
 use std::alloc::Global;

@@ -14,7 +14,7 @@ use Rattle.world_runs.specs.Moments.{opening, moment, IsWorldRun}
 use Rattle.world_runs.specs.Follows.{Follows, FollowsFrom}
 use Rattle.world_runs.specs.Turns.{Turns, TakesAct, turn_after, with_turn, all_idle, turns_after, InTurn, InTurnFrom}
 use Rattle.world_runs.specs.Report.{report_after}
-use Rattle.world_runs.proofs.Histories.{report-append}
+use Rattle.script_runs.proofs.Histories.{report-append}
 use Rattle.world_runs.specs.Standing.{busy_at}
 use Rattle.world_runs.specs.Smooth.{EndsAtOnce}
 use Rattle.script_runs.proofs.AtOnce.{at_once-append}

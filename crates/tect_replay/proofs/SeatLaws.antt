@@ -11,7 +11,7 @@ use Rattle.world_runs.specs.Smooth.{EndsAtOnce}
 use Rattle.world_runs.specs.Standing.{op_of}
 use Rattle.world_runs.proofs.Actors.{own-append}
 use Rattle.world_runs.proofs.Owns.{actors_are_their_own, counts_stay}
-use Rattle.world_runs.proofs.Running.{running_is_last_begun}
+use Rattle.script_runs.proofs.Running.{running_is_last_begun}
 use Rattle.script_runs.proofs.AtOnce.{at_once-append}
 use Rattle.tect_world.specs.Life.{Life, present, grown, last_op}
 use Rattle.tect_world.proofs.Lives.{present-grown}

@@ -15,7 +15,7 @@ use Rattle.world_runs.specs.Moments.{Actor, WorldState, IsWorldRun, RunFrom, aft
 use Rattle.world_runs.specs.Smooth.{EndIsNext, EndsAtOnce}
 use Rattle.world_runs.specs.Races.{is_own}
 use Rattle.world_runs.proofs.Actors.{own-append, own-here}
-use Rattle.world_runs.proofs.Histories.{run-rest}
+use Rattle.script_runs.proofs.Histories.{run-rest}
 use Rattle.script_runs.proofs.AtOnce.{not_both}
 use Rattle.clients.specs.declared.turned.Turned.{Turned}
 use Rattle.clients.specs.declared.turned.Turned.TheVariants.{Going, Done}

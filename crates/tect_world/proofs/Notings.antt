@@ -7,7 +7,7 @@ use Rattle.entry_words.specs.declared.entry.Entry.{Entry}
 use Rattle.entry_words.specs.declared.entry.Note.{Note}
 use Rattle.entry_words.specs.declared.entry.Moment.{Moment}
 use Rattle.entry_words.specs.declared.entry.Moment.TheVariants.{Act, Local}
-use Rattle.place_kit.proofs.Pushes.{rises-raised, rises-push}
+use Rattle.passes.proofs.Pushes.{rises-raised, rises-push}
 use Rattle.tect_world.specs.Noted.{AreNoted}
 use Rattle.merge_runs.proofs.Order.{In}
 use Rattle.merge_runs.proofs.Members.{in_from_contains, contains_from_in, in_append, in_append_left, in_append_right}

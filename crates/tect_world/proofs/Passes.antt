@@ -8,7 +8,7 @@ use Rattle.std.proofs.lemmas.Option.{slice_get_within}
 use Rattle.tect_ids.specs.declared.ids.Counts.{Counts}
 use Rattle.tect_ids.proofs.KeyTests.{num_eq_cases}
 use Rattle.entry_words.specs.declared.entry.Moment.{Moment}
-use Rattle.place_kit.specs.declared.pass.Pass.{Pass}
+use Rattle.passes.specs.declared.pass.Pass.{Pass}
 use Rattle.clients.specs.Lives.{ClientLife, idle_life}
 use Rattle.merge_runs.specs.Merged.{HaveDifferentActors, moments_of}
 use Rattle.merge_runs.proofs.Laws.{different_more, different_none}

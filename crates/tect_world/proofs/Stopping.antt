@@ -15,7 +15,7 @@ use Rattle.entry_words.specs.declared.entry.Moment.{Moment}
 use Rattle.entry_words.specs.declared.entry.Moment.TheVariants.{Local}
 use Rattle.entry_words.specs.declared.entry.Note.TheVariants as notes
 use Rattle.entry_words.specs.Moments.{running_in, running_after}
-use Rattle.place_kit.proofs.Pushes.{running_in-push}
+use Rattle.passes.proofs.Pushes.{running_in-push}
 use Rattle.world_runs.specs.declared.event.Event.{Event}
 use Rattle.world_runs.specs.declared.event.Event.TheVariants.{Stopped, Failed}
 use Rattle.world_runs.specs.Moments.{program_of}

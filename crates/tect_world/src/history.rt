@@ -8,7 +8,8 @@ ghost use Rattle.tect_world.specs.Told.{IsPassOf, IsOneList};
 use clients::Client;
 use entry_words::Moment;
 use merge_runs::{GatherFault, gather};
-use place_kit::{AnyKept, Pass};
+use passes::Pass;
+use place_kit::AnyKept;
 use std::alloc::Global;
 use tect_ids::NoMemory;
 

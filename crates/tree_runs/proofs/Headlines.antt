@@ -1,5 +1,6 @@
 -- each answer is the one that the tree gives at the command's point
-use Rattle.std.proofs.Common.{◌≡◌, ◌≢◌, ◌<◌, ◌⊎◌, ℕ, zero, suc, Bool, true, false, ◌||◌, if◌then◌else◌, Option, Some, None, List, [], ◌∷◌, ◌++◌, refl, sym, ap, subst, ◌∙◌, arith, inl, inr, append_assoc, take}
+use Rattle.std.proofs.Common.{◌≡◌, ◌≢◌, ◌<◌, ◌⊎◌, ℕ, zero, suc, Bool, true, false, ◌||◌, if◌then◌else◌, Option, Some, None, List, [], ◌∷◌}
+use Rattle.std.proofs.Common.{◌++◌, refl, sym, ap, subst, ◌∙◌, arith, inl, inr, append_assoc, take}
 use Rattle.std.specs.List.{slice_get}
 use Rattle.std.proofs.lemmas.List.{append-nil}
 use Rattle.tect_ids.specs.declared.ids.Counts.{Counts}
@@ -23,10 +24,11 @@ use Rattle.world_runs.specs.Served.{IsServed}
 use Rattle.world_runs.specs.declared.event.Event.{Event}
 use Rattle.world_runs.specs.declared.event.Event.TheVariants.{Began, Refused, Acted, Ended, Stopped, Failed, Dumped}
 use Rattle.program_rules.specs.Lacks.{no_room}
-use Rattle.world_runs.specs.Moments.{Actor, WorldState, opening, May, CanBegin, after, after_all, RunFrom, IsWorldRun, asked, program_answer, program_of, heard, with_actor}
-use Rattle.world_runs.specs.TreeSteps.{Told, told_of, tree_steps, tree_step, says, tree_after, IsTreeRun}
-use Rattle.world_runs.specs.Points.{of_op, Walked, LacksName}
-use Rattle.world_runs.specs.Headline.{begun_by, or_later, command_of, refuses, was_refused, Explains, HadNoRoom, Headline}
+use Rattle.world_runs.specs.Moments.{Actor, WorldState, opening, May, CanBegin, after, after_all, RunFrom, IsWorldRun, asked}
+use Rattle.world_runs.specs.Moments.{program_answer, program_of, heard, with_actor}
+use Rattle.claim_words.specs.TreeSteps.{Told, told_of, tree_steps, tree_step, says, tree_after, IsTreeRun}
+use Rattle.claim_words.specs.Points.{of_op, Walked, LacksName}
+use Rattle.claim_words.specs.Headline.{begun_by, or_later, command_of, refuses, was_refused, Explains, HadNoRoom, Headline}
 use Rattle.world_runs.proofs.Actors.{changed}
 use Rattle.tree_runs.specs.View.{view, AllMade, MakesNew}
 use Rattle.tree_runs.proofs.Tracks.{Tracks, Knows, opening_tracks}
@@ -75,13 +77,15 @@ record AllTold (h : List Event) (m : WorldState) : Type 0 where
   unbegun : (op : OpId) → (m.actors op.actor).number < op.number → command_of h op ≡ None
   unasked : (op : OpId) → (m.actors op.actor).number < op.number → of_op op (tree_steps h) ≡ []
 
-tells_stay : (h : List Event) (e : Event) (o : Option Program) → ((p : Program) → o ≡ Some p → of_op p.op (told_of e) ≡ []) → Tells h o → Tells (h ++ e ∷ []) o
+tells_stay : (h : List Event) (e : Event) (o : Option Program) → ((p : Program) → o ≡ Some p → of_op p.op (told_of e) ≡ []) → Tells h o
+    → Tells (h ++ e ∷ []) o
 tells_stay h e None other t = tt
 tells_stay h e (Some p) other (inl t) =
     inl (command_more h e p.op ∙ ap (λ z. or_later z (begun_by e p.op)) t.0, rw (steps_more h e) (phase_stays (tree_steps h) (told_of e) p.op p.command p.phase (other p refl) t.1))
 tells_stay h e (Some p) other (inr t) = inr (refused_still h (e ∷ []) p.op t.0, t.1)
 
-tracked_more : (h : List Event) (m : WorldState) (e : Event) → Tracks m (tree_after opening_tree (tree_steps h)) → May m e → Tracks (after m e) (tree_after opening_tree (tree_steps (h ++ e ∷ [])))
+tracked_more : (h : List Event) (m : WorldState) (e : Event) → Tracks m (tree_after opening_tree (tree_steps h)) → May m e
+    → Tracks (after m e) (tree_after opening_tree (tree_steps (h ++ e ∷ [])))
 tracked_more h m e tracks may = rw (steps_more h e, tree_after-append opening_tree (tree_steps h) (told_of e)) (event_tracked m _ e tracks may).0
 
 -- ---- an event that is no step
@@ -97,7 +101,8 @@ module _ (h : List Event) (m : WorldState) (t : AllTold h m) (e : Event) (no_ste
   quiet_unasked op late = rw same_steps (t.unasked op late)
 
   -- a command ends or stops
-  rests : (a : ℕ) (state : Actor) → state.number ≡ (m.actors a).number → state.running ≡ None → ((op : OpId) → begun_by e op ≡ None) → Tracks (with_actor m a state) (tree_after opening_tree (tree_steps (h ++ e ∷ [])))
+  rests : (a : ℕ) (state : Actor) → state.number ≡ (m.actors a).number → state.running ≡ None → ((op : OpId) → begun_by e op ≡ None)
+      → Tracks (with_actor m a state) (tree_after opening_tree (tree_steps (h ++ e ∷ [])))
       → AllTold (h ++ e ∷ []) (with_actor m a state)
   rests a state number idle no_begin tracks = record {
     tracks = tracks;
@@ -145,7 +150,8 @@ module _ (h : List Event) (m : WorldState) (t : AllTold h m) (op : OpId) (c : Co
   starts : (ns : List (List ℕ)) → Walked root ns (of_op op told_then) root ns
   starts ns = rw (same_steps h m t began refl, t.unasked op late) (refl, refl)
 
-  root_tells : (d : Command) (p : List (List ℕ)) → Walked root (way d) (of_op op told_then) root (but_last p) → (p ≡ [] → LacksName d) → PhaseTells told_then op d (from_root p (but_last p))
+  root_tells : (d : Command) (p : List (List ℕ)) → Walked root (way d) (of_op op told_then) root (but_last p) → (p ≡ [] → LacksName d)
+      → PhaseTells told_then op d (from_root p (but_last p))
   root_tells d [] w lacks = inr (lacks refl, refl)
   root_tells d (n ∷ ns) w lacks = w
 
@@ -246,7 +252,8 @@ module _ (h : List Event) (m : WorldState) (t : AllTold h m) (op : OpId) (q : An
   before : WasBegun h p
   before = begun_before known
 
-  heard_tells : PhaseTells (tree_steps h ++ told_of did) op p.command (phase_hear (request_place m.counts q) op (object_number op.actor (m.actors op.actor).serial) p.command p.phase x)
+  heard_tells : PhaseTells (tree_steps h ++ told_of did) op p.command
+      (phase_hear (request_place m.counts q) op (object_number op.actor (m.actors op.actor).serial) p.command p.phase x)
   heard_tells =
       let so_far : PhaseTells (tree_steps h) op p.command p.phase = rw asking.its at before.1 in
       let heard : HeardTells m.store tree.made (request_place m.counts q) (object_number op.actor (m.actors op.actor).serial) (tree_steps h) op p.command p.phase (Some q) =
@@ -319,16 +326,19 @@ run-take m es zero run = tt
 run-take m [] (suc place) run = tt
 run-take m (e ∷ es) (suc place) run = (run.0, run-take (after m e) es place run.1)
 
-may_at : (m : WorldState) (es : List Event) (place : ℕ) (e : Event) → RunFrom m es → slice_get es place ≡ Some e → May (after_all m (take place es)) e
+may_at : (m : WorldState) (es : List Event) (place : ℕ) (e : Event) → RunFrom m es → slice_get es place ≡ Some e
+    → May (after_all m (take place es)) e
 may_at m [] place e run is = absurd (let z : None ≡ Some e = is in cc)
 may_at m (d ∷ es) zero e run is = let same : d ≡ e = cc in subst (λ (z : Event). May m z) same run.0
 may_at m (d ∷ es) (suc place) e run is = may_at (after m d) es place e run.1 is
 
-told_at : (counts : Counts) (events : List Event) (place : ℕ) → IsWorldRun counts events → AllTold (take place events) (after_all (opening counts) (take place events))
+told_at : (counts : Counts) (events : List Event) (place : ℕ) → IsWorldRun counts events
+    → AllTold (take place events) (after_all (opening counts) (take place events))
 told_at counts events place run = run_told [] (opening counts) (take place events) (opening_told counts) (run-take (opening counts) events place run)
 
 -- a command that has come to its answer
-explains : (h : List Event) (op : OpId) (c : Command) (at : Phase) (a : Answer) → command_of h op ≡ Some c → phase_answer at ≡ Some a → PhaseTells (tree_steps h) op c at → Explains h op a
+explains : (h : List Event) (op : OpId) (c : Command) (at : Phase) (a : Answer) → command_of h op ≡ Some c → phase_answer at ≡ Some a
+    → PhaseTells (tree_steps h) op c at → Explains h op a
 explains h op c (End b) a begun e p = let same : b ≡ a = cc in rw (← same) record { command = c; begun = begun; because = p }
 explains h op c (Walk d ns) a begun e p = absurd (let z : None ≡ Some a = e in cc)
 explains h op c (Bind k n o) a begun e p = absurd (let z : None ≡ Some a = e in cc)
@@ -344,11 +354,13 @@ no_room_said h p a e r =
     (r.0, same)
 
 -- the one or the other
-answer_told : (h : List Event) (p : Program) (a : Answer) → phase_answer p.phase ≡ Some a → Tells h (Some p) → Explains h p.op a ⊎ HadNoRoom h p.op a
+answer_told : (h : List Event) (p : Program) (a : Answer) → phase_answer p.phase ≡ Some a → Tells h (Some p)
+    → Explains h p.op a ⊎ HadNoRoom h p.op a
 answer_told h p a e (inl t) = inl (explains h p.op p.command p.phase a t.0 e t.1)
 answer_told h p a e (inr r) = inr (no_room_said h p a e r)
 
-explained : (h : List Event) (op : OpId) (a : Answer) (o : Option Program) → program_answer (program_of o op) ≡ Some a → Tells h o → Explains h op a ⊎ HadNoRoom h op a
+explained : (h : List Event) (op : OpId) (a : Answer) (o : Option Program) → program_answer (program_of o op) ≡ Some a → Tells h o
+    → Explains h op a ⊎ HadNoRoom h op a
 explained h op a None e t = absurd (let z : None ≡ Some a = e in cc)
 explained h op a (Some p) e t = at (op_eq p.op op) refl e
   where

@@ -5,7 +5,7 @@ use Rattle.store_rules.specs.declared.any.AnyReq.{AnyReq}
 use Rattle.tree_model.specs.Tree.{Tree}
 use Rattle.world_runs.specs.declared.event.Event.{Event}
 use Rattle.world_runs.specs.Moments.{WorldState, asked}
-use Rattle.world_runs.specs.TreeSteps.{told_of, tree_steps}
+use Rattle.claim_words.specs.TreeSteps.{told_of, tree_steps}
 use Rattle.tree_runs.proofs.Tracks.{Tracks, Knows}
 use Rattle.tree_runs.proofs.Runs.{Asks, asks_of}
 

@@ -1,5 +1,6 @@
 -- what a running command's own request makes, and what the command knows after it
-use Rattle.std.proofs.Common.{◌≡◌, ◌≢◌, ◌≤◌, ◌+◌, ◌⊎◌, inl, inr, ℕ, Bool, true, false, if◌then◌else◌, Option, Some, None, List, [], ◌∷◌, refl, arith}
+use Rattle.std.proofs.Common.{◌≡◌, ◌≢◌, ◌≤◌, ◌+◌, ◌⊎◌, inl, inr, ℕ, Bool, true, false, if◌then◌else◌, Option, Some, None, List, [], ◌∷◌}
+use Rattle.std.proofs.Common.{refl, arith}
 use Rattle.std.specs.FinMap.{get}
 use Rattle.tect_ids.specs.declared.ids.DirId.{DirId}
 use Rattle.tect_ids.specs.declared.ids.FileId.{FileId}
@@ -37,9 +38,11 @@ use Rattle.tree_model.specs.Tree.{Tree, tree_next, tree_change}
 use Rattle.program_rules.specs.declared.program.Phase.{Phase}
 use Rattle.program_rules.specs.declared.program.Phase.TheVariants.{Walk, Bind, Grant, Swap, Release, End}
 use Rattle.program_rules.specs.Paths.{last_name}
-use Rattle.program_rules.specs.Programs.{object_number, own_hold, new_path, at_last, first_ask, phase_ask, phase_hear, first_hear, grant_ask, release_ask, look_ask, refusal, walked, looked, look_heard, checked, entries_heard, unbound_heard, source_heard, then_release, bound_heard, swapped_heard}
+use Rattle.program_rules.specs.Programs.{object_number, own_hold, new_path, at_last, first_ask, phase_ask, phase_hear, first_hear}
+use Rattle.program_rules.specs.Programs.{grant_ask, release_ask, look_ask, refusal, walked, looked, look_heard, checked, entries_heard}
+use Rattle.program_rules.specs.Programs.{unbound_heard, source_heard, then_release, bound_heard, swapped_heard}
 use Rattle.world_runs.specs.Moments.{next_serial}
-use Rattle.world_runs.specs.TreeSteps.{told_as, tree_step, says, tree_after, where_refused}
+use Rattle.claim_words.specs.TreeSteps.{told_as, tree_step, says, tree_after, where_refused}
 use Rattle.tree_runs.specs.View.{Made, view, AllMade, MakesNew}
 use Rattle.tree_runs.proofs.Tracks.{PhaseKnows, new_name, dir_at, file_at}
 
@@ -66,7 +69,8 @@ made_same : (t : Tree) (st : TreeStep) (x : TreeReply) → (tree_change t st).ma
 made_same t st (Ok shown) e = e
 made_same t st (Refused why) e = refl
 
-refused_same : (t : Tree) (op : OpId) (st : TreeStep) (x : TreeReply) → (tree_change t st).made ≡ t.made → (o : Option TreeStep) → (o ≡ Some st) ⊎ (o ≡ None) → (tree_after t (told_as op o x)).made ≡ t.made
+refused_same : (t : Tree) (op : OpId) (st : TreeStep) (x : TreeReply) → (tree_change t st).made ≡ t.made → (o : Option TreeStep)
+    → (o ≡ Some st) ⊎ (o ≡ None) → (tree_after t (told_as op o x)).made ≡ t.made
 refused_same t op st x e o (inl is) = rw is (made_same t st x e)
 refused_same t op st x e o (inr is) = rw is refl
 
@@ -109,24 +113,29 @@ module _ (s : Store) (made : Made) (op : OpId) where
 
 -- ---- and those that make one
 module _ (s : Store) (made : Made) (op : OpId) (i : ℕ) (all : AllMade s made) where
-  pub make_dir_made : (d p : DirId) (h : Hold) (k : Key) → get made (nodes.Dir d) ≡ None → is_made (store_reply s (any.Name (names.MakeDir d p h k))) ≡ true
+  pub make_dir_made : (d p : DirId) (h : Hold) (k : Key) → get made (nodes.Dir d) ≡ None
+      → is_made (store_reply s (any.Name (names.MakeDir d p h k))) ≡ true
   make_dir_made d p h k new = grind (arith, all (nodes.Dir d))
 
-  pub make_file_made : (f : FileId) (h : Hold) (k : Key) → get made (nodes.File f) ≡ None → is_made (store_reply s (any.File (files.MakeFile f h k None))) ≡ true
+  pub make_file_made : (f : FileId) (h : Hold) (k : Key) → get made (nodes.File f) ≡ None
+      → is_made (store_reply s (any.File (files.MakeFile f h k None))) ≡ true
   make_file_made f h k new = grind (arith, all (nodes.File f))
 
   dir_no_other : (d p : DirId) (h : Hold) (k : Key) → d.0 ≡ i → MakesNoOther i made (made_next s made op (any.Name (names.MakeDir d p h k)))
   dir_no_other d p h k is (nodes.Dir e) other none = grind (arith, maps)
   dir_no_other d p h k is (nodes.File e) other none = grind (arith, maps)
 
-  file_no_other : (f : FileId) (h : Hold) (k : Key) → f.0 ≡ i → MakesNoOther i made (made_next s made op (any.File (files.MakeFile f h k None)))
+  file_no_other : (f : FileId) (h : Hold) (k : Key) → f.0 ≡ i
+      → MakesNoOther i made (made_next s made op (any.File (files.MakeFile f h k None)))
   file_no_other f h k is (nodes.Dir e) other none = grind (arith, maps)
   file_no_other f h k is (nodes.File e) other none = grind (arith, maps)
 
-  make_dir_makes : (d p : DirId) (h : Hold) (k : Key) → d.0 ≡ i → get made (nodes.Dir d) ≡ None → Makes s made op i (any.Name (names.MakeDir d p h k))
+  make_dir_makes : (d p : DirId) (h : Hold) (k : Key) → d.0 ≡ i → get made (nodes.Dir d) ≡ None
+      → Makes s made op i (any.Name (names.MakeDir d p h k))
   make_dir_makes d p h k is new = inr (make_dir_made d p h k new, dir_no_other d p h k is)
 
-  make_file_makes : (f : FileId) (h : Hold) (k : Key) → f.0 ≡ i → get made (nodes.File f) ≡ None → Makes s made op i (any.File (files.MakeFile f h k None))
+  make_file_makes : (f : FileId) (h : Hold) (k : Key) → f.0 ≡ i → get made (nodes.File f) ≡ None
+      → Makes s made op i (any.File (files.MakeFile f h k None))
   make_file_makes f h k is new = inr (make_file_made f h k new, file_no_other f h k is)
 
 -- ---- by phases
@@ -136,7 +145,8 @@ pub record Acts (s : Store) (made : Made) (number own : ℕ) (place : Place) (op
   pub new : MakesNew made q
   pub makes : Makes s made op (object_number op.actor own) q
   pub serial : next_serial own (store_reply s q) ≤ number + 1
-  pub knows : PhaseKnows number (next_serial own (store_reply s q)) c (phase_hear place op (object_number op.actor own) c at (store_reply s q))
+  pub knows : PhaseKnows number (next_serial own (store_reply s q)) c
+      (phase_hear place op (object_number op.actor own) c at (store_reply s q))
 
 -- the same of what may be a request
 abbrev pub ActsIf : Store → Made → ℕ → ℕ → Place → OpId → Command → Phase → Option AnyReq → Type 0
@@ -194,11 +204,13 @@ module _ (number m : ℕ) (place : Place) (c : Command) where
   bound_knows op k n x None = tt
   bound_knows op k n x (Some old) = then_knows _ old
 
-  swapped_knows : (op : OpId) (k : Key) (n : Node) (x : AnyReply) (o : Option (Hold × Option Replaced)) → Known (swapped_heard place op k n x o)
+  swapped_knows : (op : OpId) (k : Key) (n : Node) (x : AnyReply) (o : Option (Hold × Option Replaced))
+      → Known (swapped_heard place op k n x o)
   swapped_knows op k n x None = tt
   swapped_knows op k n x (Some p) = tt
 
-  granted_knows : (k : Key) (n : Node) (x : AnyReply) (b : Bool) → name_eq k.name (new_name c) ≡ false → Known (if b then Swap k n else End (refusal place k x))
+  granted_knows : (k : Key) (n : Node) (x : AnyReply) (b : Bool) → name_eq k.name (new_name c) ≡ false
+      → Known (if b then Swap k n else End (refusal place k x))
   granted_knows k n x true e = e
   granted_knows k n x false e = tt
 
@@ -241,7 +253,8 @@ module _ (s : Store) (made : Made) (all : AllMade s made) (number own : ℕ) (fe
       let q : AnyReq = any.Name (names.Look (key_in d (last_name (n ∷ ns)))) in
       own_acts (commands.Look (n ∷ ns)) d q left tt (inl (look_same s made op _)) (look_knows number (after_it q) place (commands.Look (n ∷ ns)) d (n ∷ ns) (heard_by q))
 
-  create_first : (d : DirId) (p : List (List ℕ)) → own ≤ number → ActIf (commands.Create p) (Walk d []) (first_ask op i d (commands.Create p))
+  create_first : (d : DirId) (p : List (List ℕ)) → own ≤ number
+      → ActIf (commands.Create p) (Walk d []) (first_ask op i d (commands.Create p))
   create_first d [] left = tt
   create_first d (n ∷ ns) left =
       let k : Key = key_in d (last_name (n ∷ ns)) in
@@ -257,14 +270,16 @@ module _ (s : Store) (made : Made) (all : AllMade s made) (number own : ℕ) (fe
       own_acts (commands.Mkdir (n ∷ ns)) d q left new_dir
       (make_dir_makes s made op i all record { 0 = i } d (own_hold op) k refl new_dir) (made_knows number (after_it q) place (commands.Mkdir (n ∷ ns)) k (nodes.Dir record { 0 = i }) over.Absent (heard_by q) (is_made (heard_by q)))
 
-  delete_first : (d : DirId) (p : List (List ℕ)) → own ≤ number → ActIf (commands.Delete p) (Walk d []) (first_ask op i d (commands.Delete p))
+  delete_first : (d : DirId) (p : List (List ℕ)) → own ≤ number
+      → ActIf (commands.Delete p) (Walk d []) (first_ask op i d (commands.Delete p))
   delete_first d [] left = tt
   delete_first d (n ∷ ns) left =
       let k : Key = key_in d (last_name (n ∷ ns)) in
       let q : AnyReq = any.Name (names.Unbind k AnyFile) in
       own_acts (commands.Delete (n ∷ ns)) d q left tt (inl (unbind_same s made op k AnyFile)) (unbound_knows number (after_it q) place (commands.Delete (n ∷ ns)) k (heard_by q) (as_unbound (heard_by q)))
 
-  rename_first : (d : DirId) (p to : List (List ℕ)) → own ≤ number → ActIf (commands.Rename p to) (Walk d []) (first_ask op i d (commands.Rename p to))
+  rename_first : (d : DirId) (p to : List (List ℕ)) → own ≤ number
+      → ActIf (commands.Rename p to) (Walk d []) (first_ask op i d (commands.Rename p to))
   rename_first d [] to left = tt
   rename_first d (n ∷ ns) to left =
       let k : Key = key_in d (last_name (n ∷ ns)) in
@@ -295,13 +310,15 @@ module _ (s : Store) (made : Made) (all : AllMade s made) (number own : ℕ) (fe
   release_new (nodes.Dir d) h = tt
   release_new (nodes.File f) h = tt
 
-  walk_acts : (c : Command) (d : DirId) (n : List ℕ) (ns : List (List ℕ)) → own ≤ number → Act c (Walk d (n ∷ ns)) (any.Name (names.Look (key_in d n)))
+  walk_acts : (c : Command) (d : DirId) (n : List ℕ) (ns : List (List ℕ)) → own ≤ number
+      → Act c (Walk d (n ∷ ns)) (any.Name (names.Look (key_in d n)))
   walk_acts c d n ns left =
       let q : AnyReq = any.Name (names.Look (key_in d n)) in
       let none : MakesNothing s made op q = look_same s made op (key_in d n) in
       other_acts c (Walk d (n ∷ ns)) q tt none (walked_knows number (after_it q) place c (key_in d n) ns (heard_by q) (as_found (heard_by q)) (rw none.1 left))
 
-  grant_acts : (c : Command) (k : Key) (n : Node) → name_eq k.name (new_name c) ≡ false → (to : List (List ℕ)) → ActIf c (Grant k n) (at_last to (λ t. grant_ask n (own_hold op) (key_in k.dir t)))
+  grant_acts : (c : Command) (k : Key) (n : Node) → name_eq k.name (new_name c) ≡ false → (to : List (List ℕ))
+      → ActIf c (Grant k n) (at_last to (λ t. grant_ask n (own_hold op) (key_in k.dir t)))
   grant_acts c k n other [] = tt
   grant_acts c k n other (t ∷ ts) =
       let q : AnyReq = grant_ask n (own_hold op) (key_in k.dir (last_name (t ∷ ts))) in

@@ -29,24 +29,27 @@ use Rattle.tree_model.specs.declared.step.TreeStep.{TreeStep}
 use Rattle.tree_model.specs.declared.step.TreeStep.TheVariants as step
 use Rattle.tree_model.specs.declared.step.TreeReply.{TreeReply}
 use Rattle.tree_model.specs.Tree.{Tree, tree_change, tree_reply, is_ok, as_listed}
-use Rattle.world_runs.specs.TreeSteps.{tree_step, says}
+use Rattle.claim_words.specs.TreeSteps.{tree_step, says}
 use Rattle.tree_runs.specs.MapValues.{map_values, seen_by}
 use Rattle.tree_runs.specs.View.{Made, view, Shows, AllMade, MakesNew, StepShows, shown_dir, shown_file, shown_entry}
-use Rattle.tree_runs.proofs.ValuesSeen.{entries-map_values, get-map_values, dir_put, file_put, key_put, dir_alike, file_alike, within_seen, len_within_seen}
+use Rattle.tree_runs.proofs.ValuesSeen.{entries-map_values, get-map_values, dir_put, file_put, key_put, dir_alike, file_alike, within_seen}
+use Rattle.tree_runs.proofs.ValuesSeen.{len_within_seen}
 
 -- a listing shows the nodes alone
 items_alike : (es : List (Key × Entry)) → map listed es ≡ map as_listed (map (seen_by shown_entry) es)
 items_alike [] = refl
 items_alike (e ∷ es) = ap (λ l. listed e ∷ l) (items_alike es)
 
-listing_alike : (m : FinMap key_cmp Entry) (d : DirId) → map listed (entries (within m d)) ≡ map as_listed (entries (within (map_values shown_entry m) d))
+listing_alike : (m : FinMap key_cmp Entry) (d : DirId)
+    → map listed (entries (within m d)) ≡ map as_listed (entries (within (map_values shown_entry m) d))
 listing_alike m d = items_alike (entries (within m d)) ∙ ap (map as_listed) (sym (ap entries (within_seen shown_entry m d) ∙ entries-map_values shown_entry (within m d)))
 
 -- what the reply says
 abbrev said : Store → AnyReq → TreeReply
 said s q = says (store_reply s q)
 
-turned : (s : Store) (made : Made) (q : AnyReq) (st : TreeStep) (b c : Bool) → b ≡ c → (c ≡ true → Shows (store_change s q) (tree_change (view s made) st))
+turned : (s : Store) (made : Made) (q : AnyReq) (st : TreeStep) (b c : Bool) → b ≡ c
+    → (c ≡ true → Shows (store_change s q) (tree_change (view s made) st))
     → Shows (if c then store_change s q else s) (if b then tree_change (view s made) st else view s made)
 turned s made q st true true e did = did refl
 turned s made q st false false e did = refl
@@ -54,7 +57,8 @@ turned s made q st true false e did = absurd (let k : true ≡ false = e in cc)
 turned s made q st false true e did = absurd (let k : false ≡ true = e in cc)
 
 -- a request that is a step: it is allowed, it is not refused just where it changes the store, and then it changes the view as the step does
-by_step : (s : Store) (made : Made) (q : AnyReq) (st : TreeStep) → tree_step q (store_reply s q) ≡ Some st → said s q ≡ tree_reply (view s made) st
+by_step : (s : Store) (made : Made) (q : AnyReq) (st : TreeStep) → tree_step q (store_reply s q) ≡ Some st
+    → said s q ≡ tree_reply (view s made) st
     → is_ok (said s q) ≡ store_changes s q → (store_changes s q ≡ true → Shows (store_change s q) (tree_change (view s made) st))
     → StepShows s made q
 by_step s made q st is allowed fits did = rw is (allowed, turned s made q st _ _ fits did)
@@ -64,7 +68,8 @@ unread true u t s e h = rw e h
 unread false u t s e h = h
 
 -- a request that is a reading
-by_reading : (s : Store) (made : Made) (q : AnyReq) (st : TreeStep) → tree_step q (store_reply s q) ≡ Some st → said s q ≡ tree_reply (view s made) st
+by_reading : (s : Store) (made : Made) (q : AnyReq) (st : TreeStep) → tree_step q (store_reply s q) ≡ Some st
+    → said s q ≡ tree_reply (view s made) st
     → store_changes s q ≡ false → tree_change (view s made) st ≡ view s made
     → StepShows s made q
 by_reading s made q st is allowed reads same = rw (is, reads) (allowed, unread (is_ok (said s q)) (tree_change (view s made) st) (view s made) s same refl)
@@ -78,7 +83,8 @@ look_shows s made k = by_reading s made (any.Name (names.Look k)) (step.Look k) 
 list_shows : (s : Store) (made : Made) (d : DirId) → StepShows s made (any.Name (names.List d))
 list_shows s made d = by_reading s made (any.Name (names.List d)) (step.List d) refl (grind (arith, get-map_values, listing_alike s.names.entries d)) (grind arith) refl
 
-make_dir_shows : (s : Store) (made : Made) (d p : DirId) (h : Hold) (k : Key) → AllMade s made → get made (nodes.Dir d) ≡ None → StepShows s made (any.Name (names.MakeDir d p h k))
+make_dir_shows : (s : Store) (made : Made) (d p : DirId) (h : Hold) (k : Key) → AllMade s made → get made (nodes.Dir d) ≡ None
+    → StepShows s made (any.Name (names.MakeDir d p h k))
 make_dir_shows s made d p h k all new = by_step s made (any.Name (names.MakeDir d p h k)) (step.MakeDir d p) refl
     (grind (arith, all (nodes.Dir d))) (grind arith)
     (λ ok i. record {
@@ -98,7 +104,8 @@ unbind_shows s made k w = by_step s made (any.Name (names.Unbind k w)) (step.Unb
     (grind (arith, get-map_values)) (grind arith)
     (λ ok i. record (view s made) { entries = key_put shown_entry s.names.entries k None i })
 
-swap_shows : (s : Store) (made : Made) (d : DirId) (from to : List ℕ) (n : Node) (h : Hold) → name_eq from to ≡ false → StepShows s made (any.Name (names.Swap d from to n h))
+swap_shows : (s : Store) (made : Made) (d : DirId) (from to : List ℕ) (n : Node) (h : Hold) → name_eq from to ≡ false
+    → StepShows s made (any.Name (names.Swap d from to n h))
 swap_shows s made d from to n h other = by_step s made (any.Name (names.Swap d from to n h)) (step.Swap d from to n) refl
     (grind (arith, get-map_values)) (grind arith)
     (λ ok i. record (view s made) { entries = (key_put shown_entry _ (key_in d to) (Some record { node = n; hold = h }) ∙ ap (λ m. set_at m (key_in d to) (Some n)) (key_put shown_entry s.names.entries (key_in d from) None)) i })
@@ -113,15 +120,18 @@ by_refused s made q st false e refused did =
     let d : (tree_step q (store_reply s q) ≡ Some st) × (said s q ≡ tree_reply (view s made) st) × (is_ok (said s q) ≡ false) = refused refl in
     rw (e, d.0, d.2) (d.1, refl)
 
-unseen : (s : Store) (made : Made) (q : AnyReq) (b : Bool) → (b ≡ true → view (store_change s q) made ≡ view s made) → view (if b then store_change s q else s) made ≡ view s made
+unseen : (s : Store) (made : Made) (q : AnyReq) (b : Bool) → (b ≡ true → view (store_change s q) made ≡ view s made)
+    → view (if b then store_change s q else s) made ≡ view s made
 unseen s made q true did = did refl
 unseen s made q false did = refl
 
 -- what changes the holds alone is not seen
-dir_holds_alike : (s : Store) (made : Made) (d : DirId) (h : Hold) (u : Option Upper) → view record s { names = record s.names { dirs = set_at s.names.dirs d (dir_with_hold (get s.names.dirs d) h u) } } made ≡ view s made
+dir_holds_alike : (s : Store) (made : Made) (d : DirId) (h : Hold) (u : Option Upper)
+    → view record s { names = record s.names { dirs = set_at s.names.dirs d (dir_with_hold (get s.names.dirs d) h u) } } made ≡ view s made
 dir_holds_alike s made d h u i = record (view s made) { dirs = dir_alike shown_dir s.names.dirs d (dir_with_hold (get s.names.dirs d) h u) (grind arith) i }
 
-file_holds_alike : (s : Store) (made : Made) (f : FileId) (h : Hold) (u : Option Upper) → view record s { files = set_at s.files f (file_with_hold (get s.files f) h u) } made ≡ view s made
+file_holds_alike : (s : Store) (made : Made) (f : FileId) (h : Hold) (u : Option Upper)
+    → view record s { files = set_at s.files f (file_with_hold (get s.files f) h u) } made ≡ view s made
 file_holds_alike s made f h u i = record (view s made) { files = file_alike shown_file s.files f (file_with_hold (get s.files f) h u) (grind arith) i }
 
 grant_dir_shows : (s : Store) (made : Made) (d : DirId) (h : Hold) (k : Key) → StepShows s made (any.Name (names.Grant d h k))
@@ -140,7 +150,8 @@ release_dir_shows s made d h = unseen s made (any.Name (names.Release d h)) _ (�
 release_file_shows : (s : Store) (made : Made) (f : FileId) (h : Hold) → StepShows s made (any.File (files.Release f h))
 release_file_shows s made f h = unseen s made (any.File (files.Release f h)) _ (λ ok. file_holds_alike s made f h None)
 
-make_file_shows : (s : Store) (made : Made) (f : FileId) (h : Hold) (k : Key) (t : Option OpId) → AllMade s made → get made (nodes.File f) ≡ None → StepShows s made (any.File (files.MakeFile f h k t))
+make_file_shows : (s : Store) (made : Made) (f : FileId) (h : Hold) (k : Key) (t : Option OpId) → AllMade s made
+    → get made (nodes.File f) ≡ None → StepShows s made (any.File (files.MakeFile f h k t))
 make_file_shows s made f h k t all new = by_step s made (any.File (files.MakeFile f h k t)) (step.MakeFile f t) refl
     (grind (arith, all (nodes.File f))) (grind arith)
     (λ ok i. record {

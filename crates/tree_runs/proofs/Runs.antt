@@ -1,5 +1,6 @@
 -- every run is followed by the tree
-use Rattle.std.proofs.Common.{◌≡◌, ◌≢◌, ◌<◌, ◌≤◌, ◌+◌, ◌^◌, ◌⊎◌, inl, inr, ℕ, Bool, true, false, if◌then◌else◌, Option, Some, None, List, [], ◌∷◌, ◌++◌, refl, sym, subst, arith}
+use Rattle.std.proofs.Common.{◌≡◌, ◌≢◌, ◌<◌, ◌≤◌, ◌+◌, ◌^◌, ◌⊎◌, inl, inr, ℕ, Bool, true, false, if◌then◌else◌, Option, Some, None, List}
+use Rattle.std.proofs.Common.{[], ◌∷◌, ◌++◌, refl, sym, subst, arith}
 use Rattle.std.specs.FinMap.{get}
 use Rattle.tect_ids.specs.declared.ids.Counts.{Counts}
 use Rattle.tect_ids.specs.declared.ids.OpId.{OpId}
@@ -18,8 +19,9 @@ use Rattle.program_rules.specs.declared.program.Program.{Program}
 use Rattle.program_rules.specs.Programs.{object_number, phase_ask, first_phase, from_root}
 use Rattle.world_runs.specs.declared.event.Event.{Event}
 use Rattle.world_runs.specs.declared.event.Event.TheVariants.{Began, Refused, Acted, Ended, Stopped, Failed, Dumped}
-use Rattle.world_runs.specs.Moments.{Actor, WorldState, opening, May, CanBegin, after, after_all, RunFrom, IsWorldRun, moment, asked, program_ask, program_of, next_serial, heard, with_actor}
-use Rattle.world_runs.specs.TreeSteps.{Told, told_as, told_of, tree_steps, tree_step, says, tree_after, IsTreeRun}
+use Rattle.world_runs.specs.Moments.{Actor, WorldState, opening, May, CanBegin, after, after_all, RunFrom, IsWorldRun, moment, asked}
+use Rattle.world_runs.specs.Moments.{program_ask, program_of, next_serial, heard, with_actor}
+use Rattle.claim_words.specs.TreeSteps.{Told, told_as, told_of, tree_steps, tree_step, says, tree_after, IsTreeRun}
 use Rattle.world_runs.proofs.Actors.{changed}
 use Rattle.tree_runs.specs.View.{Made, view, Shows, AllMade, TreeFollows, StepShows}
 use Rattle.tree_runs.proofs.RequestsShow.{request_shows}
@@ -36,7 +38,8 @@ pub tree_run-append : (t : Tree) (ss us : List Told) → IsTreeRun t ss → IsTr
 tree_run-append t [] us r q = q
 tree_run-append t (s ∷ ss) us r q = (r.0, tree_run-append (tree_next t s.does s.says) ss us r.1 q)
 
-follows_shown : (t : Tree) (s : Store) (op : OpId) (o : Option TreeStep) (x : TreeReply) → TreeFollows t s o x → Shows s (tree_after t (told_as op o x))
+follows_shown : (t : Tree) (s : Store) (op : OpId) (o : Option TreeStep) (x : TreeReply) → TreeFollows t s o x
+    → Shows s (tree_after t (told_as op o x))
 follows_shown t s op None x f = f
 follows_shown t s op (Some st) x f = f.1
 
@@ -57,7 +60,8 @@ pub record Asks (o : Option Program) (op : OpId) (serial : ℕ) (q : AnyReq) : T
   pub its : program.op ≡ op
   pub asks : phase_ask op (object_number op.actor serial) program.command program.phase ≡ Some q
 
-pub asks_of : (o : Option Program) (op : OpId) (serial : ℕ) (q : AnyReq) → program_ask serial (program_of o op) ≡ Some q → Asks o op serial q
+pub asks_of : (o : Option Program) (op : OpId) (serial : ℕ) (q : AnyReq) → program_ask serial (program_of o op) ≡ Some q
+    → Asks o op serial q
 asks_of None op serial q e = absurd (let k : None ≡ Some q = e in cc)
 asks_of (Some p) op serial q e = at (op_eq p.op op) refl e
   where
@@ -107,10 +111,12 @@ module _ (m : WorldState) (made : Made) (tracks : Tracks m (view m.store made)) 
   shows = request_shows m.store made q made_all acts.new
 
   -- the same numbers stay free, but for the one that was given now
-  fresh_same : made2 ≡ made → (b j : ℕ) → 1 ≤ b → j < 2 ^ 32 → (m.actors b).serial ≤ j → (get made2 (dir_at (object_number b j)) ≡ None) × (get made2 (file_at (object_number b j)) ≡ None)
+  fresh_same : made2 ≡ made → (b j : ℕ) → 1 ≤ b → j < 2 ^ 32 → (m.actors b).serial ≤ j
+      → (get made2 (dir_at (object_number b j)) ≡ None) × (get made2 (file_at (object_number b j)) ≡ None)
   fresh_same e b j one u l = rw e (tracks.fresh b one j l u)
 
-  fresh_other : MakesNoOther (object_number op.actor own_serial) made made2 → (b j : ℕ) → 1 ≤ b → j < 2 ^ 32 → (m.actors b).serial ≤ j → (b ≢ op.actor) ⊎ (j ≢ own_serial)
+  fresh_other : MakesNoOther (object_number op.actor own_serial) made made2 → (b j : ℕ) → 1 ≤ b → j < 2 ^ 32 → (m.actors b).serial ≤ j
+      → (b ≢ op.actor) ⊎ (j ≢ own_serial)
       → (get made2 (dir_at (object_number b j)) ≡ None) × (get made2 (file_at (object_number b j)) ≡ None)
   fresh_other n b j one u l d =
       let other : object_number b j ≢ object_number op.actor own_serial = numbers_differ b j op.actor own_serial u few d in
@@ -129,7 +135,8 @@ module _ (m : WorldState) (made : Made) (tracks : Tracks m (view m.store made)) 
       later : (j : ℕ) → next_serial own_serial x ≤ j → own_serial ≤ j
       later j l = omega (arith, after_it j l)
 
-  others_fresh : Makes m.store made op (object_number op.actor own_serial) q → (b : ℕ) → b ≢ op.actor → 1 ≤ b → Fresh made2 b (m.actors b).serial
+  others_fresh : Makes m.store made op (object_number op.actor own_serial) q → (b : ℕ) → b ≢ op.actor → 1 ≤ b
+      → Fresh made2 b (m.actors b).serial
   others_fresh (inl n) b d one = λ j l u. fresh_same n.0 b j one u l
   others_fresh (inr n) b d one = λ j l u. fresh_other n.1 b j one u l (inl d)
 
@@ -155,7 +162,8 @@ module _ (m : WorldState) (made : Made) (tracks : Tracks m (view m.store made)) 
 abbrev Tracked : WorldState → Tree → Event → Type 0
 Tracked m t e = Tracks (after m e) (tree_after t (told_of e)) × IsTreeRun t (told_of e)
 
-acted_tracked : (m : WorldState) (t : Tree) → Tracks m t → (op : OpId) (q : AnyReq) → asked m op ≡ Some q → Tracked m t (Acted op q (store_reply m.store q))
+acted_tracked : (m : WorldState) (t : Tree) → Tracks m t → (op : OpId) (q : AnyReq) → asked m op ≡ Some q
+    → Tracked m t (Acted op q (store_reply m.store q))
 acted_tracked m t tracks op q e =
     let same : view m.store t.made ≡ t = tracks.shown in
     let it : Tracks m (view m.store t.made) = subst (λ (u : Tree). Tracks m u) (sym same) tracks in
@@ -163,7 +171,8 @@ acted_tracked m t tracks op q e =
     subst (λ (u : Tree). Tracked m u (Acted op q (store_reply m.store q))) same (acted_tracks m t.made it op q a, acted_run m t.made it op q a)
 
 -- an actor's running command changes, and its numbers as they may
-restarted : (m : WorldState) (t : Tree) → Tracks m t → (a : ℕ) (state : Actor) → state.serial ≡ (m.actors a).serial → (m.actors a).number ≤ state.number → state.number < 2 ^ 31
+restarted : (m : WorldState) (t : Tree) → Tracks m t → (a : ℕ) (state : Actor) → state.serial ≡ (m.actors a).serial
+    → (m.actors a).number ≤ state.number → state.number < 2 ^ 31
     → Knows a state.number state.serial state.running → Tracks (with_actor m a state) t
 restarted m t tracks a state same more few knows = record {
   shown = tracks.shown;
@@ -188,11 +197,13 @@ first_knows number serial (commands.Rename p []) l = tt
 first_knows number serial (commands.Rename p (n ∷ to)) l = root_knows number serial (commands.Rename p (n ∷ to)) p _ l
 first_knows number serial _ l = tt
 
-began_tracks : (m : WorldState) (t : Tree) → Tracks m t → (op : OpId) (c : Command) → CanBegin (m.actors op.actor) op → Tracks (after m (Began op c)) t
+began_tracks : (m : WorldState) (t : Tree) → Tracks m t → (op : OpId) (c : Command) → CanBegin (m.actors op.actor) op
+    → Tracks (after m (Began op c)) t
 began_tracks m t tracks op c can = restarted m t tracks op.actor _ refl (omega (arith, can.next)) (omega (arith, can.few))
     ((can.is_actor).0, refl, refl, first_knows _ _ c (omega (arith, can.next, tracks.serials op.actor)))
 
-refused_tracks : (m : WorldState) (t : Tree) → Tracks m t → (op : OpId) (c : Command) → CanBegin (m.actors op.actor) op → Tracks (after m (Refused op c)) t
+refused_tracks : (m : WorldState) (t : Tree) → Tracks m t → (op : OpId) (c : Command) → CanBegin (m.actors op.actor) op
+    → Tracks (after m (Refused op c)) t
 refused_tracks m t tracks op c can = restarted m t tracks op.actor _ refl (omega (arith, can.next)) (omega (arith, can.few)) ((can.is_actor).0, refl, refl, tt)
 
 pub event_tracked : (m : WorldState) (t : Tree) (e : Event) → Tracks m t → May m e → Tracked m t e
@@ -204,7 +215,8 @@ event_tracked m t (Stopped op) tracks may = (restarted m t tracks op.actor _ ref
 event_tracked m t (Failed op a) tracks may = (restarted m t tracks op.actor _ refl (omega arith) (tracks.numbers op.actor) tt, tt)
 event_tracked m t Dumped tracks may = (tracks, tt)
 
-pub run_tracked : (m : WorldState) (t : Tree) (es : List Event) → Tracks m t → RunFrom m es → Tracks (after_all m es) (tree_after t (tree_steps es)) × IsTreeRun t (tree_steps es)
+pub run_tracked : (m : WorldState) (t : Tree) (es : List Event) → Tracks m t → RunFrom m es
+    → Tracks (after_all m es) (tree_after t (tree_steps es)) × IsTreeRun t (tree_steps es)
 run_tracked m t [] tracks run = (tracks, tt)
 run_tracked m t (e ∷ es) tracks run =
     let now : Tracked m t e = event_tracked m t e tracks run.0 in
@@ -212,5 +224,6 @@ run_tracked m t (e ∷ es) tracks run =
     run_tracked (after m e) (tree_after t (told_of e)) es now.0 run.1 in
     (rw (tree_after-append t (told_of e) (tree_steps es)) rest.0, tree_run-append t (told_of e) (tree_steps es) now.1 rest.1)
 
-pub world_tracked : (counts : Counts) (events : List Event) → IsWorldRun counts events → Tracks (moment counts events) (tree_after opening_tree (tree_steps events)) × IsTreeRun opening_tree (tree_steps events)
+pub world_tracked : (counts : Counts) (events : List Event) → IsWorldRun counts events
+    → Tracks (moment counts events) (tree_after opening_tree (tree_steps events)) × IsTreeRun opening_tree (tree_steps events)
 world_tracked counts events run = run_tracked (opening counts) opening_tree events (opening_tracks counts) run

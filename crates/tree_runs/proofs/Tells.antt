@@ -1,5 +1,6 @@
 -- what the steps so far tell of a running command at each phase
-use Rattle.std.proofs.Common.{◌≡◌, ◌⊎◌, ℕ, Bool, true, false, if◌then◌else◌, Option, Some, None, List, [], ◌∷◌, ◌++◌, refl, subst, arith, inl, inr}
+use Rattle.std.proofs.Common.{◌≡◌, ◌⊎◌, ℕ, Bool, true, false, if◌then◌else◌, Option, Some, None, List, [], ◌∷◌, ◌++◌, refl, subst, arith}
+use Rattle.std.proofs.Common.{inl, inr}
 use Rattle.std.proofs.lemmas.List.{append-nil}
 use Rattle.tect_ids.specs.declared.ids.DirId.{DirId}
 use Rattle.tect_ids.specs.declared.ids.FileId.{FileId}
@@ -30,8 +31,9 @@ use Rattle.program_rules.specs.declared.program.Phase.{Phase}
 use Rattle.program_rules.specs.declared.program.Phase.TheVariants.{Walk, Bind, Grant, Swap, Release, End}
 use Rattle.program_rules.specs.Paths.{last_name}
 use Rattle.program_rules.specs.Programs.{root, way, last, refusal, walked, source_heard, then_release, bound_heard, swapped_heard}
-use Rattle.world_runs.specs.TreeSteps.{Told, told_as, says, tree_after, where_refused, IsTreeRun}
-use Rattle.world_runs.specs.Points.{of_op, Walked, Seen, refused_answer, done_answer, StopsWalk, Finds, Lists, FindsSource, IsRefusal, Decides, Point, LacksName}
+use Rattle.claim_words.specs.TreeSteps.{Told, told_as, says, tree_after, where_refused, IsTreeRun}
+use Rattle.claim_words.specs.Points.{of_op, Walked, Seen, refused_answer, done_answer, StopsWalk, Finds, Lists, FindsSource, IsRefusal}
+use Rattle.claim_words.specs.Points.{Decides, Point, LacksName}
 use Rattle.tree_runs.proofs.Replies.{why_of, RefusesSo}
 use Rattle.tree_runs.proofs.Walks.{of_op-append, point_stays, here, over_still, seen_still, seen_now, walks_on}
 
@@ -56,7 +58,8 @@ PhaseTells t op c (Release n h old a) = Point t op c a
 PhaseTells t op c (End a) = Point t op c a ⊎ (LacksName c × (a ≡ answers.NoName))
 
 -- the steps of others change nothing of it
-pub phase_stays : (t u : List Told) (op : OpId) (c : Command) (at : Phase) → of_op op u ≡ [] → PhaseTells t op c at → PhaseTells (t ++ u) op c at
+pub phase_stays : (t u : List Told) (op : OpId) (c : Command) (at : Phase) → of_op op u ≡ [] → PhaseTells t op c at
+    → PhaseTells (t ++ u) op c at
 phase_stays t u op c (Walk d ns) e p = rw (of_op-append op t u, e, append-nil) p
 phase_stays t u op c (Bind k n o) e p = rw (of_op-append op t u, e, append-nil) p
 phase_stays t u op c (Grant k n) e p = rw (of_op-append op t u, e, append-nil) p
@@ -87,7 +90,8 @@ pub lists_no : (k : Key) (b : Answer) (r : TreeReply) → r ≡ Refused (why_of 
 lists_no k b (Ok x) e h = absurd (let z : Ok x ≡ Refused (why_of (Ok x)) = e in cc)
 lists_no k b (Refused why) e h = h
 
-source_no : (k : Key) (to : List ℕ) (b : Answer) (r : TreeReply) → r ≡ Refused (why_of r) → b ≡ refused_answer k (why_of r) → FindsSource k to r b
+source_no : (k : Key) (to : List ℕ) (b : Answer) (r : TreeReply) → r ≡ Refused (why_of r) → b ≡ refused_answer k (why_of r)
+    → FindsSource k to r b
 source_no k to b (Ok x) e h = absurd (let z : Ok x ≡ Refused (why_of (Ok x)) = e in cc)
 source_no k to b (Refused why) e h = h
 
@@ -110,7 +114,8 @@ ok_done r e = rw e refl
 same_key : (k : Key) (n : List ℕ) → k.name ≡ n → k ≡ key_in k.dir n
 same_key k n e i = key_in k.dir (e i)
 
-decides_bind : (c : Command) (own : List Told) (k : Key) (n : Node) (o : Over) (r : TreeReply) (a : Answer) → Binds c n o → k.name ≡ last c → a ≡ done_answer k (answers.Found n) r
+decides_bind : (c : Command) (own : List Told) (k : Key) (n : Node) (o : Over) (r : TreeReply) (a : Answer) → Binds c n o → k.name ≡ last c
+    → a ≡ done_answer k (answers.Found n) r
     → Decides c own k.dir (step.Bind k n o) r a
 decides_bind (commands.Create p) own k (File f) over.File r a b e h = (same_key k (last_name p) e, h)
 decides_bind (commands.Mkdir p) own k (Dir d) over.Absent r a b e h = (same_key k (last_name p) e, h)
@@ -118,7 +123,8 @@ decides_bind c own k n o r a b e h = absurd b
 
 -- ---- after a step of the command's own
 
-pub then_tells : (t : List Told) (op : OpId) (c : Command) (old : Option Replaced) (a : Answer) → Point t op c a → PhaseTells t op c (then_release old a)
+pub then_tells : (t : List Told) (op : OpId) (c : Command) (old : Option Replaced) (a : Answer) → Point t op c a
+    → PhaseTells t op c (then_release old a)
 then_tells t op c None a p = inl p
 then_tells t op c (Some o) a p = p
 
@@ -135,8 +141,10 @@ module _ (t : List Told) (place : Place) (op : OpId) (c : Command) where
   abbrev Then : TreeStep → TreeReply → Phase → Type 0
   Then s x at = PhaseTells (t ++ told_as op (Some s) x) op c at
 
-  pub way_tells : (d : DirId) (n : List ℕ) (ns : List (List ℕ)) (x : AnyReply) (o : Option Node) → Walks d (n ∷ ns) → says x ≡ tree_reply tree (step.Look (key_in d n))
-      → (o ≡ None → RefusesSo place (key_in d n) x) → ((m : Node) → o ≡ Some m → says x ≡ Ok (shown.Node m)) → Then (step.Look (key_in d n)) (says x) (walked place (key_in d n) ns x o)
+  pub way_tells : (d : DirId) (n : List ℕ) (ns : List (List ℕ)) (x : AnyReply) (o : Option Node) → Walks d (n ∷ ns)
+      → says x ≡ tree_reply tree (step.Look (key_in d n))
+      → (o ≡ None → RefusesSo place (key_in d n) x) → ((m : Node) → o ≡ Some m → says x ≡ Ok (shown.Node m))
+      → Then (step.Look (key_in d n)) (says x) (walked place (key_in d n) ns x o)
   way_tells d n ns x None w said none some =
       let no : RefusesSo place (key_in d n) x = none refl in
       inl (here t op c d (n ∷ ns) (step.Look (key_in d n)) (says x) _ w said (refl, stops_no (key_in d n) _ (says x) no.0 no.1))
@@ -144,8 +152,10 @@ module _ (t : List Told) (place : Place) (op : OpId) (c : Command) where
   way_tells d n ns x (Some (File f)) w said none some =
       inl (here t op c d (n ∷ ns) (step.Look (key_in d n)) (says x) answers.NotDir w said (refl, stops_file (key_in d n) f (says x) (some (File f) refl)))
 
-  pub bound_tells : (k : Key) (n : Node) (o : Over) (x : AnyReply) (b : Option (Option Replaced)) → says x ≡ tree_reply tree (step.Bind k n o) → (b ≡ None → RefusesSo place k x)
-      → ((old : Option Replaced) → b ≡ Some old → says x ≡ Ok shown.Done) → Walks k.dir [] → Binds c n o → k.name ≡ last c → Then (step.Bind k n o) (says x) (bound_heard place op k n x b)
+  pub bound_tells : (k : Key) (n : Node) (o : Over) (x : AnyReply) (b : Option (Option Replaced))
+      → says x ≡ tree_reply tree (step.Bind k n o) → (b ≡ None → RefusesSo place k x)
+      → ((old : Option Replaced) → b ≡ Some old → says x ≡ Ok shown.Done) → Walks k.dir [] → Binds c n o → k.name ≡ last c
+      → Then (step.Bind k n o) (says x) (bound_heard place op k n x b)
   bound_tells k n o x None said none some w binds e =
       let no : RefusesSo place k x = none refl in
       here t op c k.dir [] (step.Bind k n o) (says x) _ w said (decides_bind c (of_op op t) k n o (says x) _ binds e (done_no k _ _ (says x) no.0 no.1))
@@ -166,7 +176,8 @@ module _ (t : List Told) (place : Place) (op : OpId) (p to : List (List ℕ)) wh
   abbrev RenameWalks : DirId → Type 0
   RenameWalks d = Walked root (way rename) (of_op op t) d []
 
-  pub source_tells : (d : DirId) (x : AnyReply) (o : Option Node) → RenameWalks d → says x ≡ tree_reply rename_tree (step.Look (key_in d (last_name p)))
+  pub source_tells : (d : DirId) (x : AnyReply) (o : Option Node) → RenameWalks d
+      → says x ≡ tree_reply rename_tree (step.Look (key_in d (last_name p)))
       → (o ≡ None → RefusesSo place (key_in d (last_name p)) x) → ((m : Node) → o ≡ Some m → says x ≡ Ok (shown.Node m))
       → PhaseTells (t ++ told_as op (Some (step.Look (key_in d (last_name p)))) (says x)) op rename (source_heard place (key_in d (last_name p)) (last_name to) x o)
   source_tells d x None w said none some =
@@ -186,7 +197,8 @@ module _ (t : List Told) (place : Place) (op : OpId) (p to : List (List ℕ)) wh
   SawSource k n = Seen (of_op op t) (step.Look k) (Ok (shown.Node n))
 
   -- the step of the grant decides where it is refused
-  grant_point : (k : Key) (s : TreeStep) (y : TreeReply) (a : Answer) → IsTreeRun rename_tree (told_as op (where_refused s y) y) → y ≡ Refused (why_of y) → RenameWalks k.dir
+  grant_point : (k : Key) (s : TreeStep) (y : TreeReply) (a : Answer) → IsTreeRun rename_tree (told_as op (where_refused s y) y)
+      → y ≡ Refused (why_of y) → RenameWalks k.dir
       → Decides rename (of_op op t) k.dir s y a → Point (t ++ told_as op (where_refused s y) y) op rename a
   grant_point k s (Ok x) a run e w decides = absurd (let z : Ok x ≡ Refused (why_of (Ok x)) = e in cc)
   grant_point k s (Refused why) a run e w decides = here t op rename k.dir [] s (Refused why) a w run.0 decides
@@ -195,10 +207,12 @@ module _ (t : List Told) (place : Place) (op : OpId) (p to : List (List ℕ)) wh
   saw_own : (k : Key) (n : Node) → k.name ≡ last_name p → SawSource k n → SawSource (key_in k.dir (last_name p)) n
   saw_own k n e h = subst (λ (j : Key). SawSource j n) (same_key k (last_name p) e) h
 
-  own_refused : (k : Key) (x : AnyReply) → k.name ≡ last_name p → RefusesSo place k x → IsRefusal (key_in k.dir (last_name p)) (says x) (refusal place k x)
+  own_refused : (k : Key) (x : AnyReply) → k.name ≡ last_name p → RefusesSo place k x
+      → IsRefusal (key_in k.dir (last_name p)) (says x) (refusal place k x)
   own_refused k x e refuses = subst (λ (j : Key). IsRefusal j (says x) (refusal place k x)) (same_key k (last_name p) e) (refusal_no k _ (says x) refuses.0 refuses.1)
 
-  pub dir_granted_tells : (k : Key) (d : DirId) (x : AnyReply) (b : Bool) → IsTreeRun rename_tree (told_as op (where_refused (step.GrantDir d) (says x)) (says x)) → (b ≡ false → RefusesSo place k x)
+  pub dir_granted_tells : (k : Key) (d : DirId) (x : AnyReply) (b : Bool)
+      → IsTreeRun rename_tree (told_as op (where_refused (step.GrantDir d) (says x)) (says x)) → (b ≡ false → RefusesSo place k x)
       → RenameWalks k.dir → k.name ≡ last_name p → SawSource k (Dir d)
       → PhaseTells (t ++ told_as op (where_refused (step.GrantDir d) (says x)) (says x)) op rename (if b then Swap k (Dir d) else End (refusal place k x))
   dir_granted_tells k d x true run none w e saw = (over_still t op rename k.dir _ w, tt, e, seen_still t op rename _ (step.Look k) _ saw)
@@ -206,7 +220,8 @@ module _ (t : List Told) (place : Place) (op : OpId) (p to : List (List ℕ)) wh
       let no : RefusesSo place k x = none refl in
       inl (grant_point k (step.GrantDir d) (says x) (refusal place k x) run no.0 w (saw_own k (Dir d) e saw, own_refused k x e no))
 
-  pub file_granted_tells : (k : Key) (f : FileId) (x : AnyReply) (b : Bool) → IsTreeRun rename_tree (told_as op (where_refused (step.GrantFile f) (says x)) (says x)) → (b ≡ false → RefusesSo place k x)
+  pub file_granted_tells : (k : Key) (f : FileId) (x : AnyReply) (b : Bool)
+      → IsTreeRun rename_tree (told_as op (where_refused (step.GrantFile f) (says x)) (says x)) → (b ≡ false → RefusesSo place k x)
       → RenameWalks k.dir → k.name ≡ last_name p → SawSource k (File f)
       → PhaseTells (t ++ told_as op (where_refused (step.GrantFile f) (says x)) (says x)) op rename (if b then Swap k (File f) else End (refusal place k x))
   file_granted_tells k f x true run none w e saw = (over_still t op rename k.dir _ w, tt, e, seen_still t op rename _ (step.Look k) _ saw)
@@ -214,7 +229,8 @@ module _ (t : List Told) (place : Place) (op : OpId) (p to : List (List ℕ)) wh
       let no : RefusesSo place k x = none refl in
       inl (grant_point k (step.GrantFile f) (says x) (refusal place k x) run no.0 w (saw_own k (File f) e saw, own_refused k x e no))
 
-  pub swapped_tells : (k : Key) (n : Node) (x : AnyReply) (o : Option (Hold × Option Replaced)) → says x ≡ tree_reply rename_tree (step.Swap k.dir k.name (last_name to) n) → (o ≡ None → RefusesSo place k x)
+  pub swapped_tells : (k : Key) (n : Node) (x : AnyReply) (o : Option (Hold × Option Replaced))
+      → says x ≡ tree_reply rename_tree (step.Swap k.dir k.name (last_name to) n) → (o ≡ None → RefusesSo place k x)
       → ((s : Hold × Option Replaced) → o ≡ Some s → says x ≡ Ok shown.Done) → RenameWalks k.dir → k.name ≡ last_name p → SawSource k n
       → PhaseTells (t ++ told_as op (Some (step.Swap k.dir k.name (last_name to) n)) (says x)) op rename (swapped_heard place op k n x o)
   swapped_tells k n x None said none some w e saw =

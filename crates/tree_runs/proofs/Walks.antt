@@ -1,5 +1,6 @@
 -- the steps of one op: its walk, what it saw, and its point, once more steps are there
-use Rattle.std.proofs.Common.{◌≡◌, ℕ, true, false, if◌then◌else◌, Option, Some, None, List, [], ◌∷◌, ◌++◌, refl, ap, ◌∙◌, arith, inl, inr, append_assoc}
+use Rattle.std.proofs.Common.{◌≡◌, ℕ, true, false, if◌then◌else◌, Option, Some, None, List, [], ◌∷◌, ◌++◌, refl, ap, ◌∙◌, arith, inl, inr}
+use Rattle.std.proofs.Common.{append_assoc}
 use Rattle.tect_ids.specs.declared.ids.DirId.{DirId}
 use Rattle.tect_ids.specs.declared.ids.OpId.{OpId}
 use Rattle.tect_ids.specs.declared.ids.Node.TheVariants.{Dir}
@@ -15,11 +16,12 @@ use Rattle.tree_model.specs.declared.step.TreeReply.{TreeReply}
 use Rattle.tree_model.specs.declared.step.TreeReply.TheVariants.{Ok}
 use Rattle.tree_model.specs.Tree.{tree_reply, opening_tree}
 use Rattle.program_rules.specs.Programs.{root, way}
-use Rattle.world_runs.specs.TreeSteps.{Told, told_as, tree_after}
-use Rattle.world_runs.specs.Points.{of_op, Walked, Seen, DecidesAt, Point}
+use Rattle.claim_words.specs.TreeSteps.{Told, told_as, tree_after}
+use Rattle.claim_words.specs.Points.{of_op, Walked, Seen, DecidesAt, Point}
 
 -- the walk goes on to the directory that was found
-pub walked_on : (d : DirId) (names : List (List ℕ)) (own : List Told) (e : DirId) (n : List ℕ) (rest : List (List ℕ)) (s : Told) (x : DirId) → Walked d names own e (n ∷ rest)
+pub walked_on : (d : DirId) (names : List (List ℕ)) (own : List Told) (e : DirId) (n : List ℕ) (rest : List (List ℕ)) (s : Told)
+    (x : DirId) → Walked d names own e (n ∷ rest)
     → s.does ≡ step.Look (key_in e n) → s.says ≡ Ok (shown.Node (Dir x)) → Walked d names (own ++ s ∷ []) x rest
 walked_on d [] [] e n rest s x w does said = absurd (let k : [] ≡ n ∷ rest = w.1 in cc)
 walked_on d (m ∷ ms) [] e n rest s x w does said =
@@ -29,7 +31,8 @@ walked_on d [] (o ∷ os) e n rest s x w does said = walked_on d [] os e n rest 
 walked_on d (m ∷ ms) (o ∷ os) e n rest s x w does said = (w.0, w.1, w.2, walked_on w.0 ms os e n rest s x w.3 does said)
 
 -- a walk that is over stays so
-pub walked_over : (d : DirId) (names : List (List ℕ)) (own more : List Told) (e : DirId) → Walked d names own e [] → Walked d names (own ++ more) e []
+pub walked_over : (d : DirId) (names : List (List ℕ)) (own more : List Told) (e : DirId) → Walked d names own e []
+    → Walked d names (own ++ more) e []
 walked_over d [] [] [] e w = w
 walked_over d [] [] (s ∷ ss) e w = walked_over d [] [] ss e w
 walked_over d (m ∷ ms) [] more e w = absurd (let k : m ∷ ms ≡ [] = w.1 in cc)
@@ -79,7 +82,8 @@ point_stays t u op c a p = record {
 -- the last of the steps told so far
 module _ (t : List Told) (op : OpId) (c : Command) where
   -- it decides
-  pub here : (d : DirId) (left : List (List ℕ)) (s : TreeStep) (x : TreeReply) (a : Answer) → Walked root (way c) (of_op op t) d left → x ≡ tree_reply (tree_after opening_tree t) s
+  pub here : (d : DirId) (left : List (List ℕ)) (s : TreeStep) (x : TreeReply) (a : Answer) → Walked root (way c) (of_op op t) d left
+      → x ≡ tree_reply (tree_after opening_tree t) s
       → DecidesAt c (of_op op t) d left s x a → Point (t ++ told_as op (Some s) x) op c a
   here d left s x a walked said decides = record {
     before = t;
@@ -104,7 +108,8 @@ module _ (t : List Told) (op : OpId) (c : Command) where
   pub seen_now : (s : TreeStep) (x y : TreeReply) → x ≡ y → Seen (of_op op (t ++ told_as op (Some s) x)) s y
   seen_now s x y e = rw (of_op-append op t (told_as op (Some s) x), own_step op s x, ← e) (seen_last (of_op op t) record { op = op; does = s; says = x })
 
-  pub walks_on : (d : DirId) (n : List ℕ) (ns : List (List ℕ)) (x : TreeReply) (e : DirId) → Walked root (way c) (of_op op t) d (n ∷ ns) → x ≡ Ok (shown.Node (Dir e))
+  pub walks_on : (d : DirId) (n : List ℕ) (ns : List (List ℕ)) (x : TreeReply) (e : DirId) → Walked root (way c) (of_op op t) d (n ∷ ns)
+      → x ≡ Ok (shown.Node (Dir e))
       → Walked root (way c) (of_op op (t ++ told_as op (Some (step.Look (key_in d n))) x)) e ns
   walks_on d n ns x e walked said =
       rw (of_op-append op t (told_as op (Some (step.Look (key_in d n))) x), own_step op (step.Look (key_in d n)) x)

@@ -19,7 +19,7 @@ use Rattle.tree_model.specs.declared.step.TreeFile.{TreeFile}
 use Rattle.tree_model.specs.declared.step.TreeStep.{TreeStep}
 use Rattle.tree_model.specs.declared.step.TreeReply.{TreeReply}
 use Rattle.tree_model.specs.Tree.{Tree, Allowed, tree_next}
-use Rattle.world_runs.specs.TreeSteps.{tree_step, says}
+use Rattle.claim_words.specs.TreeSteps.{tree_step, says}
 use Rattle.tree_runs.specs.MapValues.{map_values}
 
 -- the directories and files that were ever made

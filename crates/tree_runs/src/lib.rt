@@ -3,14 +3,14 @@
 #![tactic(auto)]
 
 ghost use Rattle.std.specs.Prelude.{List};
-ghost use Rattle.world_runs.specs.Headline.{Headline};
+ghost use Rattle.claim_words.specs.Headline.{Headline};
 ghost use Rattle.store_rules.specs.Store.{Store};
 ghost use Rattle.store_rules.specs.declared.any.AnyReq.{AnyReq};
 ghost use Rattle.tect_ids.specs.declared.ids.Counts.{Counts};
 ghost use Rattle.tree_model.specs.Tree.{opening_tree};
 ghost use Rattle.world_runs.specs.declared.event.Event.{Event};
 ghost use Rattle.world_runs.specs.Moments.{IsWorldRun, moment};
-ghost use Rattle.world_runs.specs.TreeSteps.{tree_steps, tree_after, IsTreeRun};
+ghost use Rattle.claim_words.specs.TreeSteps.{tree_steps, tree_after, IsTreeRun};
 ghost use Rattle.tree_runs.specs.View.{Made, Shows, AllMade, MakesNew, StepShows};
 
 /// Each request is no step of the tree, and then what the store shows stays; or it is a step to which the tree allows what

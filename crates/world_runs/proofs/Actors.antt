@@ -25,7 +25,8 @@ pub flipped : (a b : ℕ) → eqb a b ≡ eqb b a
 flipped a b = grind (arith, num_eq_cases)
 
 -- one value has changed
-pub changed : {X : Type 0} (P : X → Type 0) (others : ℕ → X) (a : ℕ) (x : X) (b : ℕ) → (b ≡ a → P x) → (b ≢ a → P (others b)) → P (if eqb b a then x else others b)
+pub changed : {X : Type 0} (P : X → Type 0) (others : ℕ → X) (a : ℕ) (x : X) (b : ℕ) → (b ≡ a → P x) → (b ≢ a → P (others b))
+    → P (if eqb b a then x else others b)
 changed P others a x b here there =
     elim (eqb b a) as (λ t. eqb b a ≡ t → P (if t then x else others b)) [
       | true ↦ λ e. here (one_number b a e)
@@ -37,7 +38,8 @@ pub changed_there : {X : Type 0} (P : X → Type 0) (others : ℕ → X) (a : �
 changed_there P others a x h = changed P others a x a (λ e. h) (λ d. absurd (d refl))
 
 -- by whether the event is the actor's own
-pub own_cases : (P : List Event → Type 0) (a : ℕ) (e : Event) (es : List Event) → (is_own a e ≡ true → P (e ∷ own a es)) → (is_own a e ≡ false → P (own a es)) → P (own a (e ∷ es))
+pub own_cases : (P : List Event → Type 0) (a : ℕ) (e : Event) (es : List Event) → (is_own a e ≡ true → P (e ∷ own a es))
+    → (is_own a e ≡ false → P (own a es)) → P (own a (e ∷ es))
 own_cases P a e es here there =
     elim (is_own a e) as (λ t. is_own a e ≡ t → P (if t then e ∷ own a es else own a es)) [ true ↦ λ h. here h | false ↦ λ h. there h ] refl
 
@@ -67,14 +69,16 @@ actor_of_own a (Failed op x) h = one_number op.actor a h
 actor_of_own a Dumped h = cc
 
 -- after an event its actor's state is the one after it, and the others stay
-picked : (actors : ℕ → Actor) (next : Actor → Actor) (a b : ℕ) → (if eqb a b then next (actors b) else actors a) ≡ (if eqb b a then next (actors a) else actors a)
+picked : (actors : ℕ → Actor) (next : Actor → Actor) (a b : ℕ)
+    → (if eqb a b then next (actors b) else actors a) ≡ (if eqb b a then next (actors a) else actors a)
 picked actors next a b =
     elim (eqb a b) as (λ t. eqb a b ≡ t → (if t then next (actors b) else actors a) ≡ (if eqb b a then next (actors a) else actors a)) [
       | true ↦ λ h. let e : a ≡ b = one_number a b h in rw (← e, same_number) refl
       | false ↦ λ h. let e : eqb b a ≡ false = flipped b a ∙ h in rw e refl
     ] refl
 
-pub after_actors : (m : WorldState) (e : Event) (a : ℕ) → (after m e).actors a ≡ (if is_own a e then own_after m.counts (m.actors a) e else m.actors a)
+pub after_actors : (m : WorldState) (e : Event) (a : ℕ)
+    → (after m e).actors a ≡ (if is_own a e then own_after m.counts (m.actors a) e else m.actors a)
 after_actors m (Began op c) a = picked m.actors (λ s. own_after m.counts s (Began op c)) a op.actor
 after_actors m (Refused op c) a = picked m.actors (λ s. own_after m.counts s (Refused op c)) a op.actor
 after_actors m (Acted op q x) a = picked m.actors (λ s. own_after m.counts s (Acted op q x)) a op.actor
@@ -132,11 +136,13 @@ moment-append counts es fs = after_all-append (opening counts) es fs
 pub own-append : (a : ℕ) (es fs : List Event) → own a (es ++ fs) ≡ own a es ++ own a fs
 own-append a es fs = filter-append (is_own a) es fs
 
-pub own_state-append : (counts : Counts) (s : Actor) (es fs : List Event) → own_state counts s (es ++ fs) ≡ own_state counts (own_state counts s es) fs
+pub own_state-append : (counts : Counts) (s : Actor) (es fs : List Event)
+    → own_state counts s (es ++ fs) ≡ own_state counts (own_state counts s es) fs
 own_state-append counts s [] fs = refl
 own_state-append counts s (e ∷ es) fs = own_state-append counts (own_after counts s e) es fs
 
-pub own_run-append : (counts : Counts) (s : Actor) (es fs : List Event) → OwnRun counts s es → OwnRun counts (own_state counts s es) fs → OwnRun counts s (es ++ fs)
+pub own_run-append : (counts : Counts) (s : Actor) (es fs : List Event) → OwnRun counts s es → OwnRun counts (own_state counts s es) fs
+    → OwnRun counts s (es ++ fs)
 own_run-append counts s [] fs r q = q
 own_run-append counts s (e ∷ es) fs r q = (r.0, own_run-append counts (own_after counts s e) es fs r.1 q)
 
@@ -144,7 +150,8 @@ pub own_run-front : (counts : Counts) (s : Actor) (es fs : List Event) → OwnRu
 own_run-front counts s [] fs r = tt
 own_run-front counts s (e ∷ es) fs r = (r.0, own_run-front counts (own_after counts s e) es fs r.1)
 
-pub own_run-rest : (counts : Counts) (s : Actor) (es fs : List Event) → OwnRun counts s (es ++ fs) → OwnRun counts (own_state counts s es) fs
+pub own_run-rest : (counts : Counts) (s : Actor) (es fs : List Event) → OwnRun counts s (es ++ fs)
+    → OwnRun counts (own_state counts s es) fs
 own_run-rest counts s [] fs r = r
 own_run-rest counts s (e ∷ es) fs r = own_run-rest counts (own_after counts s e) es fs r.1
 

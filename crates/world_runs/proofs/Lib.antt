@@ -2,5 +2,3 @@ pub mod Actors
 pub mod Owns
 pub mod Limits
 pub mod OwnLines
-pub mod Histories
-pub mod Running

@@ -1,5 +1,6 @@
 -- each actor's own limits make those of the whole history
-use Rattle.std.proofs.Common.{◌≡◌, inl, inr, ℕ, ◌+◌, Bool, true, false, if◌then◌else◌, List, [], ◌∷◌, ◌++◌, refl, sym, ap, ◌∙◌, subst, append_assoc, arith}
+use Rattle.std.proofs.Common.{◌≡◌, inl, inr, ℕ, ◌+◌, Bool, true, false, if◌then◌else◌, List, [], ◌∷◌, ◌++◌, refl, sym, ap, ◌∙◌, subst}
+use Rattle.std.proofs.Common.{append_assoc, arith}
 use Rattle.std.proofs.lemmas.List.{append-nil}
 use Rattle.std.proofs.lemmas.List.Sums.{sum_by-append, sum_by-cons}
 use Rattle.std.specs.List.{sum_by}
@@ -13,7 +14,8 @@ use Rattle.world_runs.specs.declared.event.Event.TheVariants.{Began, Refused, Ac
 use Rattle.world_runs.specs.Moments.{Actor, WorldState, idle_actor, opening, moment}
 use Rattle.world_runs.specs.Races.{is_own}
 use Rattle.world_runs.specs.Events.{own}
-use Rattle.world_runs.specs.Limits.{event_cost, event_bytes, used, kept_bytes, EndsFull, KeepsRoom, KeepsLimits, KeepsLimitsAfter, OwnLimits, actor_in}
+use Rattle.world_runs.specs.Limits.{event_cost, event_bytes, used, kept_bytes, EndsFull, KeepsRoom, KeepsLimits, KeepsLimitsAfter}
+use Rattle.world_runs.specs.Limits.{OwnLimits, actor_in}
 use Rattle.world_runs.specs.OwnRuns.{own_after, own_state}
 use Rattle.world_runs.proofs.Actors.{own_of_actor, after_actors, moment-append, own-append}
 use Rattle.world_runs.proofs.Owns.{counts_stay}
@@ -70,16 +72,19 @@ own_limits-append counts before s [] fs l k = subst (λ (es : List Event). OwnLi
 own_limits-append counts before s (e ∷ es) fs l k =
     (l.0, own_limits-append counts (before ++ e ∷ []) (own_after counts s e) es fs l.1 (rw append_assoc k))
 
-pub own_limits-front : (counts : Counts) (before : List Event) (s : Actor) (es fs : List Event) → OwnLimits counts before s (es ++ fs) → OwnLimits counts before s es
+pub own_limits-front : (counts : Counts) (before : List Event) (s : Actor) (es fs : List Event) → OwnLimits counts before s (es ++ fs)
+    → OwnLimits counts before s es
 own_limits-front counts before s [] fs l = tt
 own_limits-front counts before s (e ∷ es) fs l = (l.0, own_limits-front counts (before ++ e ∷ []) (own_after counts s e) es fs l.1)
 
 -- what is said of an event's room is told by its actor's own events
-ends_from_own : (counts : Counts) (before : List Event) (s : Actor) (op : OpId) (x : Answer) → EndsFull counts (own op.actor before) s op x → EndsFull counts before s op x
+ends_from_own : (counts : Counts) (before : List Event) (s : Actor) (op : OpId) (x : Answer) → EndsFull counts (own op.actor before) s op x
+    → EndsFull counts before s op x
 ends_from_own counts before s op (answers.HistoryFull p) h = (rw (used_own before op.actor, kept_bytes_own before op.actor) at h.0, h.1)
 ends_from_own counts before s op _ h = tt
 
-room_from_own : (counts : Counts) (before : List Event) (s : Actor) (e : Event) → KeepsRoom counts (own (actor_in e) before) s e → KeepsRoom counts before s e
+room_from_own : (counts : Counts) (before : List Event) (s : Actor) (e : Event) → KeepsRoom counts (own (actor_in e) before) s e
+    → KeepsRoom counts before s e
 room_from_own counts before s (Began op c) h = rw (used_own before op.actor) at h
 room_from_own counts before s (Refused op c) h = rw (used_own before op.actor) at h
 room_from_own counts before s (Acted op q x) h = rw (used_own before op.actor, kept_bytes_own before op.actor) at h
@@ -94,11 +99,13 @@ room_from_own counts before s Dumped h = tt
 abbrev pub AreOwnLimits : Counts → List Event → List Event → Type 0
 AreOwnLimits counts before es = (a : ℕ) → OwnLimits counts (own a before) ((moment counts before).actors a) (own a es)
 
-first_room : (counts : Counts) (before : List Event) (s : Actor) (e : Event) (es : List Event) (b : Bool) → b ≡ true → OwnLimits counts before s (if b then e ∷ es else es) → KeepsRoom counts before s e
+first_room : (counts : Counts) (before : List Event) (s : Actor) (e : Event) (es : List Event) (b : Bool) → b ≡ true
+    → OwnLimits counts before s (if b then e ∷ es else es) → KeepsRoom counts before s e
 first_room counts before s e es true h l = l.0
 first_room counts before s e es false h l = absurd cc
 
-first_keeps : (counts : Counts) (before : List Event) (e : Event) (es : List Event) → AreOwnLimits counts before (e ∷ es) → KeepsRoom counts before ((moment counts before).actors (actor_in e)) e
+first_keeps : (counts : Counts) (before : List Event) (e : Event) (es : List Event) → AreOwnLimits counts before (e ∷ es)
+    → KeepsRoom counts before ((moment counts before).actors (actor_in e)) e
 first_keeps counts before e es limits =
     let k : ℕ = actor_in e in
     let s : Actor = (moment counts before).actors k in
@@ -108,19 +115,22 @@ first_keeps counts before e es limits =
     ]
 
 rest_limits : (counts : Counts) (before : List Event) (s : Actor) (e : Event) (es : List Event) (b : Bool)
-    → OwnLimits counts before s (if b then e ∷ es else es) → OwnLimits counts (before ++ (if b then e ∷ [] else [])) (if b then own_after counts s e else s) es
+    → OwnLimits counts before s (if b then e ∷ es else es)
+    → OwnLimits counts (before ++ (if b then e ∷ [] else [])) (if b then own_after counts s e else s) es
 rest_limits counts before s e es true l = l.1
 rest_limits counts before s e es false l = subst (λ (fs : List Event). OwnLimits counts fs s es) (sym (append-nil before)) l
 
 -- an actor's state after one event more
 pub state_more : (counts : Counts) (before : List Event) (e : Event) (a : ℕ)
-    → (moment counts (before ++ e ∷ [])).actors a ≡ (if is_own a e then own_after counts ((moment counts before).actors a) e else (moment counts before).actors a)
+    → (moment counts (before ++ e ∷ [])).actors a
+    ≡ (if is_own a e then own_after counts ((moment counts before).actors a) e else (moment counts before).actors a)
 state_more counts before e a =
     let m : WorldState = moment counts before in
     let same : m.counts ≡ counts = counts_stay (opening counts) before in
     ap (λ (n : WorldState). n.actors a) (moment-append counts before (e ∷ [])) ∙ after_actors m e a ∙ ap (λ (c : Counts). if is_own a e then own_after c (m.actors a) e else m.actors a) same
 
-rest_keep : (counts : Counts) (before : List Event) (e : Event) (es : List Event) → AreOwnLimits counts before (e ∷ es) → AreOwnLimits counts (before ++ e ∷ []) es
+rest_keep : (counts : Counts) (before : List Event) (e : Event) (es : List Event) → AreOwnLimits counts before (e ∷ es)
+    → AreOwnLimits counts (before ++ e ∷ []) es
 rest_keep counts before e es limits a =
     let s : Actor = (moment counts before).actors a in
     rw (own-append a before (e ∷ []), state_more counts before e a) (rest_limits counts (own a before) s e (own a es) (is_own a e) (limits a))
@@ -129,5 +139,6 @@ pub limits_from_own : (counts : Counts) (before es : List Event) → AreOwnLimit
 limits_from_own counts before [] limits = tt
 limits_from_own counts before (e ∷ es) limits = (first_keeps counts before e es limits, limits_from_own counts (before ++ e ∷ []) es (rest_keep counts before e es limits))
 
-pub own_limits_make_limits : (counts : Counts) (history : List Event) → ((actor : ℕ) → OwnLimits counts [] idle_actor (own actor history)) → KeepsLimits counts history
+pub own_limits_make_limits : (counts : Counts) (history : List Event) → ((actor : ℕ) → OwnLimits counts [] idle_actor (own actor history))
+    → KeepsLimits counts history
 own_limits_make_limits counts history limits = limits_from_own counts [] history limits

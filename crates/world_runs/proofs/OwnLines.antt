@@ -1,5 +1,6 @@
 -- what an actor's own events show is told by its own events alone
-use Rattle.std.proofs.Common.{◌≡◌, inl, inr, ℕ, ◌+◌, Bool, true, false, if◌then◌else◌, List, [], ◌∷◌, ◌++◌, refl, sym, ap, ◌∙◌, subst, append_assoc, eqb}
+use Rattle.std.proofs.Common.{◌≡◌, inl, inr, ℕ, ◌+◌, Bool, true, false, if◌then◌else◌, List, [], ◌∷◌, ◌++◌, refl, sym, ap, ◌∙◌, subst}
+use Rattle.std.proofs.Common.{append_assoc, eqb}
 use Rattle.std.proofs.lemmas.List.{append-nil}
 use Rattle.std.proofs.lemmas.List.Sums.{sum_by-append}
 use Rattle.tect_ids.specs.declared.answer.Answer.{Answer}
@@ -46,13 +47,15 @@ transactions_own es op = own_sum op.actor (act_count op) (other_act op) es
 
 -- ---- lines
 
-line_own : (clients : List (List ℕ)) (before : List Event) (actor : ℕ) (op : OpId) (a : Answer) → eqb op.actor actor ≡ true → answer_line clients (own actor before) op a ≡ answer_line clients before op a
+line_own : (clients : List (List ℕ)) (before : List Event) (actor : ℕ) (op : OpId) (a : Answer) → eqb op.actor actor ≡ true
+    → answer_line clients (own actor before) op a ≡ answer_line clients before op a
 line_own clients before actor op a h =
     let is : op.actor ≡ actor = one_number op.actor actor h in
     let same : transactions (own actor before) op ≡ transactions before op = subst (λ (n : ℕ). transactions (own n before) op ≡ transactions before op) is (transactions_own before op) in
     ap (λ (n : ℕ). report_lines.Client (client_name clients op.actor) op.number n a) same
 
-pub lines_own : (counts : Counts) (clients : List (List ℕ)) (before : List Event) (actor : ℕ) (e : Event) → is_own actor e ≡ true → lines_at counts clients (own actor before) e ≡ lines_at counts clients before e
+pub lines_own : (counts : Counts) (clients : List (List ℕ)) (before : List Event) (actor : ℕ) (e : Event) → is_own actor e ≡ true
+    → lines_at counts clients (own actor before) e ≡ lines_at counts clients before e
 lines_own counts clients before actor (Began op c) h = refl
 lines_own counts clients before actor (Refused op c) h = refl
 lines_own counts clients before actor (Acted op q x) h = refl
@@ -61,8 +64,10 @@ lines_own counts clients before actor (Stopped op) h = ap (λ l. l ∷ []) (line
 lines_own counts clients before actor (Failed op a) h = ap (λ l. l ∷ []) (line_own clients before actor op a h)
 lines_own counts clients before actor Dumped h = absurd cc
 
-own_cases-shown : (counts : Counts) (clients : List (List ℕ)) (actor : ℕ) (before : List Event) (e : Event) (es : List Event) (b : Bool) → is_own actor e ≡ b
-    → own_lines counts clients actor (own actor before ++ (if b then e ∷ [] else [])) (own actor es) ≡ own_lines counts clients actor (before ++ e ∷ []) es
+own_cases-shown : (counts : Counts) (clients : List (List ℕ)) (actor : ℕ) (before : List Event) (e : Event) (es : List Event) (b : Bool)
+    → is_own actor e ≡ b
+    → own_lines counts clients actor (own actor before ++ (if b then e ∷ [] else [])) (own actor es)
+    ≡ own_lines counts clients actor (before ++ e ∷ []) es
     → own_lines counts clients actor (own actor before) (if b then e ∷ own actor es else own actor es)
     ≡ (if b then lines_at counts clients before e else []) ++ own_lines counts clients actor (before ++ e ∷ []) es
 own_cases-shown counts clients actor before e es true h rest =
@@ -72,7 +77,8 @@ own_cases-shown counts clients actor before e es true h rest =
 own_cases-shown counts clients actor before e es false h rest = ap (λ b. own_lines counts clients actor b (own actor es)) (sym (append-nil (own actor before))) ∙ rest
 
 -- what an actor's own events show is told by its own events alone
-pub own_lines_own : (counts : Counts) (clients : List (List ℕ)) (actor : ℕ) (before es : List Event) → own_lines counts clients actor (own actor before) (own actor es) ≡ own_lines counts clients actor before es
+pub own_lines_own : (counts : Counts) (clients : List (List ℕ)) (actor : ℕ) (before es : List Event)
+    → own_lines counts clients actor (own actor before) (own actor es) ≡ own_lines counts clients actor before es
 own_lines_own counts clients actor before [] = refl
 own_lines_own counts clients actor before (e ∷ es) =
     let rest : own_lines counts clients actor (own actor (before ++ e ∷ [])) (own actor es) ≡ own_lines counts clients actor (before ++ e ∷ []) es = own_lines_own counts clients actor (before ++ e ∷ []) es in
@@ -80,7 +86,8 @@ own_lines_own counts clients actor before (e ∷ es) =
     own_cases-shown counts clients actor before e es (is_own actor e) refl (ap (λ b. own_lines counts clients actor b (own actor es)) more ∙ rest)
 
 pub own_lines-append : (counts : Counts) (clients : List (List ℕ)) (actor : ℕ) (before es fs : List Event)
-    → own_lines counts clients actor before (es ++ fs) ≡ own_lines counts clients actor before es ++ own_lines counts clients actor (before ++ es) fs
+    → own_lines counts clients actor before (es ++ fs)
+    ≡ own_lines counts clients actor before es ++ own_lines counts clients actor (before ++ es) fs
 own_lines-append counts clients actor before [] fs = ap (λ b. own_lines counts clients actor b fs) (sym (append-nil before))
 own_lines-append counts clients actor before (e ∷ es) fs =
     let here : List ReportLine = if is_own actor e then lines_at counts clients before e else [] in

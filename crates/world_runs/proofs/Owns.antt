@@ -8,13 +8,15 @@ use Rattle.world_runs.specs.Races.{is_own}
 use Rattle.world_runs.specs.Events.{own}
 use Rattle.world_runs.specs.Limits.{actor_in}
 use Rattle.world_runs.specs.OwnRuns.{OwnMay, OwnRun, own_after, own_state, RepliesAre, stored_after}
-use Rattle.world_runs.proofs.Actors.{own_of_actor, actor_of_own, after_actors, after_counts, after_store, may_from, own_from, replies-append, replies-front, replies-rest, stored_after-append}
+use Rattle.world_runs.proofs.Actors.{own_of_actor, actor_of_own, after_actors, after_counts, after_store, may_from, own_from}
+use Rattle.world_runs.proofs.Actors.{replies-append, replies-front, replies-rest, stored_after-append}
 
 -- each actor's own events are a run of it
 abbrev pub AreOwnRuns : WorldState → List Event → Type 0
 AreOwnRuns m es = (a : ℕ) → OwnRun m.counts (m.actors a) (own a es)
 
-first_own : (counts : Counts) (s : Actor) (e : Event) (es : List Event) (b : Bool) → b ≡ true → OwnRun counts s (if b then e ∷ es else es) → OwnMay s e
+first_own : (counts : Counts) (s : Actor) (e : Event) (es : List Event) (b : Bool) → b ≡ true → OwnRun counts s (if b then e ∷ es else es)
+    → OwnMay s e
 first_own counts s e es true h r = r.0
 first_own counts s e es false h r = absurd cc
 
@@ -28,7 +30,8 @@ first_may m e es runs =
     ]
 
 -- the other events go on from the moment after it
-rest_run : (counts : Counts) (s : Actor) (e : Event) (es : List Event) (b : Bool) → OwnRun counts s (if b then e ∷ es else es) → OwnRun counts (if b then own_after counts s e else s) es
+rest_run : (counts : Counts) (s : Actor) (e : Event) (es : List Event) (b : Bool) → OwnRun counts s (if b then e ∷ es else es)
+    → OwnRun counts (if b then own_after counts s e else s) es
 rest_run counts s e es true r = r.1
 rest_run counts s e es false r = r
 
@@ -41,13 +44,15 @@ run_from_own m (e ∷ es) runs replies =
     let rest : RepliesAre (after m e).store es = rw (after_store m e) (replies-rest m.store (e ∷ []) es replies) in
     (may_from m e (first_may m e es runs) (replies-front m.store (e ∷ []) es replies), run_from_own (after m e) es (rest_runs m e es runs) rest)
 
-pub own_runs_make_run : (counts : Counts) (history : List Event) → ((actor : ℕ) → OwnRun counts idle_actor (own actor history)) → RepliesAre opening_store history
+pub own_runs_make_run : (counts : Counts) (history : List Event) → ((actor : ℕ) → OwnRun counts idle_actor (own actor history))
+    → RepliesAre opening_store history
     → IsWorldRun counts history
 own_runs_make_run counts history runs replies = run_from_own (opening counts) history runs replies
 
 -- ---- the other way round
 
-all_run : (counts : Counts) (s : Actor) (e : Event) (es : List Event) (b : Bool) → (b ≡ true → OwnMay s e) → OwnRun counts (if b then own_after counts s e else s) es → OwnRun counts s (if b then e ∷ es else es)
+all_run : (counts : Counts) (s : Actor) (e : Event) (es : List Event) (b : Bool) → (b ≡ true → OwnMay s e)
+    → OwnRun counts (if b then own_after counts s e else s) es → OwnRun counts s (if b then e ∷ es else es)
 all_run counts s e es true may r = (may refl, r)
 all_run counts s e es false may r = r
 
@@ -71,7 +76,8 @@ run_is_own_runs counts history run = (own_from_run (opening counts) history run,
 
 -- ---- the states
 
-state_step : (counts : Counts) (s : Actor) (e : Event) (es : List Event) (b : Bool) → own_state counts (if b then own_after counts s e else s) es ≡ own_state counts s (if b then e ∷ es else es)
+state_step : (counts : Counts) (s : Actor) (e : Event) (es : List Event) (b : Bool)
+    → own_state counts (if b then own_after counts s e else s) es ≡ own_state counts s (if b then e ∷ es else es)
 state_step counts s e es true = refl
 state_step counts s e es false = refl
 
@@ -80,7 +86,8 @@ pub counts_stay : (m : WorldState) (es : List Event) → (after_all m es).counts
 counts_stay m [] = refl
 counts_stay m (e ∷ es) = counts_stay (after m e) es ∙ after_counts m e
 
-pub actors_are_their_own : (m : WorldState) (es : List Event) (a : ℕ) → (after_all m es).actors a ≡ own_state m.counts (m.actors a) (own a es)
+pub actors_are_their_own : (m : WorldState) (es : List Event) (a : ℕ)
+    → (after_all m es).actors a ≡ own_state m.counts (m.actors a) (own a es)
 actors_are_their_own m [] a = refl
 actors_are_their_own m (e ∷ es) a =
     let rest : (after_all (after m e) es).actors a ≡ own_state m.counts (if is_own a e then own_after m.counts (m.actors a) e else m.actors a) (own a es) =

@@ -10,7 +10,8 @@ use Rattle.world_runs.specs.Follows.{DoesLine}
 abbrev pub DoesLines : ℕ → Option OpId → List Line → List Event → Option OpId → Type 0
 DoesLines actor busy [] es next = (es ≡ []) × (next ≡ busy)
 DoesLines actor busy (lines.Client client other act ∷ ls) es next =
-    (part : List Event) × (rest : List Event) × (then : Option OpId) × (other ≡ actor) × (es ≡ part ++ rest) × DoesLine actor busy act part then
+    (part : List Event) × (rest : List Event) × (then : Option OpId)
+    × (other ≡ actor) × (es ≡ part ++ rest) × DoesLine actor busy act part then
     × DoesLines actor then ls rest next
 DoesLines actor busy (lines.Dump ∷ ls) es next = (rest : List Event) × (es ≡ Dumped ∷ rest) × DoesLines actor busy ls rest next
 DoesLines actor busy (lines.Store counts ∷ ls) es next = ⊥

@@ -51,7 +51,8 @@ IsBeginOf op c Dumped = ⊥
 
 abbrev pub BeginsAndEnds : ℕ → Command → List Event → Type 0
 BeginsAndEnds actor c es =
-    (op : OpId) × (begin : Event) × (rest : List Event) × (op.actor ≡ actor) × (es ≡ begin ∷ rest) × IsBeginOf op c begin × RunsToEnd op rest
+    (op : OpId) × (begin : Event) × (rest : List Event)
+    × (op.actor ≡ actor) × (es ≡ begin ∷ rest) × IsBeginOf op c begin × RunsToEnd op rest
 
 -- What the line of an actor asks for: busy is its op that has begun and not ended, and next the one after the line.
 -- A step is that many transactions, or fewer and then the end.

@@ -24,7 +24,8 @@ own_part actor ms silent = events_of (filter (is_of actor) ms) ++ own actor sile
 
 -- what the actors' own events of a part show, after those before the part
 abbrev pub part_report : Counts → List (List ℕ) → (ℕ → List Event) → List Moment → List Event → List ReportLine
-part_report counts clients before ms silent = by_client clients 1 (λ actor. own_lines counts clients actor (before actor) (own_part actor ms silent))
+part_report counts clients before ms silent =
+    by_client clients 1 (λ actor. own_lines counts clients actor (before actor) (own_part actor ms silent))
 
 -- the parts, each that a dump ends with the lines of that dump
 abbrev pub parts_report : Counts → List (List ℕ) → (ℕ → List Event) → Store → List Cut → List Event → List Moment → List ReportLine

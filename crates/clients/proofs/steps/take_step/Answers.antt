@@ -2,7 +2,7 @@ use Rattle.std.proofs.Common.{◌∙◌, sym, ap, subst, refl}
 use Rattle.entry_words.specs.declared.entry.Note.TheVariants.{Ended}
 use Rattle.tect_ids.specs.declared.answer.Answer.TheVariants as answers
 use Rattle.clients.specs.ActorState.{ActorState, op_of}
-use Rattle.clients.specs.Commits.{NotedEnd}
+use Rattle.passes.specs.Adding.{NotedEnd}
 use Rattle.clients.specs.PassSteps.{ended, Settles}
 use Rattle.clients.proofs.StepCases.{unasked_step, wanting_step}
 use Rattle.clients.proofs.steps.take_step.Goals as goal

@@ -3,7 +3,7 @@ use Rattle.tect_ids.specs.declared.ids.Counts.{Counts}
 use Rattle.tect_ids.specs.declared.answer.Answer.TheVariants as answers
 use Rattle.store_rules.specs.Places.{request_place}
 use Rattle.entry_words.specs.declared.entry.Refused.TheVariants.{NoMemory, HistoryFull}
-use Rattle.clients.specs.Commits.{Committed, entry_at}
+use Rattle.passes.specs.Adding.{Committed, entry_at}
 use Rattle.clients.proofs.StepCases.{did_step, denied_step}
 use Rattle.clients.proofs.steps.transact.Goals as goal
 

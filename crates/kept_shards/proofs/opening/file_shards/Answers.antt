@@ -4,7 +4,7 @@ use Rattle.place_kit.specs.declared.any.AnyKept.{AnyKept}
 use Rattle.place_kit.specs.declared.any.AnyKept.TheVariants.{File}
 use Rattle.std.specs.FinMap.{empty}
 use Rattle.entry_words.specs.declared.entry.Entry.{Entry}
-use Rattle.place_kit.specs.Logged.{Logged}
+use Rattle.passes.specs.Logged.{Logged}
 use Rattle.store_rules.specs.Files.{Files}
 use Rattle.kept_shards.specs.Opening.{AreNew}
 use Rattle.kept_shards.proofs.Opened.{new_push, file_label}

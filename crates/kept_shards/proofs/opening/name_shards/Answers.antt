@@ -3,7 +3,7 @@ use Rattle.std.proofs.lemmas.List.{map-append}
 use Rattle.place_kit.specs.declared.any.AnyKept.{AnyKept}
 use Rattle.place_kit.specs.declared.any.AnyKept.TheVariants.{Name}
 use Rattle.entry_words.specs.declared.entry.Entry.{Entry}
-use Rattle.place_kit.specs.Logged.{Logged}
+use Rattle.passes.specs.Logged.{Logged}
 use Rattle.store_rules.specs.Names.{Names}
 use Rattle.all_shards.specs.Opening.{IsOpening}
 use Rattle.kept_shards.specs.Opening.{AreNew}

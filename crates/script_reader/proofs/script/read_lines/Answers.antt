@@ -11,11 +11,11 @@ returns-in_err-read c =
     let more = c.first_part.result.1 in
     let whole = lines_read c.args.counts [] c.args.first (parts 10 c.args.bytes.now) in
     let all = c.lines.invariant.all ∙ ap
-        (λ (ps : List (List ℕ)). front c.lines.lines (lines_read c.args.counts c.lines.clients.entries c.lines.number ps))
-        c.first_part.ensures.parts_are in
+    (λ (ps : List (List ℕ)). front c.lines.lines (lines_read c.args.counts c.lines.clients.entries c.lines.number ps))
+    c.first_part.ensures.parts_are in
     let p = err_from_is_err_and c.from_residual.result c.from_residual.ensures.1 in
     rw (p.1, p.2) (text_wrong c.args.counts whole c.lines.lines c.lines.clients.entries c.lines.number line (parts_behind 10 more) all
-        (is_line line more (sym c.is_end.ensures ∙ c.if-is_end.false)) c.in_err-read.field-0.0 c.in_err-read.ensures.text)
+    (is_line line more (sym c.is_end.ensures ∙ c.if-is_end.false)) c.in_err-read.field-0.0 c.in_err-read.ensures.text)
 
 pub lines-preserved-in_ok-push : goal.lines-preserved-in_ok-push
 lines-preserved-in_ok-push c =
@@ -23,15 +23,18 @@ lines-preserved-in_ok-push c =
     let more = c.first_part.result.1 in
     let whole = lines_read c.args.counts [] c.args.first (parts 10 c.args.bytes.now) in
     let all = c.lines.invariant.all ∙ ap
-        (λ (ps : List (List ℕ)). front c.lines.lines (lines_read c.args.counts c.lines.clients.entries c.lines.number ps))
-        c.first_part.ensures.parts_are in
+    (λ (ps : List (List ℕ)). front c.lines.lines (lines_read c.args.counts c.lines.clients.entries c.lines.number ps))
+    c.first_part.ensures.parts_are in
     record {
       all = pushed c.args.counts whole c.lines.lines c.lines.clients.entries c.lines.number line more c.in_ok-rest.rest c.in_ok-read.read
           all (sym c.is_end.ensures ∙ c.if-is_end.false) c.in_ok-read.ensures.text c.in_ok-rest.ensures c.in-Some.line c.push.new.self
           c.read_text.new.clients.entries c.in-Some.is c.in_ok-push.ensures.ok c.in_ok-read.ensures.seen;
       few = c.in_ok-read.ensures.few;
-      size = omega (arith, rest_smaller c.lines.number line more c.in_ok-rest.rest c.lines.rest.now c.first_part.ensures
-          c.in_ok-rest.ensures);
+      size = omega (
+        arith,
+        rest_smaller c.lines.number line more c.in_ok-rest.rest c.lines.rest.now c.first_part.ensures
+            c.in_ok-rest.ensures,
+      );
     }
 
 pub lines-preserved : goal.lines-preserved
@@ -40,13 +43,16 @@ lines-preserved c =
     let more = c.first_part.result.1 in
     let whole = lines_read c.args.counts [] c.args.first (parts 10 c.args.bytes.now) in
     let all = c.lines.invariant.all ∙ ap
-        (λ (ps : List (List ℕ)). front c.lines.lines (lines_read c.args.counts c.lines.clients.entries c.lines.number ps))
-        c.first_part.ensures.parts_are in
+    (λ (ps : List (List ℕ)). front c.lines.lines (lines_read c.args.counts c.lines.clients.entries c.lines.number ps))
+    c.first_part.ensures.parts_are in
     record {
       all = skipped c.args.counts whole c.lines.lines c.lines.clients.entries c.lines.number line more c.in_ok-rest.rest c.in_ok-read.read
           all (sym c.is_end.ensures ∙ c.if-is_end.false) c.in_ok-read.ensures.text c.in_ok-rest.ensures c.read_text.new.clients.entries
           c.in_default.is c.in_ok-read.ensures.seen;
       few = c.in_ok-read.ensures.few;
-      size = omega (arith, rest_smaller c.lines.number line more c.in_ok-rest.rest c.lines.rest.now c.first_part.ensures
-          c.in_ok-rest.ensures);
+      size = omega (
+        arith,
+        rest_smaller c.lines.number line more c.in_ok-rest.rest c.lines.rest.now c.first_part.ensures
+            c.in_ok-rest.ensures,
+      );
     }

@@ -12,8 +12,8 @@ returns-in_err-counts c =
     let all = c.store.invariant.all ∙ ap (λ (ps : List (List ℕ)). store_read c.store.number ps) c.first_part.ensures.parts_are in
     let p = err_from_is_err_and c.from_residual.result c.from_residual.ensures.1 in
     rw (p.1, p.2, script_small c.args.bytes.now c.if-bytes-gt67108864.false)
-        (store_wrong (store_read 1 (parts 10 c.args.bytes.now)) c.store.number line (parts_behind 10 more) all
-        (is_line line more (sym c.is_end.ensures ∙ c.if-is_end.false)) c.in_err-counts.field-0.0 c.in_err-counts.ensures)
+    (store_wrong (store_read 1 (parts 10 c.args.bytes.now)) c.store.number line (parts_behind 10 more) all
+    (is_line line more (sym c.is_end.ensures ∙ c.if-is_end.false)) c.in_err-counts.field-0.0 c.in_err-counts.ensures)
 
 pub returns-in-Some : goal.returns-in-Some
 returns-in-Some c =
@@ -21,7 +21,7 @@ returns-in-Some c =
     let more = c.first_part.result.1 in
     let all = c.store.invariant.all ∙ ap (λ (ps : List (List ℕ)). store_read c.store.number ps) c.first_part.ensures.parts_are in
     let next = next_store (store_read 1 (parts 10 c.args.bytes.now)) c.store.number line more c.in_ok-rest.rest c.in_ok-counts.counts all
-        (sym c.is_end.ensures ∙ c.if-is_end.false) c.in_ok-counts.ensures c.in_ok-rest.ensures in
+    (sym c.is_end.ensures ∙ c.if-is_end.false) c.in_ok-counts.ensures c.in_ok-rest.ensures in
     rw (script_small c.args.bytes.now c.if-bytes-gt67108864.false, next, c.in-Some.is) c.read_lines.ensures
 
 pub store-preserved : goal.store-preserved
@@ -30,9 +30,12 @@ store-preserved c =
     let more = c.first_part.result.1 in
     let all = c.store.invariant.all ∙ ap (λ (ps : List (List ℕ)). store_read c.store.number ps) c.first_part.ensures.parts_are in
     let next = next_store (store_read 1 (parts 10 c.args.bytes.now)) c.store.number line more c.in_ok-rest.rest c.in_ok-counts.counts all
-        (sym c.is_end.ensures ∙ c.if-is_end.false) c.in_ok-counts.ensures c.in_ok-rest.ensures in
+    (sym c.is_end.ensures ∙ c.if-is_end.false) c.in_ok-counts.ensures c.in_ok-rest.ensures in
     record {
       all = rw c.in_default.is at next;
-      size = omega (arith, rest_smaller c.store.number line more c.in_ok-rest.rest c.store.rest.now c.first_part.ensures
-          c.in_ok-rest.ensures);
+      size = omega (
+        arith,
+        rest_smaller c.store.number line more c.in_ok-rest.rest c.store.rest.now c.first_part.ensures
+            c.in_ok-rest.ensures,
+      );
     }

@@ -11,4 +11,4 @@ returns-in-Some c =
     let bytes = c.args.bytes.now in
     let end = c.in-Some.end in
     part_some c.args.separator bytes _ _ end c.in-Some.ensures refl
-        (take_all (length bytes - (end + 1)) (drop (end + 1) bytes) (omega (arith, length-drop (end + 1) bytes)))
+    (take_all (length bytes - (end + 1)) (drop (end + 1) bytes) (omega (arith, length-drop (end + 1) bytes)))

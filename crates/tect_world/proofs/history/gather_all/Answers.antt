@@ -1,5 +1,5 @@
 use Rattle.std.proofs.Common.{List, sym, subst}
-use Rattle.place_kit.specs.declared.pass.Pass.{Pass}
+use Rattle.passes.specs.declared.pass.Pass.{Pass}
 use Rattle.merge_runs.specs.Merged.{HaveDifferentActors}
 use Rattle.tect_world.proofs.history.gather_all.Goals as goal
 

@@ -1,6 +1,6 @@
 use Rattle.std.proofs.Common.{◌∙◌, sym, refl}
 use Rattle.std.specs.Prelude.{IsOk}
-use Rattle.place_kit.specs.Commits.{IsFullForBegin}
+use Rattle.passes.specs.Commits.{IsFullForBegin}
 use Rattle.clients.proofs.Closings.{at_ok, ok_no_err, refuses_here, same_full, begun_client}
 use Rattle.clients.proofs.client.Client.note_begin.Goals as goal
 

@@ -6,7 +6,7 @@ use Rattle.store_rules.specs.declared.any.AnyReply.TheVariants as reply_of
 use Rattle.place_kit.specs.declared.any.AnyKept.TheVariants.{Name, File}
 use Rattle.entry_words.specs.declared.entry.Label.{Label}
 use Rattle.entry_words.specs.declared.entry.Refused.TheVariants.{HistoryFull}
-use Rattle.place_kit.specs.Commits.{IsFull}
+use Rattle.passes.specs.Commits.{IsFull}
 use Rattle.place_kit.proofs.Committing.{label_stays, machine_after}
 use Rattle.kept_shards.specs.KeptStore.{KeptStore}
 use Rattle.kept_shards.proofs.Committed.{file_keeps, file_label, file_failed, file_result, clock_is, first_err, if_ok}

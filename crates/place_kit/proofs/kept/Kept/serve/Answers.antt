@@ -1,7 +1,8 @@
 use Rattle.std.proofs.Common.{arith, sym, ap, ◌∙◌, refl, ◌+◌}
-use Rattle.place_kit.proofs.Keeping.{IsKept-push, same_kept, same_log}
+use Rattle.passes.proofs.Keeping.{same_log}
+use Rattle.place_kit.proofs.Keeping.{IsKept-push, same_kept}
 use Rattle.entry_words.specs.declared.entry.Entry.{Entry}
-use Rattle.place_kit.specs.Commits.{op_number}
+use Rattle.passes.specs.Commits.{op_number}
 use Rattle.place_kit.proofs.kept.Kept.serve.Goals as goal
 
 pub returns-in_default-clause-err : goal.returns-in_default-clause-err

@@ -1,0 +1,4 @@
+pub mod Sound
+pub mod TreeSteps
+pub mod Points
+pub mod Headline

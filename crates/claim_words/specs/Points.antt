@@ -1,0 +1,164 @@
+-- The point of a command: the step of the small machine at which its answer is decided.
+use Rattle.std.specs.Prelude.{◌≡◌, ℕ, if◌then◌else◌, List, [], ◌∷◌, ◌++◌, ◌⊎◌}
+use Rattle.tect_ids.specs.declared.ids.DirId.{DirId}
+use Rattle.tect_ids.specs.declared.ids.Node.{Node}
+use Rattle.tect_ids.specs.declared.ids.Node.TheVariants.{Dir, File}
+use Rattle.tect_ids.specs.declared.ids.OpId.{OpId}
+use Rattle.tect_ids.specs.declared.key.Key.{Key}
+use Rattle.tect_ids.specs.declared.values.Over.TheVariants as over
+use Rattle.tect_ids.specs.declared.values.Want.TheVariants.{AnyFile}
+use Rattle.tect_ids.specs.declared.command.Command.{Command}
+use Rattle.tect_ids.specs.declared.command.Command.TheVariants as commands
+use Rattle.tect_ids.specs.declared.answer.Answer.{Answer}
+use Rattle.tect_ids.specs.declared.answer.Answer.TheVariants as answers
+use Rattle.tect_ids.specs.Keys.{op_eq}
+use Rattle.store_rules.specs.Names.{key_in}
+use Rattle.tree_model.specs.declared.step.TreeStep.{TreeStep}
+use Rattle.tree_model.specs.declared.step.TreeStep.TheVariants as step
+use Rattle.tree_model.specs.declared.step.Shown.TheVariants as shown
+use Rattle.tree_model.specs.declared.step.Refusal.{Refusal}
+use Rattle.tree_model.specs.declared.step.Refusal.TheVariants as refusal
+use Rattle.tree_model.specs.declared.step.TreeReply.{TreeReply}
+use Rattle.tree_model.specs.declared.step.TreeReply.TheVariants.{Ok, Refused}
+use Rattle.tree_model.specs.Tree.{tree_reply, opening_tree}
+use Rattle.program_rules.specs.Paths.{last_name}
+use Rattle.program_rules.specs.Programs.{root, way}
+use Rattle.claim_words.specs.TreeSteps.{Told, tree_after}
+
+-- the steps of one op
+abbrev pub of_op : OpId → List Told → List Told
+of_op op [] = []
+of_op op (s ∷ ss) = if op_eq s.op op then s ∷ of_op op ss else of_op op ss
+
+-- By these steps a walk along the names comes from d to e, and the names in rest are left: each look of the next name found
+-- the next directory.
+abbrev pub Walked : DirId → List (List ℕ) → List Told → DirId → List (List ℕ) → Type 0
+Walked d names [] e rest = (d ≡ e) × (names ≡ rest)
+Walked d [] (s ∷ ss) e rest = Walked d [] ss e rest
+Walked d (n ∷ ns) (s ∷ ss) e rest =
+    (x : DirId) × (s.does ≡ step.Look (key_in d n)) × (s.says ≡ Ok (shown.Node (Dir x))) × Walked x ns ss e rest
+
+-- one of these steps was this, and this was said to it
+abbrev pub Seen : List Told → TreeStep → TreeReply → Type 0
+Seen [] does said = ⊥
+Seen (s ∷ ss) does said = ((s.does ≡ does) × (s.says ≡ said)) ⊎ Seen ss does said
+
+-- the answer that a refusal makes, of a step at this entry
+abbrev pub refused_answer : Key → Refusal → Answer
+refused_answer k refusal.NoDir = answers.NoDir
+refused_answer k refusal.NoName = answers.NoName
+refused_answer k refusal.NoFile = answers.NoFile
+refused_answer k refusal.Exists = answers.Exists
+refused_answer k refusal.IsDir = answers.IsDir
+refused_answer k refusal.Sealed = answers.Sealed
+refused_answer k refusal.Full = answers.Full (k.dir).0
+refused_answer k (refusal.Changed now) = answers.Changed k now
+
+-- the answer that what was said makes, where Ok makes this one
+abbrev pub done_answer : Key → Answer → TreeReply → Answer
+done_answer k a (Ok x) = a
+done_answer k a (Refused why) = refused_answer k why
+
+-- a look on the way that ends a command
+abbrev pub StopsWalk : Key → TreeReply → Answer → Type 0
+StopsWalk k (Refused why) a = a ≡ refused_answer k why
+StopsWalk k (Ok (shown.Node (File f))) a = a ≡ answers.NotDir
+StopsWalk k (Ok (shown.Node (Dir d))) a = ⊥
+StopsWalk k (Ok shown.Done) a = ⊥
+StopsWalk k (Ok (shown.Parent p sealed)) a = ⊥
+StopsWalk k (Ok (shown.Entries sealed items)) a = ⊥
+
+abbrev pub Finds : Key → TreeReply → Answer → Type 0
+Finds k (Refused why) a = a ≡ refused_answer k why
+Finds k (Ok (shown.Node n)) a = a ≡ answers.Found n
+Finds k (Ok shown.Done) a = ⊥
+Finds k (Ok (shown.Parent p sealed)) a = ⊥
+Finds k (Ok (shown.Entries sealed items)) a = ⊥
+
+abbrev pub Lists : Key → TreeReply → Answer → Type 0
+Lists k (Refused why) a = a ≡ refused_answer k why
+Lists k (Ok (shown.Entries sealed items)) a = a ≡ answers.Entries items
+Lists k (Ok shown.Done) a = ⊥
+Lists k (Ok (shown.Parent p sealed)) a = ⊥
+Lists k (Ok (shown.Node n)) a = ⊥
+
+-- a rename's look ends it where it is refused, and where the names are equal
+abbrev pub FindsSource : Key → List ℕ → TreeReply → Answer → Type 0
+FindsSource k to (Refused why) a = a ≡ refused_answer k why
+FindsSource k to (Ok x) a = (k.name ≡ to) × (a ≡ answers.Done)
+
+-- a refusal ends the command
+abbrev pub IsRefusal : Key → TreeReply → Answer → Type 0
+IsRefusal k (Ok x) a = ⊥
+IsRefusal k (Refused why) a = a ≡ refused_answer k why
+
+-- the rename had found this node under the old name
+abbrev pub FoundSource : List Told → DirId → List (List ℕ) → Node → Type 0
+FoundSource own d p n = Seen own (step.Look (key_in d (last_name p))) (Ok (shown.Node n))
+
+abbrev pub LookDecides : DirId → List (List ℕ) → TreeStep → TreeReply → Answer → Type 0
+LookDecides d [] (step.Check e) r a = (e ≡ d) × (a ≡ done_answer (key_in d []) (answers.Found (Dir d)) r)
+LookDecides d (n ∷ ns) (step.Look k) r a = (k ≡ key_in d (last_name (n ∷ ns))) × Finds k r a
+LookDecides d p s r a = ⊥
+
+abbrev pub ListDecides : DirId → TreeStep → TreeReply → Answer → Type 0
+ListDecides d (step.List e) r a = (e ≡ d) × Lists (key_in d []) r a
+ListDecides d s r a = ⊥
+
+abbrev pub CreateDecides : DirId → List (List ℕ) → TreeStep → TreeReply → Answer → Type 0
+CreateDecides d p (step.Bind k (File f) over.File) r a = (k ≡ key_in d (last_name p)) × (a ≡ done_answer k (answers.Found (File f)) r)
+CreateDecides d p s r a = ⊥
+
+abbrev pub MkdirDecides : DirId → List (List ℕ) → TreeStep → TreeReply → Answer → Type 0
+MkdirDecides d p (step.Bind k (Dir x) over.Absent) r a = (k ≡ key_in d (last_name p)) × (a ≡ done_answer k (answers.Found (Dir x)) r)
+MkdirDecides d p s r a = ⊥
+
+abbrev pub DeleteDecides : DirId → List (List ℕ) → TreeStep → TreeReply → Answer → Type 0
+DeleteDecides d p (step.Unbind k AnyFile) r a = (k ≡ key_in d (last_name p)) × (a ≡ done_answer k answers.Done r)
+DeleteDecides d p s r a = ⊥
+
+abbrev pub RenameDecides : List Told → DirId → List (List ℕ) → List ℕ → TreeStep → TreeReply → Answer → Type 0
+RenameDecides own d p to (step.Look k) r a = (k ≡ key_in d (last_name p)) × FindsSource k to r a
+RenameDecides own d p to (step.GrantDir x) r a = FoundSource own d p (Dir x) × IsRefusal (key_in d (last_name p)) r a
+RenameDecides own d p to (step.GrantFile f) r a = FoundSource own d p (File f) × IsRefusal (key_in d (last_name p)) r a
+RenameDecides own d p to (step.Swap e old new n) r a =
+    FoundSource own d p n × (e ≡ d) × (old ≡ last_name p) × (new ≡ to) × (a ≡ done_answer (key_in d (last_name p)) answers.Done r)
+RenameDecides own d p to s r a = ⊥
+
+-- the step that decides a command, in the directory d to which its walk led, and the answer that its reply makes; own are
+-- the op's steps before
+abbrev pub Decides : Command → List Told → DirId → TreeStep → TreeReply → Answer → Type 0
+Decides (commands.Look p) own d s r a = LookDecides d p s r a
+Decides (commands.List p) own d s r a = ListDecides d s r a
+Decides (commands.Create p) own d s r a = CreateDecides d p s r a
+Decides (commands.Mkdir p) own d s r a = MkdirDecides d p s r a
+Decides (commands.Delete p) own d s r a = DeleteDecides d p s r a
+Decides (commands.Rename p to) own d s r a = RenameDecides own d p (last_name to) s r a
+Decides _ own d s r a = ⊥
+
+-- on the way, or where it led
+abbrev pub DecidesAt : Command → List Told → DirId → List (List ℕ) → TreeStep → TreeReply → Answer → Type 0
+DecidesAt c own d (n ∷ ns) s r a = (s ≡ step.Look (key_in d n)) × StopsWalk (key_in d n) r a
+DecidesAt c own d [] s r a = Decides c own d s r a
+
+-- The answer is made at one of the op's own steps: its walk had led there, what was said to that step is what the tree
+-- says there, after all steps before it, and this decides the answer.
+pub record Point (history : List Told) (op : OpId) (c : Command) (a : Answer) : Type 0 where
+  pub before : List Told
+  pub point : Told
+  pub later : List Told
+  pub there : history ≡ before ++ point ∷ later
+  pub own : point.op ≡ op
+  pub dir : DirId
+  pub left : List (List ℕ)
+  pub walked : Walked root (way c) (of_op op before) dir left
+  pub by_tree : point.says ≡ tree_reply (tree_after opening_tree before) point.does
+  pub decides : DecidesAt c (of_op op before) dir left point.does point.says a
+
+-- a command that needs a last name is refused for want of one without any step
+abbrev pub LacksName : Command → Type 0
+LacksName (commands.Create p) = p ≡ []
+LacksName (commands.Mkdir p) = p ≡ []
+LacksName (commands.Delete p) = p ≡ []
+LacksName (commands.Rename p to) = (p ≡ []) ⊎ (to ≡ [])
+LacksName _ = ⊥

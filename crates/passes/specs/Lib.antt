@@ -1,0 +1,4 @@
+pub mod Logged
+pub mod Passes
+pub mod Commits
+pub mod Adding
