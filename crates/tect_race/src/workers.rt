@@ -7,8 +7,8 @@ ghost use Rattle.tect_ids.specs.Places.{HasPlaces};
 ghost use Rattle.race_ends.specs.Faults.{IsLossOf};
 ghost use Rattle.tect_race.specs.Faults.{race_result};
 
-use place_locks::Places;
-use players::{Locked, Racer, RacerFault, play_act};
+use place_locks::{Locked, Places};
+use players::{Racer, RacerFault, play_act};
 use race_ends::RaceFault;
 use std::alloc::Global;
 use std::sync::Wait;
