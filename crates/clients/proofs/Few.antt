@@ -26,6 +26,8 @@ silent_none : (op : OpId) (es : List Event) → AllByRecursion IsSilent es → t
 silent_none op [] all = refl
 silent_none op (e ∷ es) all = omega (arith, transactions-append (e ∷ []) es op, silent_event op e all.0, silent_none op es all.1)
 
-pub few_transactions : (ms : List Moment) (silent : List Event) (op : OpId) (n : ℕ) → length ms ≤ n → All IsSilent silent → transactions (events_of ms ++ silent) op ≤ n
+pub few_transactions : (ms : List Moment) (silent : List Event) (op : OpId) (n : ℕ) → length ms ≤ n → All IsSilent silent
+    → transactions (events_of ms ++ silent) op ≤ n
 few_transactions ms silent op n few all =
-    omega (arith, transactions-append (events_of ms) silent op, silent_none op silent (recursion_from_All IsSilent silent all), count_by-le-length (is_act_of op) (events_of ms), length-map ms event_of, few)
+    omega (arith, transactions-append (events_of ms) silent op, silent_none op silent (recursion_from_All IsSilent silent all),
+        count_by-le-length (is_act_of op) (events_of ms), length-map ms event_of, few)

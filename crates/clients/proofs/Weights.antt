@@ -1,5 +1,6 @@
 -- what a pass takes up is what the events of its moments do
-use Rattle.std.proofs.Common.{◌≡◌, ℕ, ◌+◌, ◌<◌, ◌^◌, inl, inr, Bool, true, false, ◌&&◌, if◌then◌else◌, List, [], ◌∷◌, refl, sym, ap, ◌∙◌, eqb, arith}
+use Rattle.std.proofs.Common.{◌≡◌, ℕ, ◌+◌, ◌<◌, ◌^◌, inl, inr, Bool, true, false, ◌&&◌, if◌then◌else◌, List, [], ◌∷◌, refl, sym, ap, ◌∙◌,
+    eqb, arith}
 use Rattle.std.proofs.lemmas.List.Sums.{sum_by-cons}
 use Rattle.tect_ids.specs.declared.ids.OpId.{OpId}
 use Rattle.tect_ids.specs.declared.answer.Answer.{Answer}
@@ -33,7 +34,8 @@ both true true h = (refl, refl)
 both true false h = absurd cc
 both false c h = absurd cc
 
-note_costs : (a stamp by : ℕ) (note : Note) → all_notes_of a (Local stamp by note ∷ []) ≡ true → event_cost a (event_of (Local stamp by note)) ≡ moment_cost (Local stamp by note)
+note_costs : (a stamp by : ℕ) (note : Note) → all_notes_of a (Local stamp by note ∷ []) ≡ true
+    → event_cost a (event_of (Local stamp by note)) ≡ moment_cost (Local stamp by note)
 note_costs a stamp by (notes.Began op c) own = ap (λ (b : Bool). if b then 2 else 0) (both (eqb op.actor a) true own).0
 note_costs a stamp by (notes.Ended op x) own = end_cost a op x
 note_costs a stamp by (notes.Stopped op) own = refl
@@ -62,7 +64,8 @@ pub moments_keep : (a : ℕ) (ms : List Moment) → all_of_actor a ms ≡ true �
 moments_keep a [] own = refl
 moments_keep a (Act e ∷ ms) own =
     let here = both (eqb e.actor a) (all_of_actor a ms) own in
-    sum_by-cons (event_bytes a) (event_of (Act e)) (events_of ms) ∙ ap (λ (b : Bool). (if b then reply_bytes e.reply else 0) + kept_bytes (events_of ms) a) here.0
+    sum_by-cons (event_bytes a) (event_of (Act e)) (events_of ms) ∙ ap
+        (λ (b : Bool). (if b then reply_bytes e.reply else 0) + kept_bytes (events_of ms) a) here.0
     ∙ ap (λ (n : ℕ). reply_bytes e.reply + n) (moments_keep a ms here.1)
 moments_keep a (Local stamp by note ∷ ms) own =
     let here = both (eqb by a) (all_of_actor a ms) own in

@@ -52,7 +52,8 @@ idle_life actor counts = record { counts = counts; actor = actor; clock = 0; mom
 -- the next op begins the command, and that is noted
 abbrev pub begun_life : ClientLife → Command → ClientLife
 begun_life life c =
-    record life { clock = life.clock + 1; moments = life.moments ++ Local (life.clock + 1) life.actor (notes.Began (next_op_in life) c) ∷ [] }
+    record life { clock = life.clock + 1; moments = life.moments ++ Local (life.clock + 1) life.actor (notes.Began (next_op_in life) c)
+        ∷ [] }
 
 -- it is refused, and nothing is noted
 abbrev pub refused_life : ClientLife → Command → ClientLife

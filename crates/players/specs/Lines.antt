@@ -25,7 +25,8 @@ pub record Adds (names : List (List ℕ)) (old new : Racer) (news : List Moment)
   pub life : new.client ≡ grown old.client new.client.clock news more
   pub late : (news ≡ []) ⊎ (old.client.silent ≡ [])
   pub stamps : rises old.client.clock new.client.clock news ≡ true
-  pub answers : new.answers.items ≡ old.answers.items ++ own_lines old.client.counts names old.client.actor (events_in old.client) (news_events news more)
+  pub answers : new.answers.items ≡ old.answers.items ++ own_lines old.client.counts names old.client.actor (events_in old.client)
+      (news_events news more)
 
 -- It did what a line asks of it.
 pub record Plays (names : List (List ℕ)) (act : Act) (old new : Racer) : Type 0 where
@@ -37,5 +38,6 @@ pub record Plays (names : List (List ℕ)) (act : Act) (old new : Racer) : Type 
   pub few : (state_in new.client).number ≤ (state_in old.client).number + 1
 
 -- why it did not, where each layer has that many shards: for want of memory, or since a commit found another machine
-abbrev pub IsFaultOf : {W : Type 0} (counts_of : W → Counts) (done : W → W → ℕ → AnyReq → Result Entry Refused → Type 0) → Counts → RacerFault → Type 0
+abbrev pub IsFaultOf : {W : Type 0} (counts_of : W → Counts) (done : W → W → ℕ → AnyReq → Result Entry Refused → Type 0) → Counts
+    → RacerFault → Type 0
 IsFaultOf counts_of done c fault = IsFault (FoundAstray counts_of done) c fault

@@ -77,7 +77,8 @@ StepsOnce grew op (Done a) = (end : ComesToEnd grew op a) × (end.count ≤ 1)
 
 -- ---- what is so of each player
 
-pub record IsPlayer {P A : Type 0} (counts : A → Counts) (fits : P → A → Type 0) (actor : P → ℕ) (history : P → A → List Event) (state : P → A → Actor)
+pub record IsPlayer {P A : Type 0} (counts : A → Counts) (fits : P → A → Type 0) (actor : P → ℕ) (history : P → A → List Event)
+    (state : P → A → Actor)
     (grows : P → A → P → A → List Event → Type 0) : Type 0 where
   pub nothing : (p : P) (a : A) → fits p a → grows p a p a []
   pub both : (p q r : P) (a b c : A) (es fs : List Event) → grows p a q b es → grows q b r c fs → grows p a r c (es ++ fs)
@@ -95,7 +96,8 @@ told_lines (Some line) = line ∷ []
 
 -- It did what the line of its client asks, and the line that is told is what its events show.
 pub record Played {P A : Type 0} (counts : A → Counts) (actor : P → ℕ) (history : P → A → List Event) (state : P → A → Actor)
-    (grows : P → A → P → A → List Event → Type 0) (names : List (List ℕ)) (act : Act) (p : P) (a : A) (q : P) (b : A) (told : Option ReportLine) : Type 0 where
+    (grows : P → A → P → A → List Event → Type 0) (names : List (List ℕ)) (act : Act) (p : P) (a : A) (q : P) (b : A)
+        (told : Option ReportLine) : Type 0 where
   pub part : List Event
   pub grown : grows p a q b part
   pub does : DoesLine (actor p) (op_of (state p a).running) act part (op_of (state q b).running)

@@ -167,7 +167,7 @@ pub fn run_part<R: Threads + Wait + Sync, G: Gate + Sync>(
 ) -> Result<Vec<Racer>, RaceFault>
     requires places { HasPlaces shared.now.places.now }
     requires part { (start ≤ end) × (end ≤ length shared.now.lines.now) }
-    requires worker_count { 0 < shared.now.worker_count }
+    requires workers { 0 < shared.now.worker_count }
     requires all { length racers.items ≡ length shared.now.clients.now }
     requires clients { All (IsOfClient (length shared.now.clients.now)) (slice_range shared.now.lines.now start end) }
     requires ready { AreRacers shared.now.places.now (drop start shared.now.lines.now) racers.items }

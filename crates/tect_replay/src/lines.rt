@@ -26,7 +26,8 @@ fn play_act(
 ) -> Result<Shown, NoMemory>
     requires actor { (1 ≤ actor) × (actor ≤ 64) × (actor ≤ length clients.now) }
     requires can { CanDo ((present world.old).actors actor) act.now }
-    ensures { (name : List ℕ) → IfOk result (λ shown. PlaysLine clients.now (Line.Client name actor act.now) world.old world.new (shown_lines shown)) }
+    ensures { (name : List ℕ)
+        → IfOk result (λ shown. PlaysLine clients.now (Line.Client name actor act.now) world.old world.new (shown_lines shown)) }
 {
     // What is so of each world.
     let _running = world.is_running(actor);

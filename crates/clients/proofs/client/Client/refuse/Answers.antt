@@ -17,9 +17,13 @@ invariant_of-self-2 c =
     c.push_event.ensures.items ∙ ap (λ (es : List Event). es ++ Refused c.op-op.result c.in_ok-kept.kept ∷ []) c.in_ok-reserve.ensures.items
     ∙ ap (λ (o : OpId). a.refused.items ++ Refused o c.in_ok-kept.kept ∷ []) (c.op-op.ensures.op ∙ ap op_of c.begin_refused.ensures)
     ∙ ap (λ (d : Command). a.refused.items ++ Refused (next_op_of a.actor) d ∷ []) c.in_ok-kept.ensures in
-    let space : vec_len c.push_event.new.events < vec_capacity c.push_event.new.events = omega (arith, c.in_ok-reserve.ensures.ok, c.in_ok-reserve.ensures.capacity, c.in_ok-reserve.ensures.len, c.push_event.ensures.len, c.push_event.ensures.room) in
+    let space : vec_len c.push_event.new.events < vec_capacity c.push_event.new.events = omega
+        (arith, c.in_ok-reserve.ensures.ok, c.in_ok-reserve.ensures.capacity, c.in_ok-reserve.ensures.len, c.push_event.ensures.len,
+        c.push_event.ensures.room) in
     refused_client a
     (record { counts = a.counts; actor = c.begin_refused.new.self; pass = a.pass; refused = c.push_event.new.events; transactions = 0 })
-    c.self.invariant refl refl c.args.command (idle_here a c.args.self.now c.self.invariant c.self.view_is c.requires.idle) (goes_here a c.args.self.now c.self.invariant c.self.view_is c.requires.goes_on)
-    (few_here a c.args.self.now c.self.invariant c.self.view_is c.requires.few) c.requires.served (full_here a c.args.self.now c.self.invariant c.self.view_is c.requires.full)
+    c.self.invariant refl refl c.args.command (idle_here a c.args.self.now c.self.invariant c.self.view_is c.requires.idle)
+        (goes_here a c.args.self.now c.self.invariant c.self.view_is c.requires.goes_on)
+    (few_here a c.args.self.now c.self.invariant c.self.view_is c.requires.few) c.requires.served
+        (full_here a c.args.self.now c.self.invariant c.self.view_is c.requires.full)
     c.begin_refused.ensures items refl space
