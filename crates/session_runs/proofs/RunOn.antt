@@ -16,7 +16,7 @@ use Rattle.world_runs.specs.Follows.{Acts, DoesLine, Busy, FollowsFrom, NoneFail
 use Rattle.world_runs.specs.Turns.{ClientTurn, Turns, all_idle, with_turn, turn_after, turns_after, TakesAct, InTurnFrom}
 use Rattle.world_runs.specs.Turns as turns
 use Rattle.script_runs.proofs.Running.{AllWell, all_well, event_well, opening_well, run_well}
-use Rattle.script_runs.proofs.Histories.{front_runs}
+use Rattle.world_runs.proofs.Fronts.{front_runs}
 use Rattle.script_runs.proofs.Histories.{run-front, run-append, none_fails-append, acts_none_fail}
 use Rattle.world_runs.specs.Standing.{op_of, busy_at, AtTurn}
 use Rattle.world_runs.specs.Smooth.{EndsAtOnce}
