@@ -1,5 +1,6 @@
 -- what a step tells: its op's transaction, or its end; and a command that goes on is nearer to its end
-use Rattle.std.proofs.Common.{◌≡◌, inl, inr, ℕ, ◌+◌, ◌<◌, Option, Some, None, List, [], ◌∷◌, ◌++◌, refl, ap, ◌∙◌, length, length-append, arith}
+use Rattle.std.proofs.Common.{◌≡◌, inl, inr, ℕ, ◌+◌, ◌<◌, Option, Some, None, List, [], ◌∷◌, ◌++◌, refl, ap, ◌∙◌, length, length-append}
+use Rattle.std.proofs.Common.{arith}
 use Rattle.std.specs.Prelude.{Result, Ok, Err, MatchResult, OnOk, OnErr}
 use Rattle.tect_ids.specs.declared.ids.Counts.{Counts}
 use Rattle.tect_ids.specs.declared.ids.OpId.{OpId}
@@ -23,7 +24,8 @@ use Rattle.clients.specs.declared.turned.Turned.TheVariants.{Going, Done}
 use Rattle.clients.specs.Turns.{turned_by}
 use Rattle.passes.specs.declared.commits.Astray.{Astray}
 use Rattle.clients.specs.Lives.{ClientLife, events_in, state_in, op_in, Begins, left_in, IsLife}
-use Rattle.clients.specs.Steps.{entry_in, Tried, Unasked, Did, Denied, EndsSo, state_after, WentAstray, tried_events, end_events, tried_life, ended_with, ended_life, OwnStep}
+use Rattle.clients.specs.Steps.{entry_in, Tried, Unasked, Did, Denied, EndsSo, state_after, WentAstray, tried_events, end_events}
+use Rattle.clients.specs.Steps.{tried_life, ended_with, ended_life, OwnStep}
 use Rattle.clients.specs.PassSteps.{act_count}
 
 -- the events of a step
@@ -55,7 +57,8 @@ acts_of op Unasked = refl
 acts_of op (Did q x) = (refl, (0, refl, refl))
 acts_of op (Denied q e) = refl
 
-then_end : (silent : List Event) (op : OpId) (tried : Tried) (a : Answer) → EndsAfter op (act_count tried) (step_events silent op tried (Some a))
+then_end : (silent : List Event) (op : OpId) (tried : Tried) (a : Answer)
+    → EndsAfter op (act_count tried) (step_events silent op tried (Some a))
 then_end [] op tried a = (tried_events op tried, end_event op a, refl, acts_of op tried, end_is_of op a)
 then_end (e ∷ es) op tried a = (tried_events op tried, Ended op a, refl, acts_of op tried, refl)
 
@@ -63,10 +66,12 @@ module _ {W : Type 0} (done : W → W → ℕ → AnyReq → Result Entry Refuse
   pub going_acts : (step : OwnStep done w v old new Going) → Acts (op_in old) 1 (step_events old.silent (op_in old) step.tried step.answer)
   going_acts step =
       let none : step.answer ≡ None = not_done step.answer step.told in
-      let here : Acts (op_in old) 1 (step_events old.silent (op_in old) step.tried None) = one_act (state_after old.counts (state_in old) step.tried) old.silent (op_in old) step.tried (rw none at step.ends) in
+      let here : Acts (op_in old) 1 (step_events old.silent (op_in old) step.tried None) = one_act
+      (state_after old.counts (state_in old) step.tried) old.silent (op_in old) step.tried (rw none at step.ends) in
       rw none here
 
-  pub done_ends : (a : Answer) (step : OwnStep done w v old new (Done a)) → EndsAfter (op_in old) (act_count step.tried) (step_events old.silent (op_in old) step.tried step.answer)
+  pub done_ends : (a : Answer) (step : OwnStep done w v old new (Done a))
+      → EndsAfter (op_in old) (act_count step.tried) (step_events old.silent (op_in old) step.tried step.answer)
   done_ends a step = let is : step.answer ≡ Some a = is_done step.answer a step.told in rw is (then_end old.silent (op_in old) step.tried a)
 
 -- ---- what stays
@@ -102,23 +107,28 @@ end_number counts s op answers.NoMemory = refl
 end_number counts s op (answers.HistoryFull p) = refl
 end_number counts s op _ = refl
 
-ends_number : (counts : Counts) (s : Actor) (silent : List Event) (op : OpId) (answer : Option Answer) → (own_state counts s (end_events silent op answer)).number ≡ s.number
+ends_number : (counts : Counts) (s : Actor) (silent : List Event) (op : OpId) (answer : Option Answer)
+    → (own_state counts s (end_events silent op answer)).number ≡ s.number
 ends_number counts s silent op None = refl
 ends_number counts s [] op (Some a) = end_number counts s op a
 ends_number counts s (e ∷ es) op (Some a) = refl
 
-step_number : (counts : Counts) (s : Actor) (silent : List Event) (op : OpId) (tried : Tried) (answer : Option Answer) → (own_state counts s (step_events silent op tried answer)).number ≡ s.number
+step_number : (counts : Counts) (s : Actor) (silent : List Event) (op : OpId) (tried : Tried) (answer : Option Answer)
+    → (own_state counts s (step_events silent op tried answer)).number ≡ s.number
 step_number counts s silent op Unasked answer = ends_number counts s silent op answer
 step_number counts s silent op (Did q x) answer = ends_number counts (went_on counts s q x) silent op answer
 step_number counts s silent op (Denied q e) answer = ends_number counts s silent op answer
 
-module _ {W : Type 0} (done : W → W → ℕ → AnyReq → Result Entry Refused → Type 0) (w v : W) (old new : ClientLife) (turned : Turned) (step : OwnStep done w v old new turned) where
+module _ {W : Type 0} (done : W → W → ℕ → AnyReq → Result Entry Refused → Type 0) (w v : W) (old new : ClientLife) (turned : Turned)
+    (step : OwnStep done w v old new turned) where
   pub step_counts : new.counts ≡ old.counts
   step_counts =
-      ap (λ (l : ClientLife). l.counts) step.life ∙ ended_counts (tried_life old step.stamp step.tried) (op_in old) step.answer ∙ tried_counts old step.stamp step.tried
+      ap (λ (l : ClientLife). l.counts) step.life ∙ ended_counts (tried_life old step.stamp step.tried) (op_in old) step.answer ∙
+      tried_counts old step.stamp step.tried
 
   pub step_actor : new.actor ≡ old.actor
-  step_actor = ap (λ (l : ClientLife). l.actor) step.life ∙ ended_actor (tried_life old step.stamp step.tried) (op_in old) step.answer ∙ tried_actor old step.stamp step.tried
+  step_actor = ap (λ (l : ClientLife). l.actor) step.life ∙ ended_actor (tried_life old step.stamp step.tried) (op_in old) step.answer ∙
+      tried_actor old step.stamp step.tried
 
   -- the state after it
   pub step_state : state_in new ≡ own_state old.counts (state_in old) (step_events old.silent (op_in old) step.tried step.answer)
@@ -134,8 +144,10 @@ module _ {W : Type 0} (done : W → W → ℕ → AnyReq → Result Entry Refuse
       λ i. record { actor = step_actor i; number = number i }
 
 -- the same of what a step answers
-pub same_op : {W : Type 0} (done : W → W → ℕ → AnyReq → Result Entry Refused → Type 0) (w v : W) (old new : ClientLife) (r : Result Turned Astray)
-    → MatchResult r (OwnStep done w v old new) (λ e. WentAstray done w v old new (refusals.Astray e.want e.found)) → (new.counts ≡ old.counts) × (op_in new ≡ op_in old)
+pub same_op : {W : Type 0} (done : W → W → ℕ → AnyReq → Result Entry Refused → Type 0) (w v : W) (old new : ClientLife)
+    (r : Result Turned Astray)
+    → MatchResult r (OwnStep done w v old new) (λ e. WentAstray done w v old new (refusals.Astray e.want e.found))
+    → (new.counts ≡ old.counts) × (op_in new ≡ op_in old)
 same_op done w v old new (Ok turned) step = (step_counts done w v old new turned step, step_op done w v old new turned step)
 same_op done w v old new (Err e) astray = (ap (λ (l : ClientLife). l.counts) astray.life, ap op_in astray.life)
 
@@ -151,15 +163,18 @@ begin_same old new c (Err e) ok err = (ap (λ (l : ClientLife). l.counts) err, a
 
 -- ---- a command that goes on
 
-did_adds : (l : ClientLife) (st : Actor) (stamp : ℕ) (op : OpId) (tried : Tried) → EndsSo st tried None → length (ended_life (tried_life l stamp tried) op None).moments ≡ length l.moments + 1
+did_adds : (l : ClientLife) (st : Actor) (stamp : ℕ) (op : OpId) (tried : Tried) → EndsSo st tried None
+    → length (ended_life (tried_life l stamp tried) op None).moments ≡ length l.moments + 1
 did_adds l st stamp op (Did q x) ends = length-append l.moments (Act (entry_in l stamp q x) ∷ [])
 did_adds l st stamp op Unasked ends = absurd ends
 did_adds l st stamp op (Denied q e) ends = absurd ends
 
 -- its pass has one moment more, and so there is room for fewer
-pub step_nearer : {W : Type 0} (done : W → W → ℕ → AnyReq → Result Entry Refused → Type 0) (w v : W) (old new : ClientLife) → IsLife new → OwnStep done w v old new Going → left_in new < left_in old
+pub step_nearer : {W : Type 0} (done : W → W → ℕ → AnyReq → Result Entry Refused → Type 0) (w v : W) (old new : ClientLife) → IsLife new
+    → OwnStep done w v old new Going → left_in new < left_in old
 step_nearer done w v old new is step =
     let none : step.answer ≡ None = not_done step.answer step.told in
     let adds = did_adds old (state_after old.counts (state_in old) step.tried) step.stamp (op_in old) step.tried (rw none at step.ends) in
-    let life : new ≡ ended_life (tried_life old step.stamp step.tried) (op_in old) None = step.life ∙ ap (ended_life (tried_life old step.stamp step.tried) (op_in old)) none in
+    let life : new ≡ ended_life (tried_life old step.stamp step.tried) (op_in old) None = step.life ∙ ap
+    (ended_life (tried_life old step.stamp step.tried) (op_in old)) none in
     omega (arith, is.few, adds, ap (λ (l : ClientLife). length l.moments) life)

@@ -1,5 +1,6 @@
 -- an actor's own events, when one more comes
-use Rattle.std.proofs.Common.{◌≡◌, ◌≢◌, ℕ, ◌+◌, ◌<◌, ◌≤◌, true, false, if◌then◌else◌, cond, Option, Some, None, List, [], ◌∷◌, ◌++◌, length, refl, sym, ap, ◌∙◌, arith}
+use Rattle.std.proofs.Common.{◌≡◌, ◌≢◌, ℕ, ◌+◌, ◌<◌, ◌≤◌, true, false, if◌then◌else◌, cond, Option, Some, None, List, [], ◌∷◌, ◌++◌, length}
+use Rattle.std.proofs.Common.{refl, sym, ap, ◌∙◌, arith}
 use Rattle.std.specs.Option.{ForSome}
 use Rattle.std.proofs.lemmas.List.Sums.{sum_by-append, count_by-le-length}
 use Rattle.tect_ids.specs.declared.ids.Counts.{Counts}
@@ -13,7 +14,7 @@ use Rattle.store_rules.specs.declared.any.AnyReply.{AnyReply}
 use Rattle.store_rules.specs.Views.{is_made}
 use Rattle.program_rules.specs.declared.program.Program.{Program}
 use Rattle.world_runs.specs.declared.event.Event.{Event}
-use Rattle.world_runs.specs.declared.event.Event.TheVariants.{Began, Refused, Acted, Ended, Stopped, Failed, Dumped}
+use Rattle.world_runs.specs.declared.event.Event.TheVariants.{Began, NotBegun, Acted, Ended, Stopped, Failed, Dumped}
 use Rattle.program_rules.specs.Lacks.{IsLack}
 use Rattle.world_runs.specs.Moments.{Actor, idle_actor, program_of, program_ask, heard, next_serial}
 use Rattle.world_runs.specs.Races.{is_own}
@@ -31,11 +32,13 @@ module _ (counts : Counts) (es : List Event) (e : Event) where
   pub run_push : OwnRun counts idle_actor es → OwnMay (own_state counts idle_actor es) e → OwnRun counts idle_actor (es ++ e ∷ [])
   run_push run may = own_run-append counts idle_actor es (e ∷ []) run (may, tt)
 
-  pub limits_push : OwnLimits counts [] idle_actor es → KeepsRoom counts es (own_state counts idle_actor es) e → OwnLimits counts [] idle_actor (es ++ e ∷ [])
+  pub limits_push : OwnLimits counts [] idle_actor es → KeepsRoom counts es (own_state counts idle_actor es) e
+      → OwnLimits counts [] idle_actor (es ++ e ∷ [])
   limits_push limits room = own_limits-append counts [] idle_actor es (e ∷ []) limits (room, tt)
 
 pub own_push : (a : ℕ) (es : List Event) (e : Event) → own a es ≡ es → is_own a e ≡ true → own a (es ++ e ∷ []) ≡ es ++ e ∷ []
-own_push a es e mine here = own-append a es (e ∷ []) ∙ ap (λ (fs : List Event). fs ++ own a (e ∷ [])) mine ∙ ap (λ (fs : List Event). es ++ fs) (own-here a e [] here)
+own_push a es e mine here = own-append a es (e ∷ []) ∙ ap (λ (fs : List Event). fs ++ own a (e ∷ [])) mine ∙ ap
+    (λ (fs : List Event). es ++ fs) (own-here a e [] here)
 
 -- ---- an actor that runs its own op
 
@@ -46,7 +49,8 @@ program_own (Some p) op its = let same : p.op ≡ op = its p refl in grind (arit
 pub some_op : (a b : Program) → Some a ≡ Some b → a.op ≡ b.op
 some_op a b is = let same : a ≡ b = cc in ap (λ (z : Program). z.op) same
 
-pub heard_own : (counts : Counts) (serial : ℕ) (q : AnyReq) (x : AnyReply) (o : Option Program) (op : OpId) → ForSome o (λ p. p.op ≡ op) → ForSome (heard counts serial q x o) (λ p. p.op ≡ op)
+pub heard_own : (counts : Counts) (serial : ℕ) (q : AnyReq) (x : AnyReply) (o : Option Program) (op : OpId) → ForSome o (λ p. p.op ≡ op)
+    → ForSome (heard counts serial q x o) (λ p. p.op ≡ op)
 heard_own counts serial q x None op its p is = absurd cc
 heard_own counts serial q x (Some r) op its p is = sym (some_op _ p is) ∙ its r refl
 
@@ -68,7 +72,8 @@ transactions-few es op = count_by-le-length (is_act_of op) es
 same_op : (op : OpId) → op_eq op op ≡ true
 same_op op = grind (arith, op_eq_cases op op)
 
-pub count_act : (es : List Event) (op : OpId) (q : AnyReq) (x : AnyReply) → transactions (es ++ Acted op q x ∷ []) op ≡ transactions es op + 1
+pub count_act : (es : List Event) (op : OpId) (q : AnyReq) (x : AnyReply)
+    → transactions (es ++ Acted op q x ∷ []) op ≡ transactions es op + 1
 count_act es op q x =
     let one : transactions (Acted op q x ∷ []) op ≡ 1 = grind (arith, same_op op) in
     omega (arith, transactions-append es (Acted op q x ∷ []) op, one)
@@ -88,14 +93,15 @@ end_no_act op other _ = refl
 abbrev RunsNoLater : Actor → Type 0
 RunsNoLater s = (p : Program) → s.running ≡ Some p → p.op.number ≤ s.number
 
-heard_no_later : (counts : Counts) (serial : ℕ) (q : AnyReq) (x : AnyReply) (o : Option Program) (n : ℕ) → ((p : Program) → o ≡ Some p → p.op.number ≤ n)
+heard_no_later : (counts : Counts) (serial : ℕ) (q : AnyReq) (x : AnyReply) (o : Option Program) (n : ℕ)
+    → ((p : Program) → o ≡ Some p → p.op.number ≤ n)
     → (p : Program) → heard counts serial q x o ≡ Some p → p.op.number ≤ n
 heard_no_later counts serial q x None n low p is = absurd cc
 heard_no_later counts serial q x (Some r) n low p is = rw (← some_op _ p is) (low r refl)
 
 no_later_after : (counts : Counts) (s : Actor) (e : Event) → OwnMay s e → RunsNoLater s → RunsNoLater (own_after counts s e)
 no_later_after counts s (Began op c) may low p is = rw (← some_op _ p is) (omega arith)
-no_later_after counts s (Refused op c) may low p is = rw (← some_op _ p is) (omega arith)
+no_later_after counts s (NotBegun op c) may low p is = rw (← some_op _ p is) (omega arith)
 no_later_after counts s (Acted op q x) may low p is = heard_no_later counts s.serial q x s.running s.number low p is
 no_later_after counts s (Ended op a) may low p is = absurd cc
 no_later_after counts s (Stopped op) may low p is = absurd cc
@@ -104,7 +110,7 @@ no_later_after counts s Dumped may low p is = low p is
 
 numbers_grow : (counts : Counts) (s : Actor) (e : Event) → OwnMay s e → s.number ≤ (own_after counts s e).number
 numbers_grow counts s (Began op c) may = omega (arith, (may.0).next)
-numbers_grow counts s (Refused op c) may = omega (arith, (may.0).next)
+numbers_grow counts s (NotBegun op c) may = omega (arith, (may.0).next)
 numbers_grow counts s (Acted op q x) may = omega arith
 numbers_grow counts s (Ended op a) may = omega arith
 numbers_grow counts s (Stopped op) may = omega arith
@@ -116,10 +122,13 @@ numbers_rise counts s [] run = omega arith
 numbers_rise counts s (e ∷ es) run = omega (arith, numbers_grow counts s e run.0, numbers_rise counts (own_after counts s e) es run.1)
 
 -- the op that asks is the one that runs
-asks_its : (serial : ℕ) (o : Option Program) (op : OpId) (q : AnyReq) → program_ask serial (program_of o op) ≡ Some q → (p : Program) × (o ≡ Some p) × (p.op ≡ op)
+asks_its : (serial : ℕ) (o : Option Program) (op : OpId) (q : AnyReq) → program_ask serial (program_of o op) ≡ Some q → (p : Program)
+    × (o ≡ Some p) × (p.op ≡ op)
 asks_its serial None op q is = absurd cc
 asks_its serial (Some p) op q is =
-    elim (op_eq p.op op) as (λ b. op_eq p.op op ≡ b → program_ask serial (if b then Some p else None) ≡ Some q → (r : Program) × (Some p ≡ Some r) × (r.op ≡ op)) [
+    elim (op_eq p.op op) as
+    (λ b. op_eq p.op op ≡ b → program_ask serial (if b then Some p else None) ≡ Some q → (r : Program) × (Some p ≡ Some r)
+    × (r.op ≡ op)) [
       | true ↦ λ e h. (p, refl, grind (arith, op_eq_cases p.op op))
       | false ↦ λ e h. absurd cc
     ] refl is
@@ -131,13 +140,14 @@ not_its_act s (Acted other q x) op low may late =
     let differs : other ≢ op = λ same. absurd (omega (arith, ap (λ (o : OpId). o.number) same)) in
     grind (arith, op_eq_cases other op)
 not_its_act s (Began other c) op low may late = refl
-not_its_act s (Refused other c) op low may late = refl
+not_its_act s (NotBegun other c) op low may late = refl
 not_its_act s (Ended other a) op low may late = refl
 not_its_act s (Stopped other) op low may late = refl
 not_its_act s (Failed other a) op low may late = refl
 not_its_act s Dumped op low may late = refl
 
-quiet_from : (counts : Counts) (s : Actor) (es : List Event) (op : OpId) → RunsNoLater s → OwnRun counts s es → (own_state counts s es).number < op.number → transactions es op ≡ 0
+quiet_from : (counts : Counts) (s : Actor) (es : List Event) (op : OpId) → RunsNoLater s → OwnRun counts s es
+    → (own_state counts s es).number < op.number → transactions es op ≡ 0
 quiet_from counts s [] op low run late = refl
 quiet_from counts s (e ∷ es) op low run late =
     let rise = numbers_rise counts (own_after counts s e) es run.1 in
@@ -146,18 +156,20 @@ quiet_from counts s (e ∷ es) op low run late =
     let rest : transactions es op ≡ 0 = quiet_from counts (own_after counts s e) es op (no_later_after counts s e run.0 low) run.1 late in
     omega (arith, transactions-append (e ∷ []) es op, none_of e op none, rest)
 
-pub quiet : (counts : Counts) (es : List Event) (op : OpId) → OwnRun counts idle_actor es → (own_state counts idle_actor es).number < op.number → transactions es op ≡ 0
+pub quiet : (counts : Counts) (es : List Event) (op : OpId) → OwnRun counts idle_actor es
+    → (own_state counts idle_actor es).number < op.number → transactions es op ≡ 0
 quiet counts es op run late = quiet_from counts idle_actor es op (λ p is. absurd cc) run late
 
 -- ---- serials
 
 next_serial-le : (serial : ℕ) (x : AnyReply) → next_serial serial x ≤ serial + 1
-next_serial-le serial x = elim (is_made x) as (λ b. (if b then serial + 1 else serial) ≤ serial + 1) [ true ↦ omega arith | false ↦ omega arith ]
+next_serial-le serial x = elim (is_made x) as (λ b. (if b then serial + 1 else serial) ≤ serial + 1)
+    [ true ↦ omega arith | false ↦ omega arith ]
 
 serial_after : (counts : Counts) (s : Actor) (e : Event) → (own_after counts s e).serial ≤ s.serial + 1
 serial_after counts s (Acted op q x) = next_serial-le s.serial x
 serial_after counts s (Began op c) = omega arith
-serial_after counts s (Refused op c) = omega arith
+serial_after counts s (NotBegun op c) = omega arith
 serial_after counts s (Ended op a) = omega arith
 serial_after counts s (Stopped op) = omega arith
 serial_after counts s (Failed op a) = omega arith

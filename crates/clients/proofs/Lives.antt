@@ -40,7 +40,8 @@ is_life a is = record {
   rising = a.pass.known.rising;
   placed = is.placed;
   silent = is.silent;
-  going = subst (λ (s : Actor). RunsIn a.refused.items (running_in None a.pass.moments.items) s.running) is.state (subst (λ (o : Option OpId). RunsIn a.refused.items o a.actor.state.running) a.pass.known.going is.going);
+  going = subst (λ (s : Actor). RunsIn a.refused.items (running_in None a.pass.moments.items) s.running) is.state
+      (subst (λ (o : Option OpId). RunsIn a.refused.items o a.actor.state.running) a.pass.known.going is.going);
 }
 
 -- ---- where no op was refused
@@ -69,7 +70,8 @@ module _ (a : Inside) (noted : a.refused.items ≡ []) where
         going = going.0;
         smooth = going.1;
         counted = is.counted ∙ ap (λ (es : List Event). transactions es (op_in (life_of a))) events_noted
-            ∙ ap (λ (s : Actor). let op : OpId = record { actor = a.actor.actor; number = s.number } in transactions (own_events a.pass) op) (sym is.state);
+            ∙ ap (λ (s : Actor). let op : OpId = record { actor = a.actor.actor; number = s.number } in transactions (own_events a.pass) op)
+            (sym is.state);
       }
 
   pub client_of : HasPlaces a.counts → IsActor a.actor.actor → Stage a.counts a.actor a.pass a.transactions → IsClient a
@@ -89,7 +91,8 @@ module _ (a : Inside) (noted : a.refused.items ≡ []) where
         going = rw noted (stage.going, stage.smooth);
         full = rw noted tt;
         counted = stage.counted ∙ ap (λ (es : List Event). transactions es (op_of a.actor)) (sym events_noted)
-            ∙ ap (λ (s : Actor). let op : OpId = record { actor = a.actor.actor; number = s.number } in transactions (events_in (life_of a)) op) state;
+            ∙ ap (λ (s : Actor). let op : OpId = record { actor = a.actor.actor; number = s.number }
+            in transactions (events_in (life_of a)) op) state;
         room = λ runs some. absurd (omega (arith, ap length noted, some));
       }
 
@@ -98,7 +101,8 @@ module _ (a : Inside) (noted : a.refused.items ≡ []) where
   serial_few is =
       let stage = stage_of is in
       let few = serials-few a.counts (own_events a.pass) in
-      let serial : a.actor.state.serial ≡ (own_state a.counts idle_actor (own_events a.pass)).serial = ap (λ (s : Actor). s.serial) stage.state in
+      let serial : a.actor.state.serial ≡ (own_state a.counts idle_actor (own_events a.pass)).serial = ap (λ (s : Actor). s.serial)
+      stage.state in
       omega (arith, few, serial, a.pass.known.few, length_of a.pass)
 
   pub count_few : IsClient a → a.transactions + 1 < 2 ^ 64

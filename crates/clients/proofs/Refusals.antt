@@ -41,7 +41,8 @@ pub record Passed (a b : Inside) (e : Event) : Type 0 where
   pub counted : b.transactions ≡ transactions (events_in (life_of a) ++ e ∷ []) (op_of b.actor)
   pub space : IsSome b.actor.state.running → vec_len b.refused < vec_capacity b.refused
 
-by_push : (es fs : List Event) (e : Event) (o : Option OpId) (s : Actor) → fs ≡ es ++ e ∷ [] → o ≡ None → WasRefused s.running → RunsIn fs o s.running
+by_push : (es fs : List Event) (e : Event) (o : Option OpId) (s : Actor) → fs ≡ es ++ e ∷ [] → o ≡ None → WasRefused s.running
+    → RunsIn fs o s.running
 by_push [] fs e o s is none refused = rw is (none, refused)
 by_push (x ∷ es) fs e o s is none refused = rw is (none, refused)
 
@@ -52,7 +53,8 @@ full_push (x ∷ es) fs e p is full = rw is full
 module _ (a b : Inside) (e : Event) (is : IsClient a) (passed : Passed a b e) where
   pub passed_events : events_in (life_of b) ≡ events_in (life_of a) ++ e ∷ []
   passed_events =
-      ap (λ (p : Pass). events_of p.moments.items ++ b.refused.items) passed.pass ∙ ap (λ (es : List Event). events_of a.pass.moments.items ++ es) passed.silent
+      ap (λ (p : Pass). events_of p.moments.items ++ b.refused.items) passed.pass ∙ ap
+      (λ (es : List Event). events_of a.pass.moments.items ++ es) passed.silent
       ∙ sym (append_assoc (events_of a.pass.moments.items) a.refused.items (e ∷ []))
 
   passed_state : b.actor.state ≡ own_state b.counts idle_actor (events_in (life_of a) ++ e ∷ [])
@@ -72,10 +74,12 @@ module _ (a b : Inside) (e : Event) (is : IsClient a) (passed : Passed a b e) wh
   passed_limits early =
       let soon : a.pass.clock < 2 ^ 63 = subst (λ (p : Pass). p.clock < 2 ^ 63) passed.pass early in
       subst (λ (c : Counts). OwnLimits c [] idle_actor (events_in (life_of a) ++ e ∷ [])) (sym passed.counts)
-      (limits_push a.counts (events_in (life_of a)) e (is.limits soon) (subst (λ (s : Actor). KeepsRoom a.counts (events_in (life_of a)) s e) is.state (passed.room soon)))
+      (limits_push a.counts (events_in (life_of a)) e (is.limits soon)
+      (subst (λ (s : Actor). KeepsRoom a.counts (events_in (life_of a)) s e) is.state (passed.room soon)))
 
   passed_own : own b.actor.actor (events_in (life_of a) ++ e ∷ []) ≡ events_in (life_of a) ++ e ∷ []
-  passed_own = ap (λ (k : ℕ). own k (events_in (life_of a) ++ e ∷ [])) passed.actor ∙ own_push a.actor.actor (events_in (life_of a)) e is.own passed.mine
+  passed_own = ap (λ (k : ℕ). own k (events_in (life_of a) ++ e ∷ [])) passed.actor ∙ own_push a.actor.actor (events_in (life_of a)) e
+      is.own passed.mine
 
   pub passed_client : IsClient b
   passed_client = record {
@@ -89,9 +93,11 @@ module _ (a b : Inside) (e : Event) (is : IsClient a) (passed : Passed a b e) wh
     placed = rw (passed.counts, passed.pass) is.placed;
     silent = rw passed.silent (All-push IsSilent a.refused.items e is.silent passed.quiet);
     own_op = passed.own_op;
-    going = by_push a.refused.items b.refused.items e b.pass.running b.actor.state passed.silent (ap (λ (p : Pass). p.running) passed.pass ∙ passed.idle) passed.refused;
+    going = by_push a.refused.items b.refused.items e b.pass.running b.actor.state passed.silent
+        (ap (λ (p : Pass). p.running) passed.pass ∙ passed.idle) passed.refused;
     full = full_push a.refused.items b.refused.items e b.pass passed.silent (rw passed.pass passed.full);
     counted = passed.counted ∙ ap (λ (es : List Event). transactions es (op_of b.actor)) (sym passed_events)
-        ∙ ap (λ (s : Actor). let op : OpId = record { actor = b.actor.actor; number = s.number } in transactions (events_in (life_of b)) op) state_is;
+        ∙ ap (λ (s : Actor). let op : OpId = record { actor = b.actor.actor; number = s.number } in transactions (events_in (life_of b)) op)
+        state_is;
     room = λ runs some. passed.space runs;
   }

@@ -34,11 +34,13 @@ module _ (old : ClientLife) (some : old.silent ≢ []) where
   end_is [] other = absurd (other refl)
   end_is (e ∷ es) other = refl
 
-  pub stops_with : (es : List Event) → es ≢ [] → (let l : ClientLife = record old { silent = old.silent ++ Stopped (op_in old) ∷ [] } in l ≡ stopped_with old es)
+  pub stops_with : (es : List Event) → es ≢ []
+      → (let l : ClientLife = record old { silent = old.silent ++ Stopped (op_in old) ∷ [] } in l ≡ stopped_with old es)
   stops_with [] other = absurd (other refl)
   stops_with (e ∷ es) other = refl
 
-  module _ {W : Type 0} (done : W → W → ℕ → AnyReq → Result Entry Refused → Type 0) (w : W) (new : ClientLife) (is : IsLife old) (runs : IsSome (state_in old).running)
+  module _ {W : Type 0} (done : W → W → ℕ → AnyReq → Result Entry Refused → Type 0) (w : W) (new : ClientLife) (is : IsLife old)
+      (runs : IsSome (state_in old).running)
       (after : new ≡ record old { silent = old.silent ++ Ended (op_in old) no_room ∷ [] }) where
     more_events : events_in new ≡ events_in old ++ ([] ++ end_events old.silent (op_in old) (Some no_room))
     more_events =
@@ -55,6 +57,7 @@ module _ (old : ClientLife) (some : old.silent ≢ []) where
       later = tt;
       life = after ∙ ends_with old.silent some;
       events = more_events;
-      ends = inl (refused_answer (state_in old).running runs (refused_in old.silent (running_in None old.moments) (state_in old).running is.going some));
+      ends = inl (refused_answer (state_in old).running runs
+          (refused_in old.silent (running_in None old.moments) (state_in old).running is.going some));
       told = refl;
     }

@@ -1,5 +1,6 @@
 -- a client whose ops were all noted: its actor and its pass, when one moment more comes
-use Rattle.std.proofs.Common.{◌≡◌, ℕ, ◌+◌, ◌<◌, ◌≤◌, ◌^◌, ◌⊎◌, inl, inr, true, Option, Some, None, IsSome, List, [], ◌∷◌, ◌++◌, refl, sym, ap, ◌∙◌, subst, arith}
+use Rattle.std.proofs.Common.{◌≡◌, ℕ, ◌+◌, ◌<◌, ◌≤◌, ◌^◌, ◌⊎◌, inl, inr, true, Option, Some, None, IsSome, List, [], ◌∷◌, ◌++◌, refl, sym}
+use Rattle.std.proofs.Common.{ap, ◌∙◌, subst, arith}
 use Rattle.std.specs.Option.{ForSome}
 use Rattle.std.specs.List.{All}
 use Rattle.std.proofs.lemmas.List.{map-append}
@@ -35,7 +36,8 @@ use Rattle.passes.specs.Adding.{Committed, NotedEnd, entry_at}
 use Rattle.program_rules.specs.Asking.{RunsSmoothly, op_running}
 use Rattle.clients.specs.PassSteps.{ended}
 use Rattle.program_rules.proofs.Phases.{smooth_hears, smooth_answers}
-use Rattle.clients.proofs.Growing.{state_push, run_push, limits_push, own_push, program_own, heard_own, plain_end, count_act, count_other, end_no_act}
+use Rattle.clients.proofs.Growing.{state_push, run_push, limits_push, own_push, program_own, heard_own, plain_end, count_act, count_other}
+use Rattle.clients.proofs.Growing.{end_no_act}
 use Rattle.clients.proofs.Weights.{fills, has_room}
 
 abbrev pub own_events : Pass → List Event
@@ -69,7 +71,8 @@ pub record Pushed (counts : Counts) (a b : ActorState) (p r : Pass) (m : Moment)
   pub going : r.running ≡ op_running b.state.running
   pub smooth : RunsSmoothly b.state.running
 
-module _ (counts : Counts) (a b : ActorState) (p r : Pass) (t n : ℕ) (m : Moment) (e : Event) (stage : Stage counts a p t) (pushed : Pushed counts a b p r m e) where
+module _ (counts : Counts) (a b : ActorState) (p r : Pass) (t n : ℕ) (m : Moment) (e : Event) (stage : Stage counts a p t)
+    (pushed : Pushed counts a b p r m e) where
   pub pushed_events : own_events r ≡ own_events p ++ e ∷ []
   pushed_events =
       ap events_of pushed.moments ∙ map-append event_of p.moments.items (m ∷ []) ∙ ap (λ (x : Event). own_events p ++ x ∷ []) pushed.event
@@ -112,15 +115,19 @@ running_own : (o : Option Program) (op : OpId) → IsSome o → ForSome o (λ p.
 running_own (Some p) op is its = let same : p.op ≡ op = its p refl in rw same refl
 running_own None op is its = absurd (grind (arith, is))
 
-heard_runs : (counts : Counts) (serial : ℕ) (q : AnyReq) (x : AnyReply) (o : Option Program) → op_running (heard counts serial q x o) ≡ op_running o
+heard_runs : (counts : Counts) (serial : ℕ) (q : AnyReq) (x : AnyReply) (o : Option Program)
+    → op_running (heard counts serial q x o) ≡ op_running o
 heard_runs counts serial q x None = refl
 heard_runs counts serial q x (Some p) = refl
 
-heard_smooth : (counts : Counts) (serial : ℕ) (q : AnyReq) (x : AnyReply) (o : Option Program) → RunsSmoothly o → RunsSmoothly (heard counts serial q x o)
+heard_smooth : (counts : Counts) (serial : ℕ) (q : AnyReq) (x : AnyReply) (o : Option Program) → RunsSmoothly o
+    → RunsSmoothly (heard counts serial q x o)
 heard_smooth counts serial q x None smooth = tt
-heard_smooth counts serial q x (Some p) smooth = smooth_hears (request_place counts q) x p.op (object_number p.op.actor serial) p.command p.phase smooth
+heard_smooth counts serial q x (Some p) smooth = smooth_hears (request_place counts q) x p.op (object_number p.op.actor serial) p.command
+    p.phase smooth
 
-pub heard_some : (counts : Counts) (serial : ℕ) (q : AnyReq) (x : AnyReply) (o : Option Program) → IsSome o → IsSome (heard counts serial q x o)
+pub heard_some : (counts : Counts) (serial : ℕ) (q : AnyReq) (x : AnyReply) (o : Option Program) → IsSome o
+    → IsSome (heard counts serial q x o)
 heard_some counts serial q x (Some p) is = refl
 heard_some counts serial q x None is = is
 
@@ -140,13 +147,15 @@ module _ (counts : Counts) (a : ActorState) (p : Pass) (t : ℕ) (stage : Stage 
 
   -- ---- a transaction
 
-  module _ (r : Pass) (q : AnyReq) (x : AnyReply) (asks : program_ask a.state.serial a.state.running ≡ Some q) (room : ¬ passes.IsFull p) (done : Committed counts p r q x) where
+  module _ (r : Pass) (q : AnyReq) (x : AnyReply) (asks : program_ask a.state.serial a.state.running ≡ Some q) (room : ¬ passes.IsFull p)
+      (done : Committed counts p r q x) where
     abbrev acted : ActorState
     acted = record a { state = went_on counts a.state q x }
 
     acted_event : event_of (Act (entry_at counts r.clock p q x)) ≡ Acted (op_of a) q x
     acted_event =
-        let by : (k : ℕ) (o : Option OpId) → k ≡ a.actor → o ≡ Some (op_of a) → (let op : OpId = record { actor = k; number = passes.op_number o } in Acted op q x ≡ Acted (op_of a) q x) =
+        let by : (k : ℕ) (o : Option OpId) → k ≡ a.actor → o ≡ Some (op_of a)
+        → (let op : OpId = record { actor = k; number = passes.op_number o } in Acted op q x ≡ Acted (op_of a) q x) =
         λ k o e f. rw (e, f) refl in
         by p.actor p.running stage.same runs_op
 
@@ -180,10 +189,12 @@ module _ (counts : Counts) (a : ActorState) (p : Pass) (t : ℕ) (stage : Stage 
   -- why it ends with that answer
   abbrev pub Because : Answer → Type 0
   Because x = (program_answer a.state.running ≡ Some x) ⊎ ((x ≡ answers.NoMemory)
-      ⊎ ((place : Place) × (q : AnyReq) × (x ≡ answers.HistoryFull place) × passes.IsFull p × (program_ask a.state.serial a.state.running ≡ Some q) × (place ≡ request_place counts q)))
+      ⊎ ((place : Place) × (q : AnyReq) × (x ≡ answers.HistoryFull place) × passes.IsFull p
+      × (program_ask a.state.serial a.state.running ≡ Some q) × (place ≡ request_place counts q)))
 
   module _ (b : ActorState) (r : Pass) (x : Answer) (after : b ≡ ended a) (done : NotedEnd p r (notes.Ended (op_of a) x)) where
-    ended_by : (e : Event) → end_event (op_of a) x ≡ e → OwnMay a.state e → (r.clock < 2 ^ 63 → KeepsRoom counts (own_events p) a.state e) → is_own a.actor e ≡ true
+    ended_by : (e : Event) → end_event (op_of a) x ≡ e → OwnMay a.state e → (r.clock < 2 ^ 63 → KeepsRoom counts (own_events p) a.state e)
+        → is_own a.actor e ≡ true
         → b.state ≡ own_after counts a.state e → Pushed counts a b p r (Local (p.clock + 1) p.actor (notes.Ended (op_of a) x)) e
     ended_by e event may room mine state = record {
       moments = done.moments;
@@ -204,9 +215,11 @@ module _ (counts : Counts) (a : ActorState) (p : Pass) (t : ℕ) (stage : Stage 
     after_state : b.state ≡ record a.state { running = None }
     after_state = ap (λ (z : ActorState). z.state) after
 
-    failed_by : (y : Answer) → x ≡ y → end_event (op_of a) y ≡ Failed (op_of a) y → IsLack y → (r.clock < 2 ^ 63 → KeepsRoom counts (own_events p) a.state (Failed (op_of a) y))
+    failed_by : (y : Answer) → x ≡ y → end_event (op_of a) y ≡ Failed (op_of a) y → IsLack y
+        → (r.clock < 2 ^ 63 → KeepsRoom counts (own_events p) a.state (Failed (op_of a) y))
         → Pushed counts a b p r (Local (p.clock + 1) p.actor (notes.Ended (op_of a) x)) (Failed (op_of a) y)
-    failed_by y is event lack room = ended_by (Failed (op_of a) y) (ap (end_event (op_of a)) is ∙ event) (lack, its_own) room (same_number a.actor) after_state
+    failed_by y is event lack room = ended_by (Failed (op_of a) y) (ap (end_event (op_of a)) is ∙ event) (lack, its_own) room
+        (same_number a.actor) after_state
 
     pub ended_pushed : Because x → Pushed counts a b p r (Local (p.clock + 1) p.actor (notes.Ended (op_of a) x)) (end_event (op_of a) x)
     ended_pushed (inl answer) =
@@ -220,10 +233,14 @@ module _ (counts : Counts) (a : ActorState) (p : Pass) (t : ℕ) (stage : Stage 
     ended_pushed (inr (inr (place, q, is, full, asks, at))) =
         subst (Pushed counts a b p r (Local (p.clock + 1) p.actor (notes.Ended (op_of a) x))) (sym (ap (end_event (op_of a)) is))
         (failed_by (answers.HistoryFull place) is refl tt
-        (λ early. (rw (← stage.same) (fills p full (omega (arith, done.clock, early))), (q, ap (program_ask a.state.serial) its_program ∙ asks, at))))
+        (λ early. (
+          rw (← stage.same) (fills p full (omega (arith, done.clock, early))),
+          (q, ap (program_ask a.state.serial) its_program ∙ asks, at),
+        )))
 
     pub ended_stage : Because x → Stage counts b r t
     ended_stage why =
-        push_stage counts a b p r t t (Local (p.clock + 1) p.actor (notes.Ended (op_of a) x)) (end_event (op_of a) x) stage (ended_pushed why)
+        push_stage counts a b p r t t (Local (p.clock + 1) p.actor (notes.Ended (op_of a) x)) (end_event (op_of a) x) stage
+        (ended_pushed why)
         (stage.counted ∙ sym (count_other (own_events p) (end_event (op_of a) x) (op_of a) (end_no_act (op_of a) (op_of a) x))
         ∙ ap (λ (z : ActorState). transactions (own_events p ++ end_event (op_of a) x ∷ []) (op_of z)) (sym after))

@@ -30,14 +30,18 @@ goes_by : (serial : ℕ) (o : Option Program) → RunsSmoothly o → IsSome o �
 goes_by serial None smooth runs asks answers = absurd (grind (arith, runs))
 goes_by serial (Some p) smooth runs asks answers = smooth_goes p.op (object_number p.op.actor serial) p.command p.phase smooth asks answers
 
-unasked_so : (a : ActorState) (answer : Option Answer) → RunsSmoothly a.state.running → IsSome a.state.running → program_ask a.state.serial a.state.running ≡ None
+unasked_so : (a : ActorState) (answer : Option Answer) → RunsSmoothly a.state.running → IsSome a.state.running
+    → program_ask a.state.serial a.state.running ≡ None
     → SettlesSo a answer → EndsSo a.state Unasked answer
 unasked_so a None smooth runs asks so = goes_by a.state.serial a.state.running smooth runs asks so
 unasked_so a (Some x) smooth runs asks so = so
 
-module _ {W : Type 0} (done : W → W → ℕ → AnyReq → Result Entry Refused → Type 0) (counts : Counts) (w v : W) (a b : ActorState) (p r : Pass) where
-  pub did_step : (m : Pass) (q : AnyReq) (x : AnyReply) (answer : Option Answer) → program_ask a.state.serial a.state.running ≡ Some q → done w v p.clock q (Ok (entry_at counts m.clock p q x)) → ¬ IsFull p
-      → Committed counts p m q x → Settles (record a { state = went_on counts a.state q x }) b m r answer → TookStep done counts w v a b p r (record { transactions = 1; answer = answer })
+module _ {W : Type 0} (done : W → W → ℕ → AnyReq → Result Entry Refused → Type 0) (counts : Counts) (w v : W) (a b : ActorState)
+    (p r : Pass) where
+  pub did_step : (m : Pass) (q : AnyReq) (x : AnyReply) (answer : Option Answer) → program_ask a.state.serial a.state.running ≡ Some q
+      → done w v p.clock q (Ok (entry_at counts m.clock p q x)) → ¬ IsFull p
+      → Committed counts p m q x → Settles (record a { state = went_on counts a.state q x }) b m r answer
+      → TookStep done counts w v a b p r (record { transactions = 1; answer = answer })
   did_step m q x answer asks did room committed settles = record {
     tried = Did q x;
     middle = m;
@@ -49,7 +53,8 @@ module _ {W : Type 0} (done : W → W → ℕ → AnyReq → Result Entry Refuse
     acted = refl;
   }
 
-  pub denied_step : (m : Pass) (q : AnyReq) (e : Refused) (x : Answer) (step : Step) → program_ask a.state.serial a.state.running ≡ Some q → done w v p.clock q (Err e)
+  pub denied_step : (m : Pass) (q : AnyReq) (e : Refused) (x : Answer) (step : Step) → program_ask a.state.serial a.state.running ≡ Some q
+      → done w v p.clock q (Err e)
       → Tries counts p m (Denied q e) → EndsSo a.state (Denied q e) (Some x) → b ≡ ended a → NotedEnd m r (Ended (op_of a) x)
       → (let t : Step = record { transactions = 0; answer = Some x } in step ≡ t) → TookStep done counts w v a b p r step
   denied_step m q e x step asks did tries so after noted is = rw is (record {
@@ -63,7 +68,8 @@ module _ {W : Type 0} (done : W → W → ℕ → AnyReq → Result Entry Refuse
     acted = refl;
   })
 
-  pub unasked_step : (answer : Option Answer) → v ≡ w → RunsSmoothly a.state.running → IsSome a.state.running → program_ask a.state.serial a.state.running ≡ None
+  pub unasked_step : (answer : Option Answer) → v ≡ w → RunsSmoothly a.state.running → IsSome a.state.running
+      → program_ask a.state.serial a.state.running ≡ None
       → Settles a b p r answer → TookStep done counts w v a b p r (record { transactions = 0; answer = answer })
   unasked_step answer same smooth runs asks settles = record {
     tried = Unasked;

@@ -20,7 +20,8 @@ use Rattle.clients.specs.Lives.{ClientLife, events_in, state_in, op_in}
 use Rattle.clients.specs.Phases.{RunsIn}
 
 abbrev pub life_of : Inside → ClientLife
-life_of a = record { counts = a.counts; actor = a.actor.actor; clock = a.pass.clock; moments = a.pass.moments.items; silent = a.refused.items }
+life_of a = record
+    { counts = a.counts; actor = a.actor.actor; clock = a.pass.clock; moments = a.pass.moments.items; silent = a.refused.items }
 
 -- an op was refused only where the pass was full, and it stays so
 abbrev pub IsFullOnce : List Event → Pass → Type 0

@@ -50,7 +50,8 @@ act_count (Denied q e) = 0
 abbrev pub after_try : Counts → ActorState → Tried → ActorState
 after_try counts a tried = record a { state = state_after counts a.state tried }
 
-pub record TookStep {W : Type 0} (done : W → W → ℕ → AnyReq → Result Entry Refused → Type 0) (counts : Counts) (w v : W) (a b : ActorState) (p r : Pass) (step : Step) : Type 0 where
+pub record TookStep {W : Type 0} (done : W → W → ℕ → AnyReq → Result Entry Refused → Type 0) (counts : Counts) (w v : W) (a b : ActorState)
+    (p r : Pass) (step : Step) : Type 0 where
   pub tried : Tried
   pub middle : Pass
   pub asks : Asks a.state tried
@@ -60,7 +61,8 @@ pub record TookStep {W : Type 0} (done : W → W → ℕ → AnyReq → Result E
   pub finishes : Finishes (after_try counts a tried) b middle r step.answer
   pub acted : step.transactions ≡ act_count tried
 
-pub record LostStep {W : Type 0} (done : W → W → ℕ → AnyReq → Result Entry Refused → Type 0) (w v : W) (a b : ActorState) (p r : Pass) (e : Refused) : Type 0 where
+pub record LostStep {W : Type 0} (done : W → W → ℕ → AnyReq → Result Entry Refused → Type 0) (w v : W) (a b : ActorState) (p r : Pass)
+    (e : Refused) : Type 0 where
   pub req : AnyReq
   pub asks : program_ask a.state.serial a.state.running ≡ Some req
   pub there : done w v p.clock req (Err e)

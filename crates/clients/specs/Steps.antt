@@ -34,7 +34,8 @@ Asks s (Did q x) = program_ask s.serial s.running ≡ Some q
 Asks s (Denied q e) = program_ask s.serial s.running ≡ Some q
 
 -- Where requests are committed, it did this there: from that clock of the pass, with the entry that the pass has.
-abbrev pub DidThere : {W : Type 0} → (W → W → ℕ → AnyReq → Result Entry Refused → Type 0) → W → W → ℕ → (AnyReq → AnyReply → Entry) → Tried → Type 0
+abbrev pub DidThere : {W : Type 0} → (W → W → ℕ → AnyReq → Result Entry Refused → Type 0) → W → W → ℕ → (AnyReq → AnyReply → Entry) → Tried
+    → Type 0
 DidThere done w v clock entry Unasked = v ≡ w
 DidThere done w v clock entry (Did q x) = done w v clock q (Ok (entry q x))
 DidThere done w v clock entry (Denied q e) = done w v clock q (Err e)
@@ -75,7 +76,8 @@ tried_life life stamp (Denied q e) = life
 
 -- the end is noted, but not that of an op that was refused
 abbrev pub ended_with : ClientLife → List Event → OpId → Answer → ClientLife
-ended_with life [] op a = record life { clock = life.clock + 1; moments = life.moments ++ Local (life.clock + 1) life.actor (notes.Ended op a) ∷ [] }
+ended_with life [] op a = record life
+    { clock = life.clock + 1; moments = life.moments ++ Local (life.clock + 1) life.actor (notes.Ended op a) ∷ [] }
 ended_with life (e ∷ es) op a = record life { silent = life.silent ++ Ended op a ∷ [] }
 
 abbrev pub ended_life : ClientLife → OpId → Option Answer → ClientLife
@@ -99,7 +101,8 @@ is_later clock stamp (Did q x) = clock < stamp
 is_later clock stamp (Denied q e) = Unit {0}
 
 -- One step: at most one transaction, and at most one end. The stamp of the transaction alone is free.
-pub record OwnStep {W : Type 0} (done : W → W → ℕ → AnyReq → Result Entry Refused → Type 0) (w v : W) (old new : ClientLife) (turned : Turned) : Type 0 where
+pub record OwnStep {W : Type 0} (done : W → W → ℕ → AnyReq → Result Entry Refused → Type 0) (w v : W) (old new : ClientLife)
+    (turned : Turned) : Type 0 where
   pub tried : Tried
   pub stamp : ℕ
   pub answer : Option Answer
@@ -112,7 +115,8 @@ pub record OwnStep {W : Type 0} (done : W → W → ℕ → AnyReq → Result En
   pub told : turned ≡ turned_by answer
 
 -- No step, since the machine that the request found is not the one that was looked for.
-pub record WentAstray {W : Type 0} (done : W → W → ℕ → AnyReq → Result Entry Refused → Type 0) (w v : W) (old new : ClientLife) (e : Refused) : Type 0 where
+pub record WentAstray {W : Type 0} (done : W → W → ℕ → AnyReq → Result Entry Refused → Type 0) (w v : W) (old new : ClientLife)
+    (e : Refused) : Type 0 where
   pub req : AnyReq
   pub asks : program_ask (state_in old).serial (state_in old).running ≡ Some req
   pub there : done w v old.clock req (Err e)

@@ -1,4 +1,5 @@
-ghost use Rattle.std.specs.Prelude.{◌≡◌, ◌≢◌, ◌+◌, ◌^◌, ◌<◌, ◌≤◌, ◌++◌, [], ◌∷◌, max, IfOk, OnOk, OnErr, IsSome, IsNone, IsTrue, MatchResult, is_some, false, vec_len, vec_capacity};
+ghost use Rattle.std.specs.Prelude.{◌≡◌, ◌≢◌, ◌+◌, ◌^◌, ◌<◌, ◌≤◌, ◌++◌, [], ◌∷◌, max, IfOk, OnOk, OnErr, IsSome, IsNone, IsTrue};
+ghost use Rattle.std.specs.Prelude.{MatchResult, is_some, false, vec_len, vec_capacity};
 ghost use Rattle.tect_ids.specs.Places.{HasPlaces};
 ghost use Rattle.tect_calls.specs.Knowing.{IsActor};
 ghost use Rattle.entry_words.specs.declared.entry.Refused.TheVariants as refusals;
@@ -8,7 +9,8 @@ ghost use Rattle.world_runs.specs.Moments.{program_ask};
 ghost use Rattle.world_runs.specs.Report.{transactions};
 ghost use Rattle.world_runs.specs.Served.{IsServed};
 ghost use Rattle.clients.specs.Turns.{turned_by};
-ghost use Rattle.clients.specs.Lives.{events_in, state_in, op_in, RefusesNext, idle_life, begun_life, refused_life, Begins, stopped_life, IsLife};
+ghost use Rattle.clients.specs.Lives.{events_in, state_in, op_in, RefusesNext, idle_life, begun_life, refused_life, Begins, stopped_life};
+ghost use Rattle.clients.specs.Lives.{IsLife};
 ghost use Rattle.clients.specs.Steps.{OwnStep, WentAstray};
 
 use crate::actor::Actor;
@@ -226,7 +228,7 @@ impl Client {
         self.actor.begin_refused(command);
         self.transactions = 0;
         let op = self.actor.op();
-        push_event(&mut self.refused, Event::Refused { op, command: kept });
+        push_event(&mut self.refused, Event::NotBegun { op, command: kept });
         Ok(())
     }
 
@@ -328,7 +330,8 @@ impl Client {
 
     /// Its pass. It takes no memory.
     pub fn pass(&self) -> &Pass
-        ensures pass { (result.now.actor ≡ self.now.actor) × (result.now.clock ≡ self.now.clock) × (result.now.moments.items ≡ self.now.moments) }
+        ensures pass { (result.now.actor ≡ self.now.actor) × (result.now.clock ≡ self.now.clock)
+            × (result.now.moments.items ≡ self.now.moments) }
         ensures life { IsLife self.now }
     {
         self.known();

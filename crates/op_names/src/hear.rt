@@ -1,6 +1,8 @@
 ghost use Rattle.std.specs.Prelude.{◌≡◌, IfOk, OnOk, OnErr, Some, None, is_some};
 ghost use Rattle.program_rules.specs.Paths.{last_name};
-ghost use Rattle.program_rules.specs.Programs.{refusal, dir_refusal, looked, look_heard, entries_heard, made_heard, unbound_heard, source_heard, first_hear, then_release, bound_heard, swapped_heard, phase_hear, hear_at, own_hold};
+ghost use Rattle.program_rules.specs.Programs.{refusal, dir_refusal, looked, look_heard, entries_heard, made_heard, unbound_heard};
+ghost use Rattle.program_rules.specs.Programs.{source_heard, first_hear, then_release, bound_heard, swapped_heard, phase_hear, hear_at};
+ghost use Rattle.program_rules.specs.Programs.{own_hold};
 ghost use Rattle.op_names.specs.Walking.{walk_end, walk_heard};
 ghost use Rattle.tect_ids.specs.Keys.{name_eq};
 ghost use Rattle.store_rules.specs.Names.{key_in};
@@ -110,7 +112,8 @@ fn ends_with(path: &Path, name: &Name) -> bool
 
 /// The node under the old name of a rename was found, or not.
 fn source_heard_of(alloc: Global, heard: &Heard, key: Key, to: &Path) -> Result<Phase, NoMemory>
-    ensures { IfOk result (λ phase. phase ≡ source_heard heard.now.place key (last_name to.now) heard.now.reply.now (as_found heard.now.reply.now)) }
+    ensures { IfOk result
+        (λ phase. phase ≡ source_heard heard.now.place key (last_name to.now) heard.now.reply.now (as_found heard.now.reply.now)) }
 {
     match heard.reply.as_found() {
         None => refused(alloc, heard, &key),
@@ -228,7 +231,8 @@ fn swapped_heard_of(
     key: &Key,
     node: Node,
 ) -> Result<Phase, NoMemory>
-    ensures { IfOk result (λ phase. phase ≡ swapped_heard heard.now.place op key.now node heard.now.reply.now (as_swapped heard.now.reply.now)) }
+    ensures { IfOk result
+        (λ phase. phase ≡ swapped_heard heard.now.place op key.now node heard.now.reply.now (as_swapped heard.now.reply.now)) }
 {
     match heard.reply.as_swapped() {
         Some((hold, old)) => Ok(Phase::Release {
@@ -243,7 +247,8 @@ fn swapped_heard_of(
 
 /// A look on the way that found no directory ends the command.
 fn walk_ends(alloc: Global, heard: &Heard, dir: DirId, name: &Name) -> Result<Phase, NoMemory>
-    ensures { IfOk result (λ phase. phase ≡ walk_end heard.now.place (key_in dir name.now) heard.now.reply.now (as_found heard.now.reply.now)) }
+    ensures { IfOk result
+        (λ phase. phase ≡ walk_end heard.now.place (key_in dir name.now) heard.now.reply.now (as_found heard.now.reply.now)) }
 {
     match heard.reply.as_found() {
         Some(_) => Ok(Phase::End {

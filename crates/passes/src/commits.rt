@@ -35,6 +35,7 @@ pub trait Commits {
         ensures done { done self.old self.new pass.old.clock asked (entered (counts self.old) pass.old pass.new asked result) }
         ensures ok { IfOk result (λ reply. Committed (counts self.old) pass.old pass.new asked reply) }
         ensures full { IsFull pass.old → result ≡ Err (Refused.HistoryFull (request_place (counts self.old) asked)) }
-        ensures only { (place : Place) → result ≡ Err (Refused.HistoryFull place) → IsFull pass.old × (place ≡ request_place (counts self.old) asked) }
+        ensures only { (place : Place) → result ≡ Err (Refused.HistoryFull place) → IsFull pass.old
+            × (place ≡ request_place (counts self.old) asked) }
         ensures err { OnErr result (pass.new ≡ pass.old) };
 }

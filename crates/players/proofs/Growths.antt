@@ -1,5 +1,6 @@
 -- What a client's events and state become as it grows, once and again.
-use Rattle.std.proofs.Common.{◌≡◌, ℕ, ◌≤◌, ◌⊎◌, inl, inr, true, nat_lt, nat_le, List, [], ◌∷◌, ◌++◌, refl, sym, ap, ◌∙◌, append_assoc, arith}
+use Rattle.std.proofs.Common.{◌≡◌, ℕ, ◌≤◌, ◌⊎◌, inl, inr, true, nat_lt, nat_le, List, [], ◌∷◌, ◌++◌, refl, sym, ap, ◌∙◌, append_assoc}
+use Rattle.std.proofs.Common.{arith}
 use Rattle.std.proofs.lemmas.Grind.{common_steps}
 use Rattle.std.proofs.lemmas.List.{append-nil, map-append}
 use Rattle.tect_ids.specs.declared.ids.Counts.{Counts}
@@ -23,7 +24,8 @@ rises_lower low mid high (m ∷ ms) le r =
     let more : rises (stamp_of m) high ms ≡ true = grind (arith, common_steps, r) in
     rw here more
 
-rises-append : (low mid high : ℕ) (ms ns : List Moment) → rises low mid ms ≡ true → rises mid high ns ≡ true → rises low high (ms ++ ns) ≡ true
+rises-append : (low mid high : ℕ) (ms ns : List Moment) → rises low mid ms ≡ true → rises mid high ns ≡ true
+    → rises low high (ms ++ ns) ≡ true
 rises-append low mid high [] ns r s = rises_lower low mid high ns (grind (arith, common_steps, r)) s
 rises-append low mid high (m ∷ ms) ns r s =
     let here : nat_lt low (stamp_of m) ≡ true = grind (arith, common_steps, r) in
@@ -36,10 +38,12 @@ rises_here n = let h : nat_le n n ≡ true = grind (arith, common_steps) in h
 -- ---- lists
 
 -- once an op is refused nothing is noted any more
-pub both_news : (xs ys : List Moment) (es fs : List Event) → (ys ≡ []) ⊎ (es ≡ []) → news_events (xs ++ ys) (es ++ fs) ≡ news_events xs es ++ news_events ys fs
+pub both_news : (xs ys : List Moment) (es fs : List Event) → (ys ≡ []) ⊎ (es ≡ [])
+    → news_events (xs ++ ys) (es ++ fs) ≡ news_events xs es ++ news_events ys fs
 both_news xs ys es fs (inl none) = rw (none, append-nil xs) (sym (append_assoc (events_of xs) es fs))
 both_news xs ys es fs (inr none) =
-    rw none (ap (λ l. l ++ fs) (map-append event_of xs ys) ∙ append_assoc (events_of xs) (events_of ys) fs ∙ ap (λ l. l ++ (events_of ys ++ fs)) (sym (append-nil (events_of xs))))
+    rw none (ap (λ l. l ++ fs) (map-append event_of xs ys) ∙ append_assoc (events_of xs) (events_of ys) fs ∙ ap
+    (λ l. l ++ (events_of ys ++ fs)) (sym (append-nil (events_of xs))))
 
 none_before : {A : Type 0} → (all xs ys : List A) → all ≡ xs ++ ys → all ≡ [] → (xs ≡ []) × (ys ≡ [])
 none_before all [] ys e f = (refl, sym e ∙ f)

@@ -1,5 +1,6 @@
 -- What each act leaves, from what the player's calls say.
-use Rattle.std.proofs.Common.{◌≡◌, ℕ, ◌+◌, ◌≤◌, inl, inr, false, Option, Some, None, IsSome, List, [], ◌∷◌, ◌++◌, refl, sym, ap, subst, ◌∙◌, append_assoc, arith}
+use Rattle.std.proofs.Common.{◌≡◌, ℕ, ◌+◌, ◌≤◌, inl, inr, false, Option, Some, None, IsSome, List, [], ◌∷◌, ◌++◌, refl, sym, ap, subst, ◌∙◌}
+use Rattle.std.proofs.Common.{append_assoc, arith}
 use Rattle.tect_ids.specs.declared.ids.Counts.{Counts}
 use Rattle.tect_ids.specs.declared.ids.OpId.{OpId}
 use Rattle.tect_ids.specs.declared.answer.Answer.{Answer}
@@ -15,16 +16,18 @@ use Rattle.world_runs.specs.Moments.{Actor}
 use Rattle.world_runs.specs.OwnRuns.{own_after, own_state}
 use Rattle.world_runs.specs.Races.{own_lines}
 use Rattle.world_runs.specs.Report.{answer_line}
-use Rattle.world_runs.specs.Standing.{AtTurn, op_of}
-use Rattle.world_runs.specs.Turns.{turn_after}
+use Rattle.world_runs.specs.Standing.{IsInState, op_of}
+use Rattle.world_runs.specs.ClientStates.{state_left_at}
 use Rattle.world_runs.proofs.OwnLines.{own_lines-append}
 use Rattle.clients.specs.declared.turned.Turned.TheVariants.{Going, Done}
 use Rattle.players.specs.Players.{op_at, next_at, HasBegun, GoesOn, ComesToEnd, StepsUpTo, StepsOnce, IsPlayer, Played}
-use Rattle.players.proofs.Transactions.{Keeps, Rests, acts-append, acts_keep, acts_then_rests, is_end, acts_show_nothing, acts_then_show, stop_shows}
+use Rattle.players.proofs.Transactions.{Keeps, Rests, acts-append, acts_keep, acts_then_rests, is_end, acts_show_nothing, acts_then_show}
+use Rattle.players.proofs.Transactions.{stop_shows}
 use Rattle.players.proofs.Begun.{Starts, begin_starts, begin_shows}
 
 -- it did so many transactions of its command, which goes on
-pub record HasStepped {P A : Type 0} (counts : A → Counts) (fits : P → A → Type 0) (actor : P → ℕ) (state : P → A → Actor) (grows : P → A → P → A → List Event → Type 0)
+pub record HasStepped {P A : Type 0} (counts : A → Counts) (fits : P → A → Type 0) (actor : P → ℕ) (state : P → A → Actor)
+    (grows : P → A → P → A → List Event → Type 0)
     (n : ℕ) (p : P) (a : A) (q : P) (b : A) : Type 0 where
   pub goes : GoesOn (grows p a q b) (op_at (actor p) (state p a)) n
   pub fit : fits q b
@@ -32,7 +35,8 @@ pub record HasStepped {P A : Type 0} (counts : A → Counts) (fits : P → A →
   pub same : op_at (actor q) (state q b) ≡ op_at (actor p) (state p a)
   pub kept : counts b ≡ counts a
 
-module _ {P A : Type 0} (counts : A → Counts) (fits : P → A → Type 0) (actor : P → ℕ) (history : P → A → List Event) (state : P → A → Actor) (grows : P → A → P → A → List Event → Type 0)
+module _ {P A : Type 0} (counts : A → Counts) (fits : P → A → Type 0) (actor : P → ℕ) (history : P → A → List Event) (state : P → A → Actor)
+    (grows : P → A → P → A → List Event → Type 0)
     (laws : IsPlayer counts fits actor history state grows) where
   abbrev op : P → A → OpId
   op p a = op_at (actor p) (state p a)
@@ -41,12 +45,14 @@ module _ {P A : Type 0} (counts : A → Counts) (fits : P → A → Type 0) (act
 
   module _ (p q : P) (a b : A) (n : ℕ) (goes : GoesOn (grows p a q b) (op p a) n) where
     on_keeps : Keeps (state p a) (state q b)
-    on_keeps = subst (Keeps (state p a)) (sym (laws.next_state p q a b goes.acts goes.grown)) (acts_keep (counts a) (op p a) n (state p a) goes.acts goes.are_acts)
+    on_keeps = subst (Keeps (state p a)) (sym (laws.next_state p q a b goes.acts goes.grown))
+        (acts_keep (counts a) (op p a) n (state p a) goes.acts goes.are_acts)
 
     on_op : op q b ≡ op p a
     on_op i = record { actor = laws.same_actor p q a b goes.acts goes.grown i; number = on_keeps.number i }
 
-  goes_both : (p q r : P) (a b c : A) (o : OpId) (n k : ℕ) → GoesOn (grows p a q b) o n → GoesOn (grows q b r c) o k → GoesOn (grows p a r c) o (n + k)
+  goes_both : (p q r : P) (a b c : A) (o : OpId) (n k : ℕ) → GoesOn (grows p a q b) o n → GoesOn (grows q b r c) o k
+      → GoesOn (grows p a r c) o (n + k)
   goes_both p q r a b c o n k first second = record {
     acts = first.acts ++ second.acts;
     are_acts = acts-append o n k first.acts second.acts first.are_acts second.are_acts;
@@ -56,7 +62,8 @@ module _ {P A : Type 0} (counts : A → Counts) (fits : P → A → Type 0) (act
   -- ---- the loops
 
   pub stepped_none : (p : P) (a : A) → fits p a → IsSome (state p a).running → HasStepped counts fits actor state grows 0 p a p a
-  stepped_none p a fit running = record { goes = record { acts = []; are_acts = refl; grown = laws.nothing p a fit }; fit = fit; running = running; same = refl; kept = refl }
+  stepped_none p a fit running = record
+      { goes = record { acts = []; are_acts = refl; grown = laws.nothing p a fit }; fit = fit; running = running; same = refl; kept = refl }
 
   module _ (n : ℕ) (p q r : P) (a b c : A) (s : HasStepped counts fits actor state grows n p a q b) where
     pub stepped_more : StepsOnce (grows q b r c) (op q b) Going → fits r c → HasStepped counts fits actor state grows (n + 1) p a r c
@@ -72,7 +79,8 @@ module _ {P A : Type 0} (counts : A → Counts) (fits : P → A → Type 0) (act
 
     pub stepped_end : (x : Answer) → StepsOnce (grows q b r c) (op q b) (Done x) → StepsUpTo (grows p a r c) (op p a) (n + 1) (Some x)
     stepped_end x step =
-        let last : (end : ComesToEnd (grows q b r c) (op p a) x) × (end.count ≤ 1) = subst (λ (o : OpId). (end : ComesToEnd (grows q b r c) o x) × (end.count ≤ 1)) s.same step in
+        let last : (end : ComesToEnd (grows q b r c) (op p a) x)
+        × (end.count ≤ 1) = subst (λ (o : OpId). (end : ComesToEnd (grows q b r c) o x) × (end.count ≤ 1)) s.same step in
         let end : ComesToEnd (grows q b r c) (op p a) x = last.0 in (
           record {
             acts = s.goes.acts ++ end.acts;
@@ -80,13 +88,15 @@ module _ {P A : Type 0} (counts : A → Counts) (fits : P → A → Type 0) (act
             end = end.end;
             are_acts = acts-append (op p a) n end.count s.goes.acts end.acts s.goes.are_acts end.are_acts;
             ends = end.ends;
-            grown = subst (grows p a r c) (sym (append_assoc s.goes.acts end.acts (end.end ∷ []))) (laws.both p q r a b c s.goes.acts (end.acts ++ end.end ∷ []) s.goes.grown end.grown);
+            grown = subst (grows p a r c) (sym (append_assoc s.goes.acts end.acts (end.end ∷ [])))
+                (laws.both p q r a b c s.goes.acts (end.acts ++ end.end ∷ []) s.goes.grown end.grown);
           },
           omega (arith, last.1),
         )
 
   -- fewer steps are as many at most
-  pub steps_within : (p r : P) (a c : A) (o : OpId) (k n : ℕ) (x : Answer) → k ≤ n → StepsUpTo (grows p a r c) o k (Some x) → StepsUpTo (grows p a r c) o n (Some x)
+  pub steps_within : (p r : P) (a c : A) (o : OpId) (k n : ℕ) (x : Answer) → k ≤ n → StepsUpTo (grows p a r c) o k (Some x)
+      → StepsUpTo (grows p a r c) o n (Some x)
   steps_within p r a c o k n x le (end, few) = (end, omega (arith, le, few))
 
   -- ---- a line
@@ -96,23 +106,29 @@ module _ {P A : Type 0} (counts : A → Counts) (fits : P → A → Type 0) (act
 
   -- nothing is done
   module _ (names : List (List ℕ)) (p : P) (a : A) (fit : fits p a) (none : (state p a).running ≡ None) where
-    nothing_played : (act : Act) → DoesLine (actor p) (op_of (state p a).running) act [] (op_of (state p a).running) → AtTurn (turn_after act) (state p a) → Plays names act p a p a None
-    nothing_played act does turn = record { part = []; grown = laws.nothing p a fit; does = does; turn = turn; few = omega arith; shows = refl }
+    nothing_played : (act : Act) → DoesLine (actor p) (op_of (state p a).running) act [] (op_of (state p a).running)
+        → IsInState (state_left_at act) (state p a) → Plays names act p a p a None
+    nothing_played act does turn = record
+        { part = []; grown = laws.nothing p a fit; does = does; turn = turn; few = omega arith; shows = refl }
 
     busy_none : op_of (state p a).running ≡ None
     busy_none = ap op_of none
 
     pub steps_nothing : (n : ℕ) → (state p a).stopped ≡ false → Plays names (acts.Step n) p a p a None
-    steps_nothing n goes_on = nothing_played (acts.Step n) (subst (λ (o : Option OpId). DoesLine (actor p) o (acts.Step n) [] o) (sym busy_none) (refl, refl)) goes_on
+    steps_nothing n goes_on = nothing_played (acts.Step n)
+        (subst (λ (o : Option OpId). DoesLine (actor p) o (acts.Step n) [] o) (sym busy_none) (refl, refl)) goes_on
 
     pub runs_nothing : (state p a).stopped ≡ false → Plays names acts.Run p a p a None
-    runs_nothing goes_on = nothing_played acts.Run (subst (λ (o : Option OpId). DoesLine (actor p) o acts.Run [] o) (sym busy_none) (refl, refl)) (none, goes_on)
+    runs_nothing goes_on = nothing_played acts.Run
+        (subst (λ (o : Option OpId). DoesLine (actor p) o acts.Run [] o) (sym busy_none) (refl, refl)) (none, goes_on)
 
     pub stops_nothing : Plays names acts.Stop p a p a None
-    stops_nothing = nothing_played acts.Stop (subst (λ (o : Option OpId). DoesLine (actor p) o acts.Stop [] o) (sym busy_none) (refl, refl)) none
+    stops_nothing = nothing_played acts.Stop (subst (λ (o : Option OpId). DoesLine (actor p) o acts.Stop [] o) (sym busy_none) (refl, refl))
+        none
 
   -- the command goes on
-  pub steps_on : (names : List (List ℕ)) (n : ℕ) (p q : P) (a b : A) → fits p a → fits q b → IsSome (state p a).running → (state p a).stopped ≡ false → GoesOn (grows p a q b) (op p a) n
+  pub steps_on : (names : List (List ℕ)) (n : ℕ) (p q : P) (a b : A) → fits p a → fits q b → IsSome (state p a).running
+      → (state p a).stopped ≡ false → GoesOn (grows p a q b) (op p a) n
       → Plays names (acts.Step n) p a q b None
   steps_on names n p q a b fit then running goes_on goes =
       let keeps = on_keeps p q a b n goes in
@@ -120,19 +136,22 @@ module _ {P A : Type 0} (counts : A → Counts) (fits : P → A → Type 0) (act
       record {
         part = goes.acts;
         grown = goes.grown;
-        does = subst (λ (o : Option OpId). DoesLine (actor p) o (acts.Step n) goes.acts (op_of (state q b).running)) (sym (laws.busy p a fit running)) (inl (goes.are_acts, after));
+        does = subst (λ (o : Option OpId). DoesLine (actor p) o (acts.Step n) goes.acts (op_of (state q b).running))
+            (sym (laws.busy p a fit running)) (inl (goes.are_acts, after));
         turn = keeps.stopped ∙ goes_on;
         few = omega (arith, keeps.number);
         shows = sym (acts_show_nothing (counts a) names (actor p) (history p a) (op p a) n goes.acts goes.are_acts);
       }
 
   -- the command comes to its end
-  module _ (names : List (List ℕ)) (p q : P) (a b : A) (x : Answer) (end : ComesToEnd (grows p a q b) (op p a) x) (line : ReportLine) (is : line ≡ answer_line names (history q b) (op q b) x) where
+  module _ (names : List (List ℕ)) (p q : P) (a b : A) (x : Answer) (end : ComesToEnd (grows p a q b) (op p a) x) (line : ReportLine)
+      (is : line ≡ answer_line names (history q b) (op q b) x) where
     abbrev part : List Event
     part = end.acts ++ end.end ∷ []
 
     rests : Rests (state p a) (state q b)
-    rests = subst (Rests (state p a)) (sym (laws.next_state p q a b part end.grown)) (acts_then_rests (counts a) (op p a) end.count (state p a) end.acts end.end x end.are_acts end.ends)
+    rests = subst (Rests (state p a)) (sym (laws.next_state p q a b part end.grown))
+        (acts_then_rests (counts a) (op p a) end.count (state p a) end.acts end.end x end.are_acts end.ends)
 
     end_op : op q b ≡ op p a
     end_op i = record { actor = laws.same_actor p q a b part end.grown i; number = rests.number i }
@@ -154,7 +173,8 @@ module _ {P A : Type 0} (counts : A → Counts) (fits : P → A → Type 0) (act
       runs_on = record {
         part = part;
         grown = end.grown;
-        does = subst (λ (o : Option OpId). DoesLine (actor p) o acts.Run part (op_of (state q b).running)) (sym (laws.busy p a fit running)) ((end.count, end_after), ended);
+        does = subst (λ (o : Option OpId). DoesLine (actor p) o acts.Run part (op_of (state q b).running)) (sym (laws.busy p a fit running))
+            ((end.count, end_after), ended);
         turn = (rests.running, rests.stopped ∙ goes_on);
         few = omega (arith, rests.number);
         shows = end_shows;
@@ -164,20 +184,23 @@ module _ {P A : Type 0} (counts : A → Counts) (fits : P → A → Type 0) (act
       steps_to_end n few = record {
         part = part;
         grown = end.grown;
-        does = subst (λ (o : Option OpId). DoesLine (actor p) o (acts.Step n) part (op_of (state q b).running)) (sym (laws.busy p a fit running)) (inr (end.count, few, end_after, ended));
+        does = subst (λ (o : Option OpId). DoesLine (actor p) o (acts.Step n) part (op_of (state q b).running))
+            (sym (laws.busy p a fit running)) (inr (end.count, few, end_after, ended));
         turn = rests.stopped ∙ goes_on;
         few = omega (arith, rests.number);
         shows = end_shows;
       }
 
   -- a command begins
-  module _ (names : List (List ℕ)) (p q : P) (a b : A) (c : Command) (begun : HasBegun (grows p a q b) (next_at (actor p) (state p a)) c) (none : (state p a).running ≡ None)
+  module _ (names : List (List ℕ)) (p q : P) (a b : A) (c : Command) (begun : HasBegun (grows p a q b) (next_at (actor p) (state p a)) c)
+      (none : (state p a).running ≡ None)
       (goes_on : (state p a).stopped ≡ false) where
     abbrev next : OpId
     next = next_at (actor p) (state p a)
 
     starts : Starts next (state p a) (state q b)
-    starts = subst (Starts next (state p a)) (sym (laws.next_state p q a b (begun.begin ∷ []) begun.grown)) (begin_starts (counts a) next c (state p a) begun.begin begun.begins)
+    starts = subst (Starts next (state p a)) (sym (laws.next_state p q a b (begun.begin ∷ []) begun.grown))
+        (begin_starts (counts a) next c (state p a) begun.begin begun.begins)
 
     pub begun_runs : IsSome (state q b).running
     begun_runs = starts.some
@@ -192,7 +215,8 @@ module _ {P A : Type 0} (counts : A → Counts) (fits : P → A → Type 0) (act
     begins fit = record {
       part = begun.begin ∷ [];
       grown = begun.grown;
-      does = subst (λ (o : Option OpId). DoesLine (actor p) o (acts.Begin c) (begun.begin ∷ []) (op_of (state q b).running)) (sym (ap op_of none))
+      does = subst (λ (o : Option OpId). DoesLine (actor p) o (acts.Begin c) (begun.begin ∷ []) (op_of (state q b).running))
+          (sym (ap op_of none))
           (next, begun.begin, refl, refl, begun.begins, laws.busy q b fit starts.some ∙ ap Some begun_op);
       turn = starts.stopped ∙ goes_on;
       few = omega (arith, starts.number);
@@ -200,41 +224,51 @@ module _ {P A : Type 0} (counts : A → Counts) (fits : P → A → Type 0) (act
     }
 
     -- and comes to its end
-    pub does_all : (r : P) (d : A) (x : Answer) (end : ComesToEnd (grows q b r d) (op q b) x) (line : ReportLine) → line ≡ answer_line names (history r d) (op r d) x → Plays names (acts.Do c) p a r d (Some line)
+    pub does_all : (r : P) (d : A) (x : Answer) (end : ComesToEnd (grows q b r d) (op q b) x) (line : ReportLine)
+        → line ≡ answer_line names (history r d) (op r d) x → Plays names (acts.Do c) p a r d (Some line)
     does_all r d x end line is =
         let rest : List Event = end.acts ++ end.end ∷ [] in
         let after = rests names q r b d x end line is in
-        let ends : RunsToEnd next rest = subst (λ (o : OpId). RunsToEnd o rest) begun_op (end.count, end_after names q r b d x end line is) in
+        let ends : RunsToEnd next rest = subst (λ (o : OpId). RunsToEnd o rest) begun_op (end.count, end_after names q r b d x end line is)
+        in
         record {
           part = begun.begin ∷ rest;
           grown = laws.both p q r a b d (begun.begin ∷ []) rest begun.grown end.grown;
-          does = subst (λ (o : Option OpId). DoesLine (actor p) o (acts.Do c) (begun.begin ∷ rest) (op_of (state r d).running)) (sym (ap op_of none))
+          does = subst (λ (o : Option OpId). DoesLine (actor p) o (acts.Do c) (begun.begin ∷ rest) (op_of (state r d).running))
+              (sym (ap op_of none))
               ((next, begun.begin, rest, refl, refl, begun.begins, ends), ended names q r b d x end line is);
           turn = (after.running, after.stopped ∙ starts.stopped ∙ goes_on);
           few = omega (arith, after.number, starts.number);
           shows = end_shows names q r b d x end line is
-              ∙ ap (λ (k : Counts). own_lines k names (actor q) (history q b) rest) (laws.same_counts p q a b (begun.begin ∷ []) begun.grown)
+              ∙ ap (λ (k : Counts). own_lines k names (actor q) (history q b) rest)
+              (laws.same_counts p q a b (begun.begin ∷ []) begun.grown)
               ∙ ap (λ (n : ℕ). own_lines (counts a) names n (history q b) rest) (laws.same_actor p q a b (begun.begin ∷ []) begun.grown)
-              ∙ ap (λ (es : List Event). own_lines (counts a) names (actor p) es rest) (laws.more_history p q a b (begun.begin ∷ []) begun.grown)
-              ∙ ap (λ (l : List ReportLine). l ++ own_lines (counts a) names (actor p) (history p a ++ begun.begin ∷ []) rest) (sym begun_shows)
+              ∙ ap (λ (es : List Event). own_lines (counts a) names (actor p) es rest)
+              (laws.more_history p q a b (begun.begin ∷ []) begun.grown)
+              ∙ ap (λ (l : List ReportLine). l ++ own_lines (counts a) names (actor p) (history p a ++ begun.begin ∷ []) rest)
+              (sym begun_shows)
               ∙ sym (own_lines-append (counts a) names (actor p) (history p a) (begun.begin ∷ []) rest);
         }
 
   -- the command is stopped
-  pub stops : (names : List (List ℕ)) (p q : P) (a b : A) → fits p a → IsSome (state p a).running → grows p a q b (Stopped (op p a) ∷ []) → (line : ReportLine)
+  pub stops : (names : List (List ℕ)) (p q : P) (a b : A) → fits p a → IsSome (state p a).running → grows p a q b (Stopped (op p a) ∷ [])
+      → (line : ReportLine)
       → line ≡ answer_line names (history q b) (op q b) answers.Stopped → Plays names acts.Stop p a q b (Some line)
   stops names p q a b fit running grown line is =
-      let state_is : state q b ≡ own_after (counts a) (state p a) (Stopped (op p a)) = laws.next_state p q a b (Stopped (op p a) ∷ []) grown in
+      let state_is : state q b ≡ own_after (counts a) (state p a) (Stopped (op p a)) = laws.next_state p q a b (Stopped (op p a) ∷ []) grown
+      in
       let number : (state q b).number ≡ (state p a).number = ap (λ (s : Actor). s.number) state_is in
       let none : (state q b).running ≡ None = ap (λ (s : Actor). s.running) state_is in
       let same : op q b ≡ op p a = λ i. record { actor = laws.same_actor p q a b (Stopped (op p a) ∷ []) grown i; number = number i } in
       record {
         part = Stopped (op p a) ∷ [];
         grown = grown;
-        does = subst (λ (o : Option OpId). DoesLine (actor p) o acts.Stop (Stopped (op p a) ∷ []) (op_of (state q b).running)) (sym (laws.busy p a fit running)) (refl, ap op_of none);
+        does = subst (λ (o : Option OpId). DoesLine (actor p) o acts.Stop (Stopped (op p a) ∷ []) (op_of (state q b).running))
+            (sym (laws.busy p a fit running)) (refl, ap op_of none);
         turn = none;
         few = omega (arith, number);
         shows = ap (λ (l : ReportLine). l ∷ []) is ∙ ap (λ (o : OpId). answer_line names (history q b) o answers.Stopped ∷ []) same
-            ∙ ap (λ (es : List Event). answer_line names es (op p a) answers.Stopped ∷ []) (laws.more_history p q a b (Stopped (op p a) ∷ []) grown)
+            ∙ ap (λ (es : List Event). answer_line names es (op p a) answers.Stopped ∷ [])
+            (laws.more_history p q a b (Stopped (op p a) ∷ []) grown)
             ∙ sym (stop_shows (counts a) names (actor p) (history p a) (op p a) refl);
       }

@@ -1,5 +1,6 @@
 -- The op that a client's own run is busy with is that of its last command.
-use Rattle.std.proofs.Common.{◌≡◌, ℕ, Bool, true, false, if◌then◌else◌, Option, Some, None, IsSome, List, [], ◌∷◌, length, ◌≤◌, refl, sym, ap, ◌∙◌, arith}
+use Rattle.std.proofs.Common.{◌≡◌, ℕ, Bool, true, false, if◌then◌else◌, Option, Some, None, IsSome, List, [], ◌∷◌, length, ◌≤◌, refl, sym}
+use Rattle.std.proofs.Common.{ap, ◌∙◌, arith}
 use Rattle.std.specs.List.{filter}
 use Rattle.std.specs.Option.{ForSome}
 use Rattle.tect_ids.specs.declared.ids.Counts.{Counts}
@@ -8,7 +9,7 @@ use Rattle.store_rules.specs.declared.any.AnyReq.{AnyReq}
 use Rattle.store_rules.specs.declared.any.AnyReply.{AnyReply}
 use Rattle.program_rules.specs.declared.program.Program.{Program}
 use Rattle.world_runs.specs.declared.event.Event.{Event}
-use Rattle.world_runs.specs.declared.event.Event.TheVariants.{Began, Refused, Acted, Ended, Stopped, Failed, Dumped}
+use Rattle.world_runs.specs.declared.event.Event.TheVariants.{Began, NotBegun, Acted, Ended, Stopped, Failed, Dumped}
 use Rattle.world_runs.specs.Moments.{Actor, idle_actor, heard}
 use Rattle.world_runs.specs.Races.{is_own}
 use Rattle.world_runs.specs.Standing.{op_of}
@@ -29,7 +30,8 @@ filter_short p (e ∷ es) =
     let rest = filter_short p es in
     elim (p e) as (λ b. length (if b then e ∷ filter p es else filter p es) ≤ length (e ∷ es)) [ true ↦ omega arith | false ↦ omega arith ]
 
-kept_all : (p : Event → Bool) (e : Event) (es : List Event) (b : Bool) → p e ≡ b → (if b then e ∷ filter p es else filter p es) ≡ e ∷ es → (p e ≡ true) × (filter p es ≡ es)
+kept_all : (p : Event → Bool) (e : Event) (es : List Event) (b : Bool) → p e ≡ b → (if b then e ∷ filter p es else filter p es) ≡ e ∷ es
+    → (p e ≡ true) × (filter p es ≡ es)
 kept_all p e es true is all = (is, cc)
 kept_all p e es false is all = absurd (omega (arith, filter_short p es, ap length all))
 
@@ -44,7 +46,8 @@ RunsLast a s = ForSome s.running (λ p. (p.op.actor ≡ a) × (p.op.number ≡ s
 some_program : (p r : Program) → Some p ≡ Some r → p ≡ r
 some_program p r is = cc
 
-heard_last : (counts : Counts) (serial : ℕ) (q : AnyReq) (x : AnyReply) (a n : ℕ) (o : Option Program) → ForSome o (λ p. (p.op.actor ≡ a) × (p.op.number ≡ n))
+heard_last : (counts : Counts) (serial : ℕ) (q : AnyReq) (x : AnyReply) (a n : ℕ) (o : Option Program)
+    → ForSome o (λ p. (p.op.actor ≡ a) × (p.op.number ≡ n))
     → ForSome (heard counts serial q x o) (λ p. (p.op.actor ≡ a) × (p.op.number ≡ n))
 heard_last counts serial q x a n None last p is = absurd cc
 heard_last counts serial q x a n (Some r) last p is =
@@ -56,7 +59,7 @@ runs_last_after : (counts : Counts) (a : ℕ) (s : Actor) (e : Event) → is_own
 runs_last_after counts a s (Began op c) mine last p is =
     let same : op ≡ p.op = ap (λ (z : Program). z.op) (some_program _ p is) in
     (ap (λ (o : OpId). o.actor) (sym same) ∙ one_number op.actor a mine, ap (λ (o : OpId). o.number) (sym same))
-runs_last_after counts a s (Refused op c) mine last p is =
+runs_last_after counts a s (NotBegun op c) mine last p is =
     let same : op ≡ p.op = ap (λ (z : Program). z.op) (some_program _ p is) in
     (ap (λ (o : OpId). o.actor) (sym same) ∙ one_number op.actor a mine, ap (λ (o : OpId). o.number) (sym same))
 runs_last_after counts a s (Acted op q x) mine last p is = heard_last counts s.serial q x a s.number s.running last p is
@@ -71,7 +74,8 @@ runs_last counts a s (e ∷ es) mine last = runs_last counts a (own_after counts
 
 -- ---- of a client
 
-busy_by : (a n : ℕ) (o : Option Program) → IsSome o → ForSome o (λ p. (p.op.actor ≡ a) × (p.op.number ≡ n)) → op_of o ≡ Some (record { actor = a; number = n })
+busy_by : (a n : ℕ) (o : Option Program) → IsSome o → ForSome o (λ p. (p.op.actor ≡ a) × (p.op.number ≡ n))
+    → op_of o ≡ Some (record { actor = a; number = n })
 busy_by a n None is last = absurd cc
 busy_by a n (Some p) is last =
     let own = last p refl in

@@ -10,8 +10,8 @@ use Rattle.entry_words.specs.Moments.{rises}
 use Rattle.world_runs.specs.declared.event.Event.{Event}
 use Rattle.world_runs.specs.Follows.{DoesLine}
 use Rattle.world_runs.specs.Races.{own_lines}
-use Rattle.world_runs.specs.Turns.{turn_after}
-use Rattle.world_runs.specs.Standing.{AtTurn}
+use Rattle.world_runs.specs.ClientStates.{state_left_at}
+use Rattle.world_runs.specs.Standing.{IsInState}
 use Rattle.clients.specs.Lives.{events_in, state_in}
 use Rattle.players.specs.declared.fault.RacerFault.{RacerFault}
 use Rattle.players.specs.declared.racer.Racer.{Racer}
@@ -25,7 +25,8 @@ pub record Adds (names : List (List ℕ)) (old new : Racer) (news : List Moment)
   pub life : new.client ≡ grown old.client new.client.clock news more
   pub late : (news ≡ []) ⊎ (old.client.silent ≡ [])
   pub stamps : rises old.client.clock new.client.clock news ≡ true
-  pub answers : new.answers.items ≡ old.answers.items ++ own_lines old.client.counts names old.client.actor (events_in old.client) (news_events news more)
+  pub answers : new.answers.items ≡ old.answers.items ++ own_lines old.client.counts names old.client.actor (events_in old.client)
+      (news_events news more)
 
 -- It did what a line asks of it.
 pub record Plays (names : List (List ℕ)) (act : Act) (old new : Racer) : Type 0 where
@@ -33,9 +34,10 @@ pub record Plays (names : List (List ℕ)) (act : Act) (old new : Racer) : Type 
   pub more : List Event
   pub adds : Adds names old new news more
   pub does : DoesLine old.client.actor (busy_in old.client) act (news_events news more) (busy_in new.client)
-  pub turn : AtTurn (turn_after act) (state_in new.client)
+  pub turn : IsInState (state_left_at act) (state_in new.client)
   pub few : (state_in new.client).number ≤ (state_in old.client).number + 1
 
 -- why it did not, where each layer has that many shards: for want of memory, or since a commit found another machine
-abbrev pub IsFaultOf : {W : Type 0} (counts_of : W → Counts) (done : W → W → ℕ → AnyReq → Result Entry Refused → Type 0) → Counts → RacerFault → Type 0
+abbrev pub IsFaultOf : {W : Type 0} (counts_of : W → Counts) (done : W → W → ℕ → AnyReq → Result Entry Refused → Type 0) → Counts
+    → RacerFault → Type 0
 IsFaultOf counts_of done c fault = IsFault (FoundAstray counts_of done) c fault

@@ -11,7 +11,7 @@ use Rattle.entry_words.specs.declared.entry.Refused.{Refused}
 use Rattle.entry_words.specs.declared.entry.Refused.TheVariants.{Astray}
 use Rattle.entry_words.specs.Moments.{rises}
 use Rattle.world_runs.specs.declared.event.Event.{Event}
-use Rattle.world_runs.specs.declared.event.Event.TheVariants.{Began, Refused as WasRefused, Acted, Ended, Stopped, Failed, Dumped}
+use Rattle.world_runs.specs.declared.event.Event.TheVariants.{Began, NotBegun as WasRefused, Acted, Ended, Stopped, Failed, Dumped}
 use Rattle.world_runs.specs.Follows.{Acts}
 use Rattle.clients.specs.Lives.{ClientLife, op_in}
 use Rattle.players.specs.Lives.{grown, news_events}
@@ -24,6 +24,7 @@ pub record Grows (old new : ClientLife) (news : List Moment) (more : List Event)
   pub stamps : rises old.clock new.clock news ≡ true
 
 -- where each layer has that many shards, a commit found another machine than the one that was looked for
-abbrev pub FoundAstray : {W : Type 0} (counts_of : W → Counts) (done : W → W → ℕ → AnyReq → Result Entry Refused → Type 0) → Counts → Label → Label → Type 0
+abbrev pub FoundAstray : {W : Type 0} (counts_of : W → Counts) (done : W → W → ℕ → AnyReq → Result Entry Refused → Type 0) → Counts → Label
+    → Label → Type 0
 FoundAstray {W = W} counts_of done c want found =
     (w : W) × (v : W) × (clock : ℕ) × (req : AnyReq) × (counts_of w ≡ c) × done w v clock req (Err (Astray want found))

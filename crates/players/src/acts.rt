@@ -1,8 +1,8 @@
 ghost use Rattle.std.specs.Prelude.{◌≡◌, ℕ, ◌+◌, ◌<◌, ◌≤◌, ◌^◌, List, None, Some, false, IsNone, IfOk, IfErr, OnOk, length};
 ghost use Rattle.world_runs.specs.Report.{answer_line as line_of};
 ghost use Rattle.world_runs.specs.Served.{IsServed};
-ghost use Rattle.world_runs.specs.Turns.{ClientTurn, TakesAct};
-ghost use Rattle.world_runs.specs.Standing.{AtTurn};
+ghost use Rattle.world_runs.specs.ClientStates.{ClientState, TakesAct};
+ghost use Rattle.world_runs.specs.Standing.{IsInState};
 ghost use Rattle.players.specs.Players.{op_at, next_at, HasBegun, IsFault, Played};
 
 use crate::fault::RacerFault;
@@ -21,7 +21,8 @@ fn answer_line<P: Player<At>, At>(
 ) -> Result<ReportLine, NoMemory>
     requires fits { P.fits player.now at.now }
     requires client { (1 ≤ P.actor player.now) × (P.actor player.now ≤ length names.now) }
-    ensures { IfOk result (λ line. line ≡ line_of names.now (P.history player.now at.now) (op_at (P.actor player.now) (P.state player.now at.now)) answer) }
+    ensures { IfOk result
+        (λ line. line ≡ line_of names.now (P.history player.now at.now) (op_at (P.actor player.now) (P.state player.now at.now)) answer) }
 {
     Ok(ReportLine::Client {
         client: names[player.actor() as usize - 1].clone()?,
@@ -42,7 +43,8 @@ fn begin_command<P: Player<At>, At>(
     requires goes_on { (P.state player.old at.old).stopped ≡ false }
     requires few { (P.state player.old at.old).number + 1 < 2 ^ 31 }
     requires served { IsServed command.now }
-    ensures begins { OnOk result (HasBegun (P.grows player.old at.old player.new at.new) (next_at (P.actor player.old) (P.state player.old at.old)) command.now) }
+    ensures begins { OnOk result
+        (HasBegun (P.grows player.old at.old player.new at.new) (next_at (P.actor player.old) (P.state player.old at.old)) command.now) }
     ensures fits { OnOk result (P.fits player.new at.new) }
     ensures counts { P.counts at.new ≡ P.counts at.old }
 {
@@ -62,7 +64,9 @@ fn do_command<P: Player<At>, At>(
     requires goes_on { (P.state player.old at.old).stopped ≡ false }
     requires few { (P.state player.old at.old).number + 1 < 2 ^ 31 }
     requires served { IsServed command.now }
-    ensures plays { IfOk result (λ line. Played P.counts P.actor P.history P.state P.grows names.now (Act.Do command.now) player.old at.old player.new at.new (Some line)) }
+    ensures plays { IfOk result
+        (λ line. Played P.counts P.actor P.history P.state P.grows names.now (Act.Do command.now) player.old at.old player.new at.new
+        (Some line)) }
     ensures fits { OnOk result (P.fits player.new at.new) }
     ensures counts { P.counts at.new ≡ P.counts at.old }
     ensures fault { IfErr result (IsFault P.astray (P.counts at.old)) }
@@ -78,7 +82,9 @@ fn begin<P: Player<At>, At>(player: &mut P, at: &mut At, command: &Command) -> R
     requires goes_on { (P.state player.old at.old).stopped ≡ false }
     requires few { (P.state player.old at.old).number + 1 < 2 ^ 31 }
     requires served { IsServed command.now }
-    ensures plays { (names : List (List ℕ)) → OnOk result (Played P.counts P.actor P.history P.state P.grows names (Act.Begin command.now) player.old at.old player.new at.new None) }
+    ensures plays { (names : List (List ℕ))
+        → OnOk result
+        (Played P.counts P.actor P.history P.state P.grows names (Act.Begin command.now) player.old at.old player.new at.new None) }
     ensures fits { OnOk result (P.fits player.new at.new) }
     ensures counts { P.counts at.new ≡ P.counts at.old }
 {
@@ -95,7 +101,8 @@ fn step_on<P: Player<At>, At>(
     requires fits { P.fits player.old at.old }
     requires client { (1 ≤ P.actor player.old) × (P.actor player.old ≤ length names.now) }
     requires goes_on { (P.state player.old at.old).stopped ≡ false }
-    ensures plays { IfOk result (Played P.counts P.actor P.history P.state P.grows names.now (Act.Step count) player.old at.old player.new at.new) }
+    ensures plays { IfOk result
+        (Played P.counts P.actor P.history P.state P.grows names.now (Act.Step count) player.old at.old player.new at.new) }
     ensures fits { OnOk result (P.fits player.new at.new) }
     ensures counts { P.counts at.new ≡ P.counts at.old }
     ensures fault { IfErr result (IsFault P.astray (P.counts at.old)) }
@@ -164,7 +171,7 @@ pub fn play<P: Player<At>, At>(
     requires fits { P.fits player.old at.old }
     requires client { (1 ≤ P.actor player.old) × (P.actor player.old ≤ length names.now) }
     requires few { (P.state player.old at.old).number + 1 < 2 ^ 31 }
-    requires takes { (turn : ClientTurn) × AtTurn turn (P.state player.old at.old) × TakesAct turn act.now }
+    requires takes { (turn : ClientState) × IsInState turn (P.state player.old at.old) × TakesAct turn act.now }
     ensures plays { IfOk result (Played P.counts P.actor P.history P.state P.grows names.now act.now player.old at.old player.new at.new) }
     ensures fits { OnOk result (P.fits player.new at.new) }
     ensures counts { P.counts at.new ≡ P.counts at.old }

@@ -25,7 +25,8 @@ impl<R: Wait, G: Gate> Commits for Locked<'_, R, G> {
 
     ghost counts = { λ at. at.places.now };
 
-    ghost done = { λ old new clock asked result. IfErr result (IsRefusalFor (label_at old.places.now (request_place old.places.now asked).0)) };
+    ghost done = { λ old new clock asked result. IfErr result
+        (IsRefusalFor (label_at old.places.now (request_place old.places.now asked).0)) };
 
     fn commit(&mut self, pass: &mut Pass, asked: Asked) -> Result<AnyReply, Refused> {
         self.places

@@ -66,7 +66,8 @@ pub trait Player<At> {
         requires goes_on { (state self.old at.old).stopped ≡ false }
         requires few { (state self.old at.old).number + 1 < 2 ^ 31 }
         requires served { IsServed command }
-        ensures begins { OnOk result (HasBegun (grows self.old at.old self.new at.new) (next_at (actor self.old) (state self.old at.old)) command) }
+        ensures begins { OnOk result
+            (HasBegun (grows self.old at.old self.new at.new) (next_at (actor self.old) (state self.old at.old)) command) }
         ensures fits { OnOk result (fits self.new at.new) }
         ensures counts { counts at.new ≡ counts at.old };
 
@@ -84,7 +85,8 @@ pub trait Player<At> {
     fn stop(&mut self, at: &mut At) -> Result<(), NoMemory>
         requires fits { fits self.old at.old }
         requires running { IsSome (state self.old at.old).running }
-        ensures stops { OnOk result (grows self.old at.old self.new at.new (events.Stopped (op_at (actor self.old) (state self.old at.old)) ∷ [])) }
+        ensures stops { OnOk result
+            (grows self.old at.old self.new at.new (events.Stopped (op_at (actor self.old) (state self.old at.old)) ∷ [])) }
         ensures fits { OnOk result (fits self.new at.new) }
         ensures counts { counts at.new ≡ counts at.old };
 

@@ -14,7 +14,8 @@ pub fn step_up_to<P: Player<At>, At>(
 ) -> Result<Option<Answer>, RacerFault>
     requires fits { P.fits player.old at.old }
     requires running { IsSome (P.state player.old at.old).running }
-    ensures steps { IfOk result (StepsUpTo (P.grows player.old at.old player.new at.new) (op_at (P.actor player.old) (P.state player.old at.old)) count) }
+    ensures steps { IfOk result
+        (StepsUpTo (P.grows player.old at.old player.new at.new) (op_at (P.actor player.old) (P.state player.old at.old)) count) }
     ensures fits { OnOk result (P.fits player.new at.new) }
     ensures counts { P.counts at.new ≡ P.counts at.old }
     ensures fault { IfErr result (IsFault P.astray (P.counts at.old)) }
@@ -32,7 +33,8 @@ pub fn step_up_to<P: Player<At>, At>(
 pub fn run_to_end<P: Player<At>, At>(player: &mut P, at: &mut At) -> Result<Answer, RacerFault>
     requires fits { P.fits player.old at.old }
     requires running { IsSome (P.state player.old at.old).running }
-    ensures end { IfOk result (ComesToEnd (P.grows player.old at.old player.new at.new) (op_at (P.actor player.old) (P.state player.old at.old))) }
+    ensures end { IfOk result
+        (ComesToEnd (P.grows player.old at.old player.new at.new) (op_at (P.actor player.old) (P.state player.old at.old))) }
     ensures fits { OnOk result (P.fits player.new at.new) }
     ensures counts { P.counts at.new ≡ P.counts at.old }
     ensures fault { IfErr result (IsFault P.astray (P.counts at.old)) }

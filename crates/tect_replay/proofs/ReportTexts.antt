@@ -9,7 +9,8 @@ use Rattle.tect_replay.proofs.Texts.{prefix_longer, prefix_less, lines-append}
 use Rattle.tect_replay.proofs.Pieces.{prefix_after}
 
 -- a further line
-pub line_more : (ls : List ReportLine) (i : ℕ) (l : ReportLine) → i < length ls → l ≡ get_or ls i l → lines_text (take (i + 1) ls) ≡ lines_text (take i ls) ++ line_text l
+pub line_more : (ls : List ReportLine) (i : ℕ) (l : ReportLine) → i < length ls → l ≡ get_or ls i l
+    → lines_text (take (i + 1) ls) ≡ lines_text (take i ls) ++ line_text l
 line_more ls i l lt at =
     ap lines_text (take_more ls i l lt ∙ ap (λ (d : ReportLine). take i ls ++ d ∷ []) (sym at))
     ∙ lines-append (take i ls) (l ∷ [])
@@ -20,13 +21,16 @@ line_front : (ls : List ReportLine) (i : ℕ) → lines_text ls ≡ lines_text (
 line_front ls i = ap lines_text (sym (take-append-drop i ls)) ∙ lines-append (take i ls) (drop i ls)
 
 -- a front of what waits of the first lines, and of the next, is one of the report
-pub report_part : (ls : List ReportLine) (i : ℕ) (l : ReportLine) (old mid new : Option (List ℕ)) (rest : List ℕ) → i < length ls → l ≡ get_or ls i l
-    → AppendsAllBut old mid (lines_text (take i ls)) rest → AppendsPrefix mid new (rest ++ line_text l) → AppendsProperPrefix old new (lines_text ls ++ end_text)
+pub report_part : (ls : List ReportLine) (i : ℕ) (l : ReportLine) (old mid new : Option (List ℕ)) (rest : List ℕ) → i < length ls
+    → l ≡ get_or ls i l
+    → AppendsAllBut old mid (lines_text (take i ls)) rest → AppendsPrefix mid new (rest ++ line_text l)
+    → AppendsProperPrefix old new (lines_text ls ++ end_text)
 report_part ls i l old mid new rest lt at first part =
     prefix_less old new (lines_text ls) end_text
     (rw (line_front ls (i + 1)) (prefix_longer old new (lines_text (take (i + 1) ls)) (lines_text (drop (i + 1) ls))
     (rw (line_more ls i l lt at) (prefix_after old mid new (lines_text (take i ls)) rest (line_text l) first part))))
     (omega arith)
 
-pub all_lines : (ls : List ReportLine) (i : ℕ) (old new : Option (List ℕ)) (rest : List ℕ) → length ls ≤ i → AppendsAllBut old new (lines_text (take i ls)) rest → AppendsAllBut old new (lines_text ls) rest
+pub all_lines : (ls : List ReportLine) (i : ℕ) (old new : Option (List ℕ)) (rest : List ℕ) → length ls ≤ i
+    → AppendsAllBut old new (lines_text (take i ls)) rest → AppendsAllBut old new (lines_text ls) rest
 all_lines ls i old new rest le written = rw (take_all i ls le) at written

@@ -25,7 +25,8 @@ use Rattle.tect_replay.proofs.Results.{some_of}
 grown-nil : (w : Life) → w ≡ grown w []
 grown-nil w i = record { counts = w.counts; history = sym (append-nil w.history) i }
 
-busy_some : (w : Life) (actor : ℕ) → IsWorldRun w.counts w.history → IsSome ((present w).actors actor).running → op_of ((present w).actors actor).running ≡ Some (last_op (present w) actor)
+busy_some : (w : Life) (actor : ℕ) → IsWorldRun w.counts w.history → IsSome ((present w).actors actor).running
+    → op_of ((present w).actors actor).running ≡ Some (last_op (present w) actor)
 busy_some w actor run some =
     let p = some_of ((present w).actors actor).running some in
     let k = running_is_last_begun w.counts w.history run actor p.0 p.1 in
@@ -36,18 +37,23 @@ seat_both : (p q r : Seat) (a b c : Life) (es fs : List Event) → SeatGrew p a 
 seat_both p q r a b c es fs first second = record {
   seat = second.seat ∙ first.seat;
   history = second.history ∙ ap (λ (w : Life). grown w fs) first.history ∙ grown-grown a es fs;
-  mine = own-append p.actor es fs ∙ ap (λ (xs : List Event). xs ++ own p.actor fs) first.mine ∙ ap (λ (xs : List Event). es ++ xs) (ap (λ (s : Seat). own s.actor fs) (sym first.seat) ∙ second.mine);
-  at_once = at_once-append (present a) es fs first.at_once (subst (λ (m : WorldState). EndsAtOnce m fs) (ap present first.history ∙ present-grown a es) second.at_once);
+  mine = own-append p.actor es fs ∙ ap (λ (xs : List Event). xs ++ own p.actor fs) first.mine ∙ ap (λ (xs : List Event). es ++ xs)
+      (ap (λ (s : Seat). own s.actor fs) (sym first.seat) ∙ second.mine);
+  at_once = at_once-append (present a) es fs first.at_once
+      (subst (λ (m : WorldState). EndsAtOnce m fs) (ap present first.history ∙ present-grown a es) second.at_once);
 }
 
-seat_state : (p q : Seat) (a b : Life) (es : List Event) → SeatGrew p a q b es → (present b).actors q.actor ≡ own_state a.counts ((present a).actors p.actor) es
+seat_state : (p q : Seat) (a b : Life) (es : List Event) → SeatGrew p a q b es
+    → (present b).actors q.actor ≡ own_state a.counts ((present a).actors p.actor) es
 seat_state p q a b es g =
-    ap (λ (s : Seat). (present b).actors s.actor) g.seat ∙ ap (λ (m : WorldState). m.actors p.actor) (ap present g.history ∙ present-grown a es)
+    ap (λ (s : Seat). (present b).actors s.actor) g.seat ∙ ap (λ (m : WorldState). m.actors p.actor)
+    (ap present g.history ∙ present-grown a es)
     ∙ actors_are_their_own (present a) es p.actor
     ∙ ap (λ (k : Counts). own_state k ((present a).actors p.actor) (own p.actor es)) (counts_stay (opening a.counts) a.history)
     ∙ ap (own_state a.counts ((present a).actors p.actor)) g.mine
 
-pub seat_laws : IsPlayer {P = Seat} {A = Life} (λ w. w.counts) (λ s w. (1 ≤ s.actor) × (s.actor ≤ 64) × IsKeptRun w) (λ s. s.actor) (λ s w. w.history)
+pub seat_laws : IsPlayer {P = Seat} {A = Life} (λ w. w.counts) (λ s w. (1 ≤ s.actor) × (s.actor ≤ 64) × IsKeptRun w) (λ s. s.actor)
+    (λ s w. w.history)
     (λ s w. (present w).actors s.actor) SeatGrew
 seat_laws = record {
   nothing = λ p a fit. record { seat = refl; history = grown-nil a; mine = refl; at_once = tt };

@@ -21,14 +21,17 @@ use Rattle.tect_replay.specs.Plays.{IsKeptRun, PlaysLine}
 use Rattle.tect_replay.specs.Seats.{SeatGrew}
 
 -- a report of one actor's events shows the lines of these
-own_report : (counts : Counts) (clients : List (List ℕ)) (actor : ℕ) (before es : List Event) → AllOwn actor es → report_after counts clients before es ≡ own_lines counts clients actor before es
+own_report : (counts : Counts) (clients : List (List ℕ)) (actor : ℕ) (before es : List Event) → AllOwn actor es
+    → report_after counts clients before es ≡ own_lines counts clients actor before es
 own_report counts clients actor before [] all = refl
 own_report counts clients actor before (e ∷ es) all =
     ap (λ (b : Bool). (if b then lines_at counts clients before e else []) ++ report_after counts clients (before ++ e ∷ []) es) (sym all.0)
-    ∙ ap (λ (l : List ReportLine). (if is_own actor e then lines_at counts clients before e else []) ++ l) (own_report counts clients actor (before ++ e ∷ []) es all.1)
+    ∙ ap (λ (l : List ReportLine). (if is_own actor e then lines_at counts clients before e else []) ++ l)
+    (own_report counts clients actor (before ++ e ∷ []) es all.1)
 
 pub seat_played : (clients : List (List ℕ)) (name : List ℕ) (act : Act) (s t : Seat) (old new : Life) (told : Option ReportLine)
-    → Played (λ (w : Life). w.counts) (λ (p : Seat). p.actor) (λ (p : Seat) (w : Life). w.history) (λ (p : Seat) (w : Life). (present w).actors p.actor) SeatGrew clients act s old t new told → IsKeptRun new
+    → Played (λ (w : Life). w.counts) (λ (p : Seat). p.actor) (λ (p : Seat) (w : Life). w.history)
+    (λ (p : Seat) (w : Life). (present w).actors p.actor) SeatGrew clients act s old t new told → IsKeptRun new
     → PlaysLine clients (lines.Client name s.actor act) old new (told_lines told)
 seat_played clients name act s t old new told played run =
     let g : SeatGrew s old t new played.part = played.grown in
@@ -41,7 +44,8 @@ seat_played clients name act s t old new told played run =
       shows = own_report old.counts clients s.actor old.history played.part (all_own s.actor played.part g.mine) ∙ sym played.shows;
     }
 
-pub dumps : (clients : List (List ℕ)) (old new : Life) (ds : List DumpLine) → new ≡ grown old (Dumped ∷ []) → IsKeptRun new → ds ≡ store_dump (present old).store
+pub dumps : (clients : List (List ℕ)) (old new : Life) (ds : List DumpLine) → new ≡ grown old (Dumped ∷ []) → IsKeptRun new
+    → ds ≡ store_dump (present old).store
     → PlaysLine clients lines.Dump old new (map report_lines.Dump ds)
 dumps clients old new ds grew now is = record {
   part = Dumped ∷ [];

@@ -21,7 +21,8 @@ fn add_line<K: Sink>(
     buffer: &mut Vec<u8>,
     sink: &mut K,
 ) -> Result<(), ReplayFault>
-    ensures whole { OnOk result (AppendsAllBut (K.written sink.old) (K.written sink.new) (buffer.old.items ++ line_text line.now) buffer.new.items) }
+    ensures whole { OnOk result
+        (AppendsAllBut (K.written sink.old) (K.written sink.new) (buffer.old.items ++ line_text line.now) buffer.new.items) }
     ensures part { OnErr result (AppendsPrefix (K.written sink.old) (K.written sink.new) (buffer.old.items ++ line_text line.now)) }
     ensures kept { ¬ IsErrOf result ReplayFault.Failed → K.faults sink.new ≡ K.faults sink.old }
     ensures failed { IsErrOf result ReplayFault.Failed → Rose (K.faults sink.old) (K.faults sink.new) }

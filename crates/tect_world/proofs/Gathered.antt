@@ -1,5 +1,6 @@
 -- what the passes and the places of the world keep, gathered in one list, is its history
-use Rattle.std.proofs.Common.{◌≡◌, ℕ, ◌-◌, ◌≤◌, inl, inr, Bool, true, false, eqb, if◌then◌else◌, List, [], ◌++◌, map, refl, sym, subst, arith}
+use Rattle.std.proofs.Common.{◌≡◌, ℕ, ◌-◌, ◌≤◌, inl, inr, Bool, true, false, eqb, if◌then◌else◌, List, [], ◌++◌, map, refl, sym, subst}
+use Rattle.std.proofs.Common.{arith}
 use Rattle.std.specs.Prelude.{IfOk, Result, Ok, Err}
 use Rattle.std.specs.List.{All, AllZip}
 use Rattle.std.proofs.lemmas.Bool.{cases_lt}
@@ -42,7 +43,8 @@ module _ (w : Inside) (is : IsWorld w) where
   all_events : (a : ℕ) → events_of (moments_by c ls a) ++ silent_by a ≡ events_by c ls a
   all_events a = by_zero (eqb a 0)
     where
-      by_zero : (t : Bool) → events_of (if t then [] else (client_at c ls a).moments) ++ (if t then [] else (client_at c ls a).silent) ≡ (if t then [] else events_in (client_at c ls a))
+      by_zero : (t : Bool) → events_of (if t then [] else (client_at c ls a).moments) ++ (if t then [] else (client_at c ls a).silent) ≡
+          (if t then [] else events_in (client_at c ls a))
       by_zero true = refl
       by_zero false = refl
 
@@ -69,18 +71,21 @@ module _ (w : Inside) (is : IsWorld w) where
       subst (λ (f : ℕ → List Event). Notes (in_order w.order.items f) (noted_in w)) (λ i a. all_events a i)
       (notes_in_order w.order.items (moments_by c ls) silent_by all_silent)
 
-  module _ (ks : List AnyKept) (ps : List Pass) (started : AreStarted c ks) (kept : map history_of ks ≡ w.shards.entries) (taken : AllZip IsPassOf ls ps) where
+  module _ (ks : List AnyKept) (ps : List Pass) (started : AreStarted c ks) (kept : map history_of ks ≡ w.shards.entries)
+      (taken : AllZip IsPassOf ls ps) where
     pub actors_differ : HaveDifferentActors ps
     actors_differ = different w is ps taken
 
     pub all_agree : Agree ks ps
     all_agree =
-        agree c ks w.shards.entries ps w.clock w.order.items (moments_by c ls) started kept is.noted (have_marks w is) (of_actor w is ps taken) (of_pass w is ps taken) actors_differ
+        agree c ks w.shards.entries ps w.clock w.order.items (moments_by c ls) started kept is.noted (have_marks w is)
+        (of_actor w is ps taken) (of_pass w is ps taken) actors_differ
 
     pub gathered : (h : WorldHistory) → IsOneList ks ps h → IsGathered (life_of w) h
     gathered h g =
         let same : h.entries.items ≡ noted_in w =
-        merged_is c ks w.shards.entries ps w.clock w.order.items (moments_by c ls) started kept is.noted (have_marks w is) (of_actor w is ps taken) (of_pass w is ps taken) actors_differ
+        merged_is c ks w.shards.entries ps w.clock w.order.items (moments_by c ls) started kept is.noted (have_marks w is)
+        (of_actor w is ps taken) (of_pass w is ps taken) actors_differ
         h.entries.items g.whole g.order in
         record {
           told = subst (λ (ms : List Moment). Notes (life_of w).history ms) (sym same) noted_history;

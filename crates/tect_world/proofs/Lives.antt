@@ -1,5 +1,6 @@
 -- the fields of the world tell a run of it, and stay so with more events of one actor
-use Rattle.std.proofs.Common.{◌≡◌, ◌≢◌, ℕ, ◌+◌, ◌-◌, ◌<◌, ◌≤◌, ◌^◌, Bool, true, false, eqb, if◌then◌else◌, List, [], ◌∷◌, ◌++◌, length, set, refl, sym, ap, subst, ◌∙◌, inl, inr, ◌⊎◌, arith, length-append}
+use Rattle.std.proofs.Common.{◌≡◌, ◌≢◌, ℕ, ◌+◌, ◌-◌, ◌<◌, ◌≤◌, ◌^◌, Bool, true, false, eqb, if◌then◌else◌, List, [], ◌∷◌, ◌++◌, length, set}
+use Rattle.std.proofs.Common.{refl, sym, ap, subst, ◌∙◌, inl, inr, ◌⊎◌, arith, length-append}
 use Rattle.std.proofs.lemmas.List.{get_or-set_same, get_or-set_other, length-map, get_or_past, length-set, append-nil}
 use Rattle.std.proofs.lemmas.Bool.{cases_lt}
 use Rattle.tect_ids.specs.declared.ids.Counts.{Counts}
@@ -46,12 +47,14 @@ module _ (w : Inside) (is : IsWorld w) where
   history = (life_of w).history
 
   -- what is so of no event, and of each client's, is so of each actor's own
-  own_all : (P : List Event → Type 0) → P [] → ((a : ℕ) → 1 ≤ a → a ≤ 65 → P (events_in (client_at w.shards.counts w.clients.items a))) → (a : ℕ) → P (own a history)
+  own_all : (P : List Event → Type 0) → P [] → ((a : ℕ) → 1 ≤ a → a ≤ 65 → P (events_in (client_at w.shards.counts w.clients.items a)))
+      → (a : ℕ) → P (own a history)
   own_all P none each a = subst P (sym (is.owns a)) (by_number a)
     where
       beyond : (a : ℕ) → 65 < a → P (events_in (client_at w.shards.counts w.clients.items a))
       beyond a far =
-          let past : client_at w.shards.counts w.clients.items a ≡ idle_life 0 w.shards.counts = get_or_past w.clients.items (a - 1) (idle_life 0 w.shards.counts) (omega (arith, far, is.number)) in
+          let past : client_at w.shards.counts w.clients.items a ≡ idle_life 0 w.shards.counts = get_or_past w.clients.items (a - 1)
+          (idle_life 0 w.shards.counts) (omega (arith, far, is.number)) in
           subst (λ (l : ClientLife). P (events_in l)) (sym past) none
 
       in_range : (a : ℕ) → (a ≤ 65) ⊎ (65 < a) → 1 ≤ a → P (events_in (client_at w.shards.counts w.clients.items a))
@@ -145,12 +148,14 @@ pub record Grows (old new : Inside) (a : ℕ) (s : ClientLife) (es : List Event)
   pub held : length new.shards.entries ≡ length old.shards.entries
   pub noted : AreNoted new.clock new.shards.entries (noted_in old ++ kept)
 
-module _ (old new : Inside) (a : ℕ) (s : ClientLife) (es : List Event) (ms : List Mark) (is : IsWorld old) (low : 1 ≤ a) (high : a ≤ 65) (g : Grows old new a s es ms) where
+module _ (old new : Inside) (a : ℕ) (s : ClientLife) (es : List Event) (ms : List Mark) (is : IsWorld old) (low : 1 ≤ a) (high : a ≤ 65)
+    (g : Grows old new a s es ms) where
   abbrev c : Counts
   c = old.shards.counts
 
   at_own : client_at c new.clients.items a ≡ s
-  at_own = ap (λ (cs : List ClientLife). client_at c cs a) g.items ∙ get_or-set_same old.clients.items (a - 1) s (idle_life 0 c) (omega (arith, low, high, is.number))
+  at_own = ap (λ (cs : List ClientLife). client_at c cs a) g.items ∙ get_or-set_same old.clients.items (a - 1) s (idle_life 0 c)
+      (omega (arith, low, high, is.number))
 
   at_other : (b : ℕ) → 1 ≤ b → b ≢ a → client_at c new.clients.items b ≡ client_at c old.clients.items b
   at_other b low' differs =
@@ -170,14 +175,18 @@ module _ (old new : Inside) (a : ℕ) (s : ClientLife) (es : List Event) (ms : L
         ∙ ap (λ (t : Bool). events_by c old.clients.items b ++ (if t then es else [])) (sym here)
     | inr d ↦
         let there : eqb b a ≡ false = grind (arith, num_eq_cases b a, d) in
-        by_zero b d ∙ sym (append-nil (events_by c old.clients.items b)) ∙ ap (λ (t : Bool). events_by c old.clients.items b ++ (if t then es else [])) (sym there)
+        by_zero b d ∙ sym (append-nil (events_by c old.clients.items b)) ∙ ap
+        (λ (t : Bool). events_by c old.clients.items b ++ (if t then es else [])) (sym there)
   ]
     where
       by_zero : (b : ℕ) → b ≢ a → events_by c new.clients.items b ≡ events_by c old.clients.items b
-      by_zero b d = elim (eqb b 0) as (λ t. eqb b 0 ≡ t → (if t then [] else events_in (client_at c new.clients.items b)) ≡ (if t then [] else events_in (client_at c old.clients.items b))) [
-        | true ↦ λ e. refl
-        | false ↦ λ e. ap events_in (at_other b (let some : b ≢ 0 = λ z. grind (arith, num_eq_cases b 0, z, e) in omega (arith, some)) d)
-      ] refl
+      by_zero b d = elim (eqb b 0) as
+          (λ t. eqb b 0 ≡ t
+          → (if t then [] else events_in (client_at c new.clients.items b)) ≡
+          (if t then [] else events_in (client_at c old.clients.items b))) [
+            | true ↦ λ e. refl
+            | false ↦ λ e. ap events_in (at_other b (let some : b ≢ 0 = λ z. grind (arith, num_eq_cases b 0, z, e) in omega (arith, some)) d)
+          ] refl
 
   history_more : (life_of new).history ≡ (life_of old).history ++ es
   history_more =
@@ -199,18 +208,23 @@ module _ (old new : Inside) (a : ℕ) (s : ClientLife) (es : List Event) (ms : L
         ∙ ap (λ (t : Bool). moments_by c old.clients.items b ++ (if t then g.kept else [])) (sym here)
     | inr d ↦
         let there : eqb b a ≡ false = grind (arith, num_eq_cases b a, d) in
-        by_zero b d ∙ sym (append-nil (moments_by c old.clients.items b)) ∙ ap (λ (t : Bool). moments_by c old.clients.items b ++ (if t then g.kept else [])) (sym there)
+        by_zero b d ∙ sym (append-nil (moments_by c old.clients.items b)) ∙ ap
+        (λ (t : Bool). moments_by c old.clients.items b ++ (if t then g.kept else [])) (sym there)
   ]
     where
       by_zero : (b : ℕ) → b ≢ a → moments_by c new.clients.items b ≡ moments_by c old.clients.items b
-      by_zero b d = elim (eqb b 0) as (λ t. eqb b 0 ≡ t → (if t then [] else (client_at c new.clients.items b).moments) ≡ (if t then [] else (client_at c old.clients.items b).moments)) [
-        | true ↦ λ e. refl
-        | false ↦ λ e. ap (λ (l : ClientLife). l.moments) (at_other b (let some : b ≢ 0 = λ z. grind (arith, num_eq_cases b 0, z, e) in omega (arith, some)) d)
-      ] refl
+      by_zero b d = elim (eqb b 0) as
+          (λ t. eqb b 0 ≡ t
+          → (if t then [] else (client_at c new.clients.items b).moments) ≡ (if t then [] else (client_at c old.clients.items b).moments)) [
+            | true ↦ λ e. refl
+            | false ↦ λ e. ap (λ (l : ClientLife). l.moments)
+                (at_other b (let some : b ≢ 0 = λ z. grind (arith, num_eq_cases b 0, z, e) in omega (arith, some)) d)
+          ] refl
 
   -- where no op of the actor was refused, each mark of it is of a moment
   all_moments : (l : ClientLife) → l.silent ≡ [] → length (events_in l) ≡ length l.moments
-  all_moments l none = ap (λ (es : List Event). length (events_of l.moments ++ es)) none ∙ ap length (append-nil (events_of l.moments)) ∙ length-map l.moments event_of
+  all_moments l none = ap (λ (es : List Event). length (events_of l.moments ++ es)) none ∙ ap length (append-nil (events_of l.moments)) ∙
+      length-map l.moments event_of
 
   no_more : (t : Bool) → g.kept ≡ [] → (if t then g.kept else []) ≡ []
   no_more true none = none
@@ -227,7 +241,8 @@ module _ (old new : Inside) (a : ℕ) (s : ClientLife) (es : List Event) (ms : L
               ap (λ (t : Bool). length (if t then [] else events_in (client_at c old.clients.items b))) some in
               let moments : length (moments_by c old.clients.items b) ≡ length (client_at c old.clients.items b).moments =
               ap (λ (t : Bool). length (if t then [] else (client_at c old.clients.items b).moments)) some in
-              let silent : (client_at c old.clients.items b).silent ≡ [] = ap (λ (x : ℕ). (client_at c old.clients.items x).silent) e ∙ none in
+              let silent : (client_at c old.clients.items b).silent ≡ [] = ap (λ (x : ℕ). (client_at c old.clients.items x).silent) e ∙ none
+              in
               let all = all_moments (client_at c old.clients.items b) silent in
               inr (omega (arith, is.marked b, events, moments, all))
         ]
@@ -248,7 +263,8 @@ module _ (old new : Inside) (a : ℕ) (s : ClientLife) (es : List Event) (ms : L
   mine_own : own a es ≡ es
   mine_own =
       let before : own a (events_in (client_at c old.clients.items a)) ≡ events_in (client_at c old.clients.items a) =
-      subst (λ (x : ℕ). own x (events_in (client_at c old.clients.items a)) ≡ events_in (client_at c old.clients.items a)) (is.each a low high).actor (is.each a low high).life.own in
+      subst (λ (x : ℕ). own x (events_in (client_at c old.clients.items a)) ≡ events_in (client_at c old.clients.items a))
+      (is.each a low high).actor (is.each a low high).life.own in
       let after : own a (events_in s) ≡ events_in s = subst (λ (x : ℕ). own x (events_in s) ≡ events_in s) g.mine.actor g.mine.life.own in
       own_behind a (events_in (client_at c old.clients.items a)) es before (rw g.events at after)
 
@@ -264,10 +280,12 @@ module _ (old new : Inside) (a : ℕ) (s : ClientLife) (es : List Event) (ms : L
 
   each_client : (b : ℕ) → 1 ≤ b → b ≤ 65 → IsClientOf c new.clock b (client_at c new.clients.items b)
   each_client b low' high' = elim (same_or_not a b) [
-    | inl e ↦ subst (λ (x : ℕ). IsClientOf c new.clock x (client_at c new.clients.items x)) (sym e) (subst (IsClientOf c new.clock a) (sym at_own) g.mine)
+    | inl e ↦ subst (λ (x : ℕ). IsClientOf c new.clock x (client_at c new.clients.items x)) (sym e)
+        (subst (IsClientOf c new.clock a) (sym at_own) g.mine)
     | inr d ↦
         let own = is.each b low' high' in
-        subst (IsClientOf c new.clock b) (sym (at_other b low' d)) (record { actor = own.actor; counts = own.counts; life = own.life; early = omega (arith, own.early, g.later) })
+        subst (IsClientOf c new.clock b) (sym (at_other b low' d))
+        (record { actor = own.actor; counts = own.counts; life = own.life; early = omega (arith, own.early, g.later) })
   ]
 
   now_owns : (b : ℕ) → own b (life_of new).history ≡ events_by c new.clients.items b
@@ -284,15 +302,18 @@ module _ (old new : Inside) (a : ℕ) (s : ClientLife) (es : List Event) (ms : L
   pub stays : IsWorld new
   stays = record {
     number = ap length g.items ∙ length-set old.clients.items (a - 1) s ∙ is.number;
-    each = subst (λ (k : Counts). (b : ℕ) → 1 ≤ b → b ≤ 65 → IsClientOf k new.clock b (client_at k new.clients.items b)) (sym g.counts) each_client;
+    each = subst (λ (k : Counts). (b : ℕ) → 1 ≤ b → b ≤ 65 → IsClientOf k new.clock b (client_at k new.clients.items b)) (sym g.counts)
+        each_client;
     places = g.places;
     early = g.early;
     few = g.few;
-    marked = subst (λ (k : Counts). (b : ℕ) → marks_of b new.order.items ≡ length (events_by k new.clients.items b)) (sym g.counts) now_marked;
+    marked = subst (λ (k : Counts). (b : ℕ) → marks_of b new.order.items ≡ length (events_by k new.clients.items b)) (sym g.counts)
+        now_marked;
     owns = subst (λ (k : Counts). (b : ℕ) → own b (life_of new).history ≡ events_by k new.clients.items b) (sym g.counts) now_owns;
     replies = subst (RepliesAre opening_store) (sym history_more)
         (replies-append opening_store (life_of old).history es is.replies (subst (λ (x : Store). RepliesAre x es) is.store g.replies));
-    store = g.store ∙ ap (λ (x : Store). stored_after x es) is.store ∙ sym (stored_after-append opening_store (life_of old).history es) ∙ ap (stored_after opening_store) (sym history_more);
+    store = g.store ∙ ap (λ (x : Store). stored_after x es) is.store ∙ sym (stored_after-append opening_store (life_of old).history es) ∙ ap
+        (stored_after opening_store) (sym history_more);
     held = subst (λ (k : Counts). length new.shards.entries ≡ k.names + k.files) (sym g.counts) (g.held ∙ is.held);
     noted = subst (λ (ns : List Noted). AreNoted new.clock new.shards.entries ns) (sym noted_more) g.noted;
   }
@@ -302,7 +323,8 @@ module _ (old new : Inside) (a : ℕ) (s : ClientLife) (es : List Event) (ms : L
 pub few_more : (os ps ns : List Mark) (m : Mark) → length ps < 2 ^ 61 → ns ≡ ps ++ m ∷ [] → length ns < 2 ^ 62
 few_more os ps ns m few is = omega (arith, few, ap length is, length-append ps (m ∷ []))
 
-module _ (old new : Inside) (is : IsWorld old) (order : new.order.items ≡ old.order.items ++ marks.Dump ∷ []) (few : length new.order.items < 2 ^ 62) where
+module _ (old new : Inside) (is : IsWorld old) (order : new.order.items ≡ old.order.items ++ marks.Dump ∷ [])
+    (few : length new.order.items < 2 ^ 62) where
   abbrev dumped : Inside
   dumped = record old { order = new.order }
 
@@ -311,7 +333,8 @@ module _ (old new : Inside) (is : IsWorld old) (order : new.order.items ≡ old.
 
   dumped_history : (life_of dumped).history ≡ (life_of old).history ++ Dumped ∷ []
   dumped_history =
-      ap (λ (o : List Mark). in_order o by_old) order ∙ ap (in_order (old.order.items ++ marks.Dump ∷ [])) (λ i b. sym (append-nil (by_old b)) i)
+      ap (λ (o : List Mark). in_order o by_old) order ∙ ap (in_order (old.order.items ++ marks.Dump ∷ []))
+      (λ i b. sym (append-nil (by_old b)) i)
       ∙ in_order-grow old.order.items (marks.Dump ∷ []) by_old (λ b. []) is.marked
 
   pub dump_grows : life_of dumped ≡ grown (life_of old) (Dumped ∷ [])
@@ -336,9 +359,12 @@ module _ (old new : Inside) (is : IsWorld old) (order : new.order.items ≡ old.
     early = omega (arith, is.early, ap length order, length-append old.order.items (marks.Dump ∷ []));
     few = few;
     marked = still_marked;
-    owns = λ b. ap (own b) dumped_history ∙ own-append b (life_of old).history (Dumped ∷ []) ∙ append-nil (own b (life_of old).history) ∙ is.owns b;
-    replies = subst (RepliesAre opening_store) (sym dumped_history) (replies-append opening_store (life_of old).history (Dumped ∷ []) is.replies tt);
-    store = is.store ∙ sym (stored_after-append opening_store (life_of old).history (Dumped ∷ [])) ∙ ap (stored_after opening_store) (sym dumped_history);
+    owns = λ b. ap (own b) dumped_history ∙ own-append b (life_of old).history (Dumped ∷ []) ∙ append-nil (own b (life_of old).history) ∙
+        is.owns b;
+    replies = subst (RepliesAre opening_store) (sym dumped_history)
+        (replies-append opening_store (life_of old).history (Dumped ∷ []) is.replies tt);
+    store = is.store ∙ sym (stored_after-append opening_store (life_of old).history (Dumped ∷ [])) ∙ ap (stored_after opening_store)
+        (sym dumped_history);
     held = is.held;
     noted = subst (λ (ns : List Noted). AreNoted old.clock old.shards.entries ns) (sym dumped_noted) is.noted;
   }

@@ -1,5 +1,6 @@
 -- one moment more
-use Rattle.std.proofs.Common.{◌≡◌, ◌≢◌, ℕ, ◌<◌, ◌≤◌, ◌⊎◌, inl, inr, List, [], ◌∷◌, ◌++◌, length, get_or, set, refl, sym, ap, ◌∙◌, subst, arith}
+use Rattle.std.proofs.Common.{◌≡◌, ◌≢◌, ℕ, ◌<◌, ◌≤◌, ◌⊎◌, inl, inr, List, [], ◌∷◌, ◌++◌, length, get_or, set, refl, sym, ap, ◌∙◌, subst}
+use Rattle.std.proofs.Common.{arith}
 use Rattle.std.specs.List.{Contains}
 use Rattle.std.proofs.lemmas.List.{get_or-set_same, get_or-set_other}
 use Rattle.tect_ids.proofs.KeyTests.{num_eq_cases}
@@ -24,15 +25,18 @@ module _ {X : Type 0} where
   only y z (inr i) = absurd i
 
   in_longer : (xs : List X) (y z : X) → Contains (xs ++ y ∷ []) z → Contains xs z ⊎ (y ≡ z)
-  in_longer xs y z c = elim (in_append xs (y ∷ []) z (in_from_contains (xs ++ y ∷ []) z c)) [ inl a ↦ inl (contains_from_in xs z a) | inr b ↦ inr (only y z b) ]
+  in_longer xs y z c = elim (in_append xs (y ∷ []) z (in_from_contains (xs ++ y ∷ []) z c))
+      [ inl a ↦ inl (contains_from_in xs z a) | inr b ↦ inr (only y z b) ]
 
 same_or_not : (a b : ℕ) → (b ≡ a) ⊎ (b ≢ a)
 same_or_not a b = grind (arith, num_eq_cases b a)
 
-pub noted_later : (clock more : ℕ) (kept : List (List Entry)) (ns : List Moment) → AreNoted clock kept ns → clock ≤ more → AreNoted more kept ns
+pub noted_later : (clock more : ℕ) (kept : List (List Entry)) (ns : List Moment) → AreNoted clock kept ns → clock ≤ more
+    → AreNoted more kept ns
 noted_later clock more kept ns is le = record { rising = rises-raised 0 clock more ns is.rising le; stored = is.stored; known = is.known }
 
-pub noted_local : (clock stamp actor : ℕ) (note : Note) (kept : List (List Entry)) (ns : List Moment) → AreNoted clock kept ns → clock < stamp
+pub noted_local : (clock stamp actor : ℕ) (note : Note) (kept : List (List Entry)) (ns : List Moment) → AreNoted clock kept ns
+    → clock < stamp
     → AreNoted stamp kept (ns ++ Local stamp actor note ∷ [])
 noted_local clock stamp actor note kept ns is lt = record {
   rising = rises-push 0 clock ns (Local stamp actor note) is.rising lt;
@@ -40,7 +44,8 @@ noted_local clock stamp actor note kept ns is lt = record {
   known = λ p e c. let k = is.known p e c in (k.0, in_front ns (Local stamp actor note ∷ []) (Act e) k.1);
 }
 
-module _ (clock : ℕ) (kept : List (List Entry)) (ns : List Moment) (e : Entry) (is : AreNoted clock kept ns) (here : e.place.0 < length kept) where
+module _ (clock : ℕ) (kept : List (List Entry)) (ns : List Moment) (e : Entry) (is : AreNoted clock kept ns)
+    (here : e.place.0 < length kept) where
   abbrev at : ℕ → List Entry
   at p = get_or kept p []
 
@@ -51,7 +56,8 @@ module _ (clock : ℕ) (kept : List (List Entry)) (ns : List Moment) (e : Entry)
   grown = ns ++ Act e ∷ []
 
   at_own : (p : ℕ) → p ≡ e.place.0 → get_or now p [] ≡ at p ++ e ∷ []
-  at_own p same = ap (λ (n : ℕ). get_or now n []) same ∙ get_or-set_same kept e.place.0 (at e.place.0 ++ e ∷ []) [] here ∙ ap (λ (n : ℕ). at n ++ e ∷ []) (sym same)
+  at_own p same = ap (λ (n : ℕ). get_or now n []) same ∙ get_or-set_same kept e.place.0 (at e.place.0 ++ e ∷ []) [] here ∙ ap
+      (λ (n : ℕ). at n ++ e ∷ []) (sym same)
 
   at_other : (p : ℕ) → p ≢ e.place.0 → get_or now p [] ≡ at p
   at_other p differs = get_or-set_other kept e.place.0 p (at e.place.0 ++ e ∷ []) [] differs

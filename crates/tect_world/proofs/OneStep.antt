@@ -1,5 +1,6 @@
 -- what a step of a client makes of it and of the shards
-use Rattle.std.proofs.Common.{zero, suc, get_or, set, ◌≡◌, ℕ, ◌+◌, ◌≤◌, ◌⊎◌, inl, inr, false, Option, Some, None, List, [], ◌∷◌, ◌++◌, length, refl, sym, ap, ◌∙◌, arith}
+use Rattle.std.proofs.Common.{zero, suc, get_or, set, ◌≡◌, ℕ, ◌+◌, ◌≤◌, ◌⊎◌, inl, inr, false, Option, Some, None, List, [], ◌∷◌, ◌++◌}
+use Rattle.std.proofs.Common.{length, refl, sym, ap, ◌∙◌, arith}
 use Rattle.tect_ids.specs.declared.ids.OpId.{OpId}
 use Rattle.store_rules.specs.Places.{request_place}
 use Rattle.entry_words.specs.declared.entry.Entry.{Entry}
@@ -15,14 +16,16 @@ use Rattle.program_rules.specs.Lacks.{IsLack}
 use Rattle.world_runs.specs.Events.{end_event}
 use Rattle.world_runs.specs.OwnRuns.{RepliesAre, stored_after}
 use Rattle.clients.specs.Lives.{ClientLife}
-use Rattle.clients.specs.Steps.{Tried, Unasked, Did, Denied, DidThere, entry_in, tried_life, ended_with, ended_life, tried_events, end_events}
+use Rattle.clients.specs.Steps.{Tried, Unasked, Did, Denied, DidThere, entry_in, tried_life, ended_with, ended_life, tried_events}
+use Rattle.clients.specs.Steps.{end_events}
 use Rattle.kept_shards.specs.KeptStore.{KeptStore, committed, entries_at, clock_after, clock_at}
 use Rattle.kept_shards.specs.KeptStore as kept
 use Rattle.tect_world.proofs.Marking.{has_act}
 
 -- ---- the client after the step
 
-pub same_actor : (l : ClientLife) (stamp : ℕ) (t : Tried) (op : OpId) (x : Option Answer) → (ended_life (tried_life l stamp t) op x).actor ≡ l.actor
+pub same_actor : (l : ClientLife) (stamp : ℕ) (t : Tried) (op : OpId) (x : Option Answer)
+    → (ended_life (tried_life l stamp t) op x).actor ≡ l.actor
 same_actor l stamp t op x = at_end (tried_life l stamp t) x ∙ tried t
   where
     tried : (t : Tried) → (tried_life l stamp t).actor ≡ l.actor
@@ -38,7 +41,8 @@ same_actor l stamp t op x = at_end (tried_life l stamp t) x ∙ tried t
     at_end l None = refl
     at_end l (Some a) = by_silent l l.silent a
 
-pub same_counts : (l : ClientLife) (stamp : ℕ) (t : Tried) (op : OpId) (x : Option Answer) → (ended_life (tried_life l stamp t) op x).counts ≡ l.counts
+pub same_counts : (l : ClientLife) (stamp : ℕ) (t : Tried) (op : OpId) (x : Option Answer)
+    → (ended_life (tried_life l stamp t) op x).counts ≡ l.counts
 same_counts l stamp t op x = at_end (tried_life l stamp t) x ∙ tried t
   where
     tried : (t : Tried) → (tried_life l stamp t).counts ≡ l.counts
@@ -95,7 +99,8 @@ end_cases op _ = inl refl
 one_end : (s : Store) (op : OpId) (a : Answer) → RepliesAre s (end_event op a ∷ []) × (stored_after s (end_event op a ∷ []) ≡ s)
 one_end s op a = elim (end_cases op a) [ inl e ↦ rw e (tt, refl) | inr e ↦ rw e.1 (tt, refl) ]
 
-pub end_replies : (s : Store) (silent : List Event) (op : OpId) (x : Option Answer) → RepliesAre s (end_events silent op x) × (stored_after s (end_events silent op x) ≡ s)
+pub end_replies : (s : Store) (silent : List Event) (op : OpId) (x : Option Answer) → RepliesAre s (end_events silent op x)
+    × (stored_after s (end_events silent op x) ≡ s)
 end_replies s silent op None = (tt, refl)
 end_replies s [] op (Some a) = one_end s op a
 end_replies s (e ∷ es) op (Some a) = (tt, refl)
@@ -105,7 +110,8 @@ end_replies s (e ∷ es) op (Some a) = (tt, refl)
 module _ (w v : KeptStore) (l : ClientLife) (stamp : ℕ) (op : OpId) (silent : List Event) (x : Option Answer) where
   -- nothing was done there, or one transaction
   pub there_is : (t : Tried) → DidThere kept.Did w v l.clock (entry_in l stamp) t
-      → ((has_act t ≡ false) × (v ≡ w)) ⊎ ((q : AnyReq) × (y : AnyReply) × (t ≡ Did q y) × kept.DidHere w v l.clock q (entry_in l stamp q y))
+      → ((has_act t ≡ false) × (v ≡ w))
+      ⊎ ((q : AnyReq) × (y : AnyReply) × (t ≡ Did q y) × kept.DidHere w v l.clock q (entry_in l stamp q y))
   there_is Unasked there = inl (refl, there)
   there_is (Did q y) there = inr (q, y, refl, there)
   there_is (Denied q refusals.NoMemory) there = inl (refl, there)
@@ -118,7 +124,8 @@ module _ (w v : KeptStore) (l : ClientLife) (stamp : ℕ) (op : OpId) (silent : 
   no_act (Denied q e) is = refl
 
   pub step_replies : (t : Tried) → DidThere kept.Did w v l.clock (entry_in l stamp) t
-      → RepliesAre w.store (tried_events op t ++ end_events silent op x) × (v.store ≡ stored_after w.store (tried_events op t ++ end_events silent op x))
+      → RepliesAre w.store (tried_events op t ++ end_events silent op x)
+      × (v.store ≡ stored_after w.store (tried_events op t ++ end_events silent op x))
   step_replies t there = elim (there_is t there) [
     | inl h ↦
         let ends = end_replies w.store silent op x in
@@ -160,7 +167,8 @@ module _ (w v : KeptStore) (l : ClientLife) (stamp : ℕ) (places : (p : ℕ) �
   places_then op x t there p =
       let rises = clock_rises l stamp op t x (next_is t there) in
       elim (there_is w v l stamp op l.silent x t there) [
-        | inl h ↦ let before = places p in let same : clock_at v p ≡ clock_at w p = ap (λ (k : KeptStore). clock_at k p) h.1 in omega (arith, before, same, rises)
+        | inl h ↦ let before = places p in let same : clock_at v p ≡ clock_at w p = ap (λ (k : KeptStore). clock_at k p) h.1
+            in omega (arith, before, same, rises)
         | inr h ↦
             let e : Entry = entry_in l stamp h.0 h.1 in
             let after : clock_at v p ≡ clock_at (committed w e) p = ap (λ (k : KeptStore). clock_at k p) h.3.state in

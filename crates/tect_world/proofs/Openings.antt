@@ -1,5 +1,6 @@
 -- the world before anything was done
-use Rattle.std.proofs.Common.{◌≡◌, ◌≢◌, ℕ, ◌+◌, ◌-◌, ◌<◌, ◌≤◌, true, false, eqb, if◌then◌else◌, List, [], length, get_or, replicate, refl, sym, ap, subst, ◌∙◌, inl, inr, ◌⊎◌, arith}
+use Rattle.std.proofs.Common.{◌≡◌, ◌≢◌, ℕ, ◌+◌, ◌-◌, ◌<◌, ◌≤◌, true, false, eqb, if◌then◌else◌, List, [], length, get_or, replicate, refl}
+use Rattle.std.proofs.Common.{sym, ap, subst, ◌∙◌, inl, inr, ◌⊎◌, arith}
 use Rattle.std.specs.List.{Contains}
 use Rattle.std.proofs.lemmas.List.{get_or-replicate, length-replicate, get_or_past}
 use Rattle.std.proofs.lemmas.Bool.{cases_lt}
@@ -23,7 +24,8 @@ use Rattle.tect_world.proofs.Lives.{up_to}
 abbrev opening_kept : Counts → KeptStore
 opening_kept c = record { counts = c; store = opening_store; entries = replicate (c.names + c.files) [] }
 
-module _ (new : Inside) (c : Counts) (shards : new.shards ≡ opening_kept c) (idle : AreIdle c new.clients.items 65) (clock : new.clock ≡ 0) (order : new.order.items ≡ []) where
+module _ (new : Inside) (c : Counts) (shards : new.shards ≡ opening_kept c) (idle : AreIdle c new.clients.items 65) (clock : new.clock ≡ 0)
+    (order : new.order.items ≡ []) where
   first_at : (a : ℕ) → 1 ≤ a → a ≤ 65 → client_at c new.clients.items a ≡ idle_life a c
   first_at a low high =
       let number : a - 1 + 1 ≡ a = omega (arith, low) in
@@ -40,7 +42,9 @@ module _ (new : Inside) (c : Counts) (shards : new.shards ≡ opening_kept c) (i
     where
       none_in : (a : ℕ) → (a ≤ 65) ⊎ (65 < a) → 1 ≤ a → events_in (client_at c new.clients.items a) ≡ []
       none_in a (inl high) low = ap events_in (first_at a low high)
-      none_in a (inr far) low = ap events_in (let past : client_at c new.clients.items a ≡ idle_life 0 c = get_or_past new.clients.items (a - 1) (idle_life 0 c) (omega (arith, far, idle.number)) in past)
+      none_in a (inr far) low = ap events_in
+          (let past : client_at c new.clients.items a ≡ idle_life 0 c = get_or_past new.clients.items (a - 1) (idle_life 0 c)
+          (omega (arith, far, idle.number)) in past)
 
   no_history : (life_of new).history ≡ []
   no_history = ap (λ (o : List Mark). in_order o (events_by new.shards.counts new.clients.items)) order
@@ -91,17 +95,22 @@ module _ (new : Inside) (c : Counts) (shards : new.shards ≡ opening_kept c) (i
   pub start_world : IsWorld new
   start_world = record {
     number = idle.number;
-    each = subst (λ (k : Counts). (a : ℕ) → 1 ≤ a → a ≤ 65 → IsClientOf k new.clock a (client_at k new.clients.items a)) (sym counts_are) first_each;
-    places = λ p. rw (shards, clock) (let zero : clock_after 0 (get_or (replicate (c.names + c.files) []) p []) ≡ 0 = no_clock (c.names + c.files) p in omega (arith, zero));
+    each = subst (λ (k : Counts). (a : ℕ) → 1 ≤ a → a ≤ 65 → IsClientOf k new.clock a (client_at k new.clients.items a)) (sym counts_are)
+        first_each;
+    places = λ p. rw (shards, clock)
+        (let zero : clock_after 0 (get_or (replicate (c.names + c.files) []) p []) ≡ 0 = no_clock (c.names + c.files) p
+        in omega (arith, zero));
     early = omega (arith, clock);
     few = rw order (omega arith);
     marked = subst (λ (k : Counts). (b : ℕ) → marks_of b new.order.items ≡ length (events_by k new.clients.items b)) (sym counts_are)
         (λ b. ap (marks_of b) order ∙ ap length (sym (none_by b)));
-    owns = subst (λ (k : Counts). (b : ℕ) → own b (life_of new).history ≡ events_by k new.clients.items b) (sym counts_are) (λ b. ap (own b) no_history ∙ sym (none_by b));
+    owns = subst (λ (k : Counts). (b : ℕ) → own b (life_of new).history ≡ events_by k new.clients.items b) (sym counts_are)
+        (λ b. ap (own b) no_history ∙ sym (none_by b));
     replies = subst (RepliesAre opening_store) (sym no_history) tt;
     store = ap (λ (w : KeptStore). w.store) shards ∙ ap (stored_after opening_store) (sym no_history);
     held = subst (λ (k : Counts). length new.shards.entries ≡ k.names + k.files) (sym counts_are)
         (ap (λ (w : KeptStore). length w.entries) shards ∙ length-replicate (c.names + c.files) []);
     noted = subst (λ (ns : List Noted). AreNoted new.clock new.shards.entries ns) (sym no_notes)
-        (subst (λ (k : ℕ). AreNoted k new.shards.entries []) (sym clock) (subst (λ (w : KeptStore). AreNoted 0 w.entries []) (sym shards) (none_noted (c.names + c.files))));
+        (subst (λ (k : ℕ). AreNoted k new.shards.entries []) (sym clock)
+        (subst (λ (w : KeptStore). AreNoted 0 w.entries []) (sym shards) (none_noted (c.names + c.files))));
   }

@@ -1,5 +1,6 @@
 -- the moments in the order of the marks are those of all actors
-use Rattle.std.proofs.Common.{◌≡◌, ℕ, ◌≤◌, Bool, true, false, eqb, if◌then◌else◌, ◌⊎◌, inl, inr, List, [], ◌∷◌, ◌++◌, length, refl, sym, subst, arith}
+use Rattle.std.proofs.Common.{◌≡◌, ℕ, ◌≤◌, Bool, true, false, eqb, if◌then◌else◌, ◌⊎◌, inl, inr, List, [], ◌∷◌, ◌++◌, length, refl, sym}
+use Rattle.std.proofs.Common.{subst, arith}
 use Rattle.tect_ids.proofs.KeyTests.{num_eq_cases}
 use Rattle.entry_words.specs.declared.entry.Moment.{Moment}
 use Rattle.tect_world.specs.declared.marks.Mark.{Mark}
@@ -39,7 +40,8 @@ not_first true a b is = inr (grind (arith, num_eq_cases b a, is))
 not_first false a b is = inl refl
 
 -- and each actor's is there
-pub into_order : (ms : List Mark) (own : ℕ → List Moment) (b : ℕ) (z : Moment) → HaveMarks ms own → In z (own b) → In z (moments_in_order ms own)
+pub into_order : (ms : List Mark) (own : ℕ → List Moment) (b : ℕ) (z : Moment) → HaveMarks ms own → In z (own b)
+    → In z (moments_in_order ms own)
 into_order [] own b z few i = absurd (none (own b) (few b) i)
   where
     none : (xs : List Moment) → length xs ≤ 0 → In z xs → ⊥
@@ -48,12 +50,14 @@ into_order [] own b z few i = absurd (none (own b) (few b) i)
 into_order (Dump ∷ ms) own b z few i = into_order ms own b z few i
 into_order (Actor a ∷ ms) own b z few i =
     let rest : In z (without a own b) → In z (first_moment (own a) ++ moments_in_order ms (without a own)) = λ j.
-    in_append_right (first_moment (own a)) (moments_in_order ms (without a own)) z (into_order ms (without a own) b z (λ k. marks_by (eqb k a) (marks_of k ms) (own k) (few k)) j) in
+    in_append_right (first_moment (own a)) (moments_in_order ms (without a own)) z
+    (into_order ms (without a own) b z (λ k. marks_by (eqb k a) (marks_of k ms) (own k) (few k)) j) in
     elim (first_or_later (eqb b a) (own b) z i) [
       | inl f ↦
           elim (not_first (eqb b a) a b refl) [
             | inl other ↦ rest (subst (λ (t : Bool). In z (if t then later_moments (own b) else own b)) (sym other) i)
-            | inr is ↦ in_append_left (first_moment (own a)) (moments_in_order ms (without a own)) z (subst (λ (c : ℕ). In z (first_moment (own c))) is f)
+            | inr is ↦ in_append_left (first_moment (own a)) (moments_in_order ms (without a own)) z
+                (subst (λ (c : ℕ). In z (first_moment (own c))) is f)
           ]
       | inr l ↦ rest l
     ]

@@ -1,5 +1,6 @@
 -- what the order of all events becomes with more of them
-use Rattle.std.proofs.Common.{◌≡◌, ℕ, ◌+◌, ◌<◌, Bool, true, false, eqb, if◌then◌else◌, List, [], ◌∷◌, ◌++◌, length, refl, sym, ap, ◌∙◌, append_assoc, arith}
+use Rattle.std.proofs.Common.{◌≡◌, ℕ, ◌+◌, ◌<◌, Bool, true, false, eqb, if◌then◌else◌, List, [], ◌∷◌, ◌++◌, length, refl, sym, ap, ◌∙◌}
+use Rattle.std.proofs.Common.{append_assoc, arith}
 use Rattle.tect_ids.proofs.KeyTests.{num_eq_cases}
 use Rattle.world_runs.specs.declared.event.Event.{Event}
 use Rattle.world_runs.specs.declared.event.Event.TheVariants.{Dumped}
@@ -40,7 +41,8 @@ marked_by : (t : Bool) (n : ℕ) (xs : List Event) → (if t then 1 else 0) + n 
 marked_by true n xs e = later_length xs n e
 marked_by false n xs e = omega (arith, e)
 
-later_by : (t : Bool) (n : ℕ) (xs ys : List Event) → (if t then 1 else 0) + n ≡ length xs → (if t then later_events (xs ++ ys) else xs ++ ys) ≡ (if t then later_events xs else xs) ++ ys
+later_by : (t : Bool) (n : ℕ) (xs ys : List Event) → (if t then 1 else 0) + n ≡ length xs
+    → (if t then later_events (xs ++ ys) else xs ++ ys) ≡ (if t then later_events xs else xs) ++ ys
 later_by true n xs ys e = later_front xs ys (omega (arith, e))
 later_by false n xs ys e = refl
 
@@ -52,13 +54,17 @@ some_by true n m is e = omega (arith, e)
 some_by false n m is e = absurd cc
 
 -- more events come behind those before
-pub in_order-grow : (ms ns : List Mark) (own more : ℕ → List Event) → AreMarked ms own → in_order (ms ++ ns) (λ b. own b ++ more b) ≡ in_order ms own ++ in_order ns more
+pub in_order-grow : (ms ns : List Mark) (own more : ℕ → List Event) → AreMarked ms own
+    → in_order (ms ++ ns) (λ b. own b ++ more b) ≡ in_order ms own ++ in_order ns more
 in_order-grow [] ns own more marked = ap (in_order ns) (λ i b. empty_front (own b) (more b) (marked b) i)
 in_order-grow (Dump ∷ ms) ns own more marked = ap (λ (es : List Event). Dumped ∷ es) (in_order-grow ms ns own more marked)
 in_order-grow (Actor a ∷ ms) ns own more marked =
-    let first : first_event (own a ++ more a) ≡ first_event (own a) = first_front (own a) (more a) (some_by (eqb a a) (marks_of a ms) (length (own a)) (same a) (marked a)) in
+    let first : first_event (own a ++ more a) ≡ first_event (own a) = first_front (own a) (more a)
+    (some_by (eqb a a) (marks_of a ms) (length (own a)) (same a) (marked a)) in
     let rest : in_order (ms ++ ns) (λ b. without a own b ++ more b) ≡ in_order ms (without a own) ++ in_order ns more =
     in_order-grow ms ns (without a own) more (λ b. marked_by (eqb b a) (marks_of b ms) (own b) (marked b)) in
     ap (λ (es : List Event). es ++ in_order (ms ++ ns) (without a (λ b. own b ++ more b))) first
-    ∙ ap (λ (f : ℕ → List Event). first_event (own a) ++ in_order (ms ++ ns) f) (λ i b. later_by (eqb b a) (marks_of b ms) (own b) (more b) (marked b) i)
-    ∙ ap (λ (es : List Event). first_event (own a) ++ es) rest ∙ sym (append_assoc (first_event (own a)) (in_order ms (without a own)) (in_order ns more))
+    ∙ ap (λ (f : ℕ → List Event). first_event (own a) ++ in_order (ms ++ ns) f)
+    (λ i b. later_by (eqb b a) (marks_of b ms) (own b) (more b) (marked b) i)
+    ∙ ap (λ (es : List Event). first_event (own a) ++ es) rest ∙ sym
+    (append_assoc (first_event (own a)) (in_order ms (without a own)) (in_order ns more))

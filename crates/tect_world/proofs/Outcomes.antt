@@ -1,5 +1,6 @@
 -- what a step comes to
-use Rattle.std.proofs.Common.{◌≡◌, ◌≢◌, ℕ, ◌+◌, ◌⊎◌, inl, inr, Bool, true, false, if◌then◌else◌, Option, Some, None, List, [], ◌∷◌, ◌++◌, refl, sym, ap, ◌∙◌, subst, arith}
+use Rattle.std.proofs.Common.{◌≡◌, ◌≢◌, ℕ, ◌+◌, ◌⊎◌, inl, inr, Bool, true, false, if◌then◌else◌, Option, Some, None, List, [], ◌∷◌, ◌++◌}
+use Rattle.std.proofs.Common.{refl, sym, ap, ◌∙◌, subst, arith}
 use Rattle.tect_ids.specs.declared.ids.Counts.{Counts}
 use Rattle.tect_ids.specs.declared.ids.OpId.{OpId}
 use Rattle.tect_ids.specs.declared.ids.Place.{Place}
@@ -53,14 +54,17 @@ pub refused_asks : (serial : ℕ) (o : Option Program) → WasRefused o → prog
 refused_asks serial None is = refl
 refused_asks serial (Some p) is = ap (phase_ask p.op (object_number p.op.actor serial) p.command) is
 
-kept_by_test : (b : Bool) (p q : Program) → (let o : Option Program = if b then Some p else None in o ≡ Some p) → (let o : Option Program = if b then Some q else None in o ≡ Some q)
+kept_by_test : (b : Bool) (p q : Program) → (let o : Option Program = if b then Some p else None in o ≡ Some p)
+    → (let o : Option Program = if b then Some q else None in o ≡ Some q)
 kept_by_test true p q is = refl
 kept_by_test false p q is = absurd cc
 
-pub heard_program : (counts : Counts) (serial : ℕ) (q : AnyReq) (y : AnyReply) (o : Option Program) (op : OpId) → program_of o op ≡ o → program_of (heard counts serial q y o) op ≡ heard counts serial q y o
+pub heard_program : (counts : Counts) (serial : ℕ) (q : AnyReq) (y : AnyReply) (o : Option Program) (op : OpId) → program_of o op ≡ o
+    → program_of (heard counts serial q y o) op ≡ heard counts serial q y o
 heard_program counts serial q y None op is = refl
 heard_program counts serial q y (Some p) op is =
-    kept_by_test (op_eq p.op op) p (record p { phase = phase_hear (request_place counts q) p.op (object_number p.op.actor serial) p.command p.phase y }) is
+    kept_by_test (op_eq p.op op) p
+    (record p { phase = phase_hear (request_place counts q) p.op (object_number p.op.actor serial) p.command p.phase y }) is
 
 lack_failed : (op : OpId) (a : Answer) → IsLack a → end_event op a ≡ Failed op a
 lack_failed op answers.NoMemory lack = refl
@@ -71,19 +75,27 @@ module _ (c : Counts) (s : Store) (st : Actor) (op : OpId) (prog : program_of st
   abbrev pub Outcome : List Event → Option Answer → Type 0
   Outcome es x =
       ((es ≡ actor_events c s st op) × (x ≡ actor_answer c s st op))
-      ⊎ ((a : Answer) × IsLack a × ((es ≡ Failed op a ∷ []) ⊎ (es ≡ transaction s op (actor_asks st op) ++ Failed op a ∷ [])) × (x ≡ Some a))
+      ⊎ ((a : Answer) × IsLack a × ((es ≡ Failed op a ∷ []) ⊎ (es ≡ transaction s op (actor_asks st op) ++ Failed op a ∷ []))
+      × (x ≡ Some a))
 
   asks_is : (o : Option AnyReq) → program_ask st.serial st.running ≡ o → actor_asks st op ≡ o
   asks_is o is = ap (program_ask st.serial) prog ∙ is
 
-  first_form : (o : Option AnyReq) (x : Option Answer) (es : List Event) → actor_asks st op ≡ o → program_answer (program_of (acted_actor c s st o).running op) ≡ x
+  first_form : (o : Option AnyReq) (x : Option Answer) (es : List Event) → actor_asks st op ≡ o
+      → program_answer (program_of (acted_actor c s st o).running op) ≡ x
       → es ≡ transaction s op o ++ ending op x → Outcome es x
   first_form o x es asks is told =
-      let answers : actor_answer c s st op ≡ x = ap (λ (q : Option AnyReq). program_answer (program_of (acted_actor c s st q).running op)) asks ∙ is in
-      inl (told ∙ ap (λ (q : Option AnyReq). transaction s op q ++ ending op x) (sym asks) ∙ ap (λ (y : Option Answer). transaction s op (actor_asks st op) ++ ending op y) (sym answers), sym answers)
+      let answers : actor_answer c s st op ≡ x = ap (λ (q : Option AnyReq). program_answer (program_of (acted_actor c s st q).running op))
+      asks ∙ is in
+      inl (
+        told ∙ ap (λ (q : Option AnyReq). transaction s op q ++ ending op x) (sym asks) ∙ ap
+            (λ (y : Option Answer). transaction s op (actor_asks st op) ++ ending op y) (sym answers),
+        sym answers,
+      )
 
   ended_now : (a : Answer) → program_answer st.running ≡ Some a → Outcome (Ended op a ∷ []) (Some a)
-  ended_now a is = first_form None (Some a) (Ended op a ∷ []) (asks_is None (no_ask st.serial st.running a is)) (ap program_answer prog ∙ is) refl
+  ended_now a is = first_form None (Some a) (Ended op a ∷ []) (asks_is None (no_ask st.serial st.running a is))
+      (ap program_answer prog ∙ is) refl
 
   failed_now : (a : Answer) → IsLack a → Outcome (end_event op a ∷ []) (Some a)
   failed_now a lack = inr (a, lack, inl (ap (λ (e : Event). e ∷ []) (lack_failed op a lack)), refl)
@@ -95,20 +107,23 @@ module _ (c : Counts) (s : Store) (st : Actor) (op : OpId) (prog : program_of st
   full a p is = subst IsLack (sym is) tt
 
   module _ (q : AnyReq) (y : AnyReply) (asks : program_ask st.serial st.running ≡ Some q) (replied : y ≡ store_reply s q) where
-    acted_answer : (x : Option Answer) → program_answer (went_on c st q y).running ≡ x → program_answer (program_of (acted_actor c s st (Some q)).running op) ≡ x
+    acted_answer : (x : Option Answer) → program_answer (went_on c st q y).running ≡ x
+        → program_answer (program_of (acted_actor c s st (Some q)).running op) ≡ x
     acted_answer x is =
         ap program_answer (heard_program c st.serial q (store_reply s q) st.running op prog)
         ∙ ap (λ (z : AnyReply). program_answer (went_on c st q z).running) (sym replied) ∙ is
 
     acted_only : program_answer (went_on c st q y).running ≡ None → Outcome (Acted op q y ∷ []) None
-    acted_only is = first_form (Some q) None (Acted op q y ∷ []) (asks_is (Some q) asks) (acted_answer None is) (ap (λ (z : AnyReply). Acted op q z ∷ []) replied)
+    acted_only is = first_form (Some q) None (Acted op q y ∷ []) (asks_is (Some q) asks) (acted_answer None is)
+        (ap (λ (z : AnyReply). Acted op q z ∷ []) replied)
 
     acted_failed : (a : Answer) → IsLack a → Outcome (Acted op q y ∷ end_event op a ∷ []) (Some a)
     acted_failed a lack =
         inr (
           a,
           lack,
-          inr (ap (λ (z : AnyReply). Acted op q z ∷ end_event op a ∷ []) replied ∙ ap (λ (e : Event). Acted op q (store_reply s q) ∷ e ∷ []) (lack_failed op a lack)
+          inr (ap (λ (z : AnyReply). Acted op q z ∷ end_event op a ∷ []) replied ∙ ap (λ (e : Event). Acted op q (store_reply s q) ∷ e ∷ [])
+              (lack_failed op a lack)
               ∙ ap (λ (o : Option AnyReq). transaction s op o ++ Failed op a ∷ []) (sym (asks_is (Some q) asks))),
           refl,
         )
@@ -132,7 +147,8 @@ module _ (c : Counts) (s : Store) (st : Actor) (op : OpId) (prog : program_of st
   never q refused asks = let none = refused_asks st.serial st.running refused in cc
 
   pub outcome : (silent : List Event) → (silent ≢ [] → WasRefused st.running) → (t : Tried) (x : Option Answer) → Asks st t
-      → ((q : AnyReq) (y : AnyReply) → t ≡ Did q y → y ≡ store_reply s q) → EndsSo (state_after c st t) t x → OwnRun c st (tried_events op t ++ end_events silent op x)
+      → ((q : AnyReq) (y : AnyReply) → t ≡ Did q y → y ≡ store_reply s q) → EndsSo (state_after c st t) t x
+      → OwnRun c st (tried_events op t ++ end_events silent op x)
       → Outcome (tried_events op t ++ end_events silent op x) x
   outcome silent refused Unasked None asks replied ends run = absurd ends
   outcome [] refused Unasked (Some a) asks replied (inl is) run = ended_or_failed a is
@@ -154,7 +170,8 @@ module _ (c : Counts) (s : Store) (st : Actor) (op : OpId) (prog : program_of st
 same_op : (op : OpId) → op_eq op op ≡ true
 same_op op = grind (arith, op_eq_cases op op)
 
-end_number : (counts : Counts) (st : Actor) (silent : List Event) (op : OpId) (x : Option Answer) → (own_state counts st (end_events silent op x)).number ≡ st.number
+end_number : (counts : Counts) (st : Actor) (silent : List Event) (op : OpId) (x : Option Answer)
+    → (own_state counts st (end_events silent op x)).number ≡ st.number
 end_number counts st silent op None = refl
 end_number counts st [] op (Some a) = elim (end_cases op a) [ inl e ↦ rw e refl | inr e ↦ rw e.1 refl ]
 end_number counts st (e ∷ es) op (Some a) = refl
@@ -175,7 +192,8 @@ act_count Unasked = 0
 act_count (Did q y) = 1
 act_count (Denied q e) = 0
 
-step_count : (silent : List Event) (op : OpId) (t : Tried) (x : Option Answer) → transactions (tried_events op t ++ end_events silent op x) op ≡ act_count t
+step_count : (silent : List Event) (op : OpId) (t : Tried) (x : Option Answer)
+    → transactions (tried_events op t ++ end_events silent op x) op ≡ act_count t
 step_count silent op Unasked x = end_count silent op op x
 step_count silent op (Did q y) x = let none = end_count silent op op x in grind (arith, same_op op, none)
 step_count silent op (Denied q e) x = end_count silent op op x
@@ -191,10 +209,14 @@ pub acted_is : (l m : ClientLife) (t : Tried) (x : Option Answer) (n k : ℕ) �
 acted_is l m t x n k actor counts events before after =
     let es : List Event = tried_events (op_in l) t ++ end_events l.silent (op_in l) x in
     let state : (state_in m).number ≡ (state_in l).number =
-    ap (λ (c : Counts). (own_state c idle_actor (events_in m)).number) counts ∙ ap (λ (fs : List Event). (own_state l.counts idle_actor fs).number) events
-    ∙ ap (λ (s : Actor). s.number) (own_state-append l.counts idle_actor (events_in l) es) ∙ step_number l.counts (state_in l) l.silent (op_in l) t x in
+    ap (λ (c : Counts). (own_state c idle_actor (events_in m)).number) counts ∙ ap
+    (λ (fs : List Event). (own_state l.counts idle_actor fs).number) events
+    ∙ ap (λ (s : Actor). s.number) (own_state-append l.counts idle_actor (events_in l) es) ∙ step_number l.counts (state_in l) l.silent
+    (op_in l) t x in
     let op : op_in m ≡ op_in l = λ i. record { actor = actor i; number = state i } in
-    let both : transactions (events_in l ++ es) (op_in l) ≡ transactions (events_in l) (op_in l) + transactions es (op_in l) = transactions-append (events_in l) es (op_in l) in
+    let both : transactions (events_in l ++ es) (op_in l) ≡ transactions (events_in l) (op_in l) + transactions es (op_in l) =
+    transactions-append (events_in l) es (op_in l) in
     let own : transactions es (op_in l) ≡ act_count t = step_count l.silent (op_in l) t x in
-    let last : k ≡ transactions (events_in l ++ es) (op_in l) = after ∙ ap (transactions (events_in m)) op ∙ ap (λ (fs : List Event). transactions fs (op_in l)) events in
+    let last : k ≡ transactions (events_in l ++ es) (op_in l) = after ∙ ap (transactions (events_in m)) op ∙ ap
+    (λ (fs : List Event). transactions fs (op_in l)) events in
     more_by t n k (omega (arith, last, both, own, before))

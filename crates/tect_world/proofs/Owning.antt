@@ -20,7 +20,8 @@ behind (x ∷ xs) ys zs e = behind xs ys zs (ap later_events e)
 
 -- what comes behind an actor's own events is its own, where all is
 pub own_behind : (a : ℕ) (es fs : List Event) → own a es ≡ es → own a (es ++ fs) ≡ es ++ fs → own a fs ≡ fs
-own_behind a es fs front all = behind es (own a fs) fs (ap (λ (xs : List Event). xs ++ own a fs) (sym front) ∙ sym (own-append a es fs) ∙ all)
+own_behind a es fs front all = behind es (own a fs) fs
+    (ap (λ (xs : List Event). xs ++ own a fs) (sym front) ∙ sym (own-append a es fs) ∙ all)
 
 -- an event of one actor is no other's
 other_by : (a b : ℕ) (e : Event) (t : Bool) → a ≢ b → is_own a e ≡ true → is_own b e ≡ t → t ≡ false

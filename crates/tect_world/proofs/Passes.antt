@@ -1,5 +1,6 @@
 -- the passes of the world's clients
-use Rattle.std.proofs.Common.{◌≡◌, ◌≢◌, ℕ, zero, suc, ◌+◌, ◌-◌, ◌<◌, ◌≤◌, inl, inr, Bool, true, false, eqb, if◌then◌else◌, Some, List, [], ◌∷◌, ◌++◌, length, get_or, refl, sym, ap, ◌∙◌, subst, arith}
+use Rattle.std.proofs.Common.{◌≡◌, ◌≢◌, ℕ, zero, suc, ◌+◌, ◌-◌, ◌<◌, ◌≤◌, inl, inr, Bool, true, false, eqb, if◌then◌else◌, Some, List, []}
+use Rattle.std.proofs.Common.{◌∷◌, ◌++◌, length, get_or, refl, sym, ap, ◌∙◌, subst, arith}
 use Rattle.std.specs.List.{All, AllZip, Contains, slice_get}
 use Rattle.std.proofs.lemmas.Bool.{cases_lt}
 use Rattle.std.proofs.lemmas.List.{get_or_past}
@@ -21,19 +22,22 @@ use Rattle.tect_world.specs.Noted.{moments_by}
 use Rattle.tect_world.specs.Told.{IsPassOf}
 
 -- one client more, with its pass
-pub one_more : (ls : List ClientLife) (ps : List Pass) (l : ClientLife) (p : Pass) → AllZip IsPassOf ls ps → IsPassOf l p → AllZip IsPassOf (ls ++ l ∷ []) (ps ++ p ∷ [])
+pub one_more : (ls : List ClientLife) (ps : List Pass) (l : ClientLife) (p : Pass) → AllZip IsPassOf ls ps → IsPassOf l p
+    → AllZip IsPassOf (ls ++ l ∷ []) (ps ++ p ∷ [])
 one_more [] [] l p z h = (h, tt)
 one_more [] (q ∷ ps) l p z h = absurd z
 one_more (k ∷ ls) [] l p z h = absurd z
 one_more (k ∷ ls) (q ∷ ps) l p z h = (z.0, one_more ls ps l p z.1 h)
 
-pass_of : (ls : List ClientLife) (ps : List Pass) → AllZip IsPassOf ls ps → (i : ℕ) (l : ClientLife) → slice_get ls i ≡ Some l → (p : Pass) × In p ps × IsPassOf l p
+pass_of : (ls : List ClientLife) (ps : List Pass) → AllZip IsPassOf ls ps → (i : ℕ) (l : ClientLife) → slice_get ls i ≡ Some l → (p : Pass)
+    × In p ps × IsPassOf l p
 pass_of [] ps z i l e = absurd cc
 pass_of (k ∷ ls) [] z i l e = absurd z
 pass_of (k ∷ ls) (q ∷ ps) z zero l e = let same : k ≡ l = cc in (q, inl refl, subst (λ (x : ClientLife). IsPassOf x q) same z.0)
 pass_of (k ∷ ls) (q ∷ ps) z (suc i) l e = let r = pass_of ls ps z.1 i l e in (r.0, inr r.1, r.2)
 
-client_of : (ls : List ClientLife) (ps : List Pass) → AllZip IsPassOf ls ps → (p : Pass) → In p ps → (i : ℕ) × (l : ClientLife) × (slice_get ls i ≡ Some l) × IsPassOf l p
+client_of : (ls : List ClientLife) (ps : List Pass) → AllZip IsPassOf ls ps → (p : Pass) → In p ps → (i : ℕ) × (l : ClientLife)
+    × (slice_get ls i ≡ Some l) × IsPassOf l p
 client_of ls [] z p i = absurd i
 client_of [] (q ∷ ps) z p i = absurd z
 client_of (k ∷ ls) (q ∷ ps) z p (inl e) = (0, k, refl, subst (λ (x : Pass). IsPassOf k x) e z.0)
@@ -53,7 +57,8 @@ has_client (k ∷ ls) (suc i) lt = has_client ls i (omega (arith, lt))
 abbrev NumberedFrom : ℕ → List ClientLife → Type 0
 NumberedFrom low ls = (i : ℕ) (l : ClientLife) → slice_get ls i ≡ Some l → l.actor ≡ low + i + 1
 
-different_from : (low : ℕ) (ls : List ClientLife) (ps : List Pass) → NumberedFrom low ls → AllZip IsPassOf ls ps → HaveDifferentActors ps × All (λ p. low < p.actor) ps
+different_from : (low : ℕ) (ls : List ClientLife) (ps : List Pass) → NumberedFrom low ls → AllZip IsPassOf ls ps → HaveDifferentActors ps
+    × All (λ p. low < p.actor) ps
 different_from low [] [] own z = (different_none, λ k d lt. absurd (omega (arith, lt)))
 different_from low [] (p ∷ ps) own z = absurd z
 different_from low (l ∷ ls) [] own z = absurd z
@@ -73,7 +78,8 @@ module _ (w : Inside) (is : IsWorld w) (ps : List Pass) (taken : AllZip IsPassOf
   ls = w.clients.items
 
   at_number : (i : ℕ) (l : ClientLife) → slice_get ls i ≡ Some l → client_at c ls (i + 1) ≡ l
-  at_number i l e = let before : i + 1 - 1 ≡ i = omega arith in ap (λ (n : ℕ). get_or ls n (idle_life 0 c)) before ∙ got ls i l (idle_life 0 c) e
+  at_number i l e = let before : i + 1 - 1 ≡ i = omega arith
+      in ap (λ (n : ℕ). get_or ls n (idle_life 0 c)) before ∙ got ls i l (idle_life 0 c) e
 
   numbered : NumberedFrom 0 ls
   numbered i l e =
@@ -101,7 +107,8 @@ module _ (w : Inside) (is : IsWorld w) (ps : List Pass) (taken : AllZip IsPassOf
             ∙ ap (λ (t : Bool). if t then [] else (client_at c ls (own.0 + 1)).moments) (sym some),
       )
 
-  of_client : (b : ℕ) (z : Moment) → b ≢ 0 → In z (client_at c ls b).moments → (p : Pass) × In p ps × (moments_of p ≡ (client_at c ls b).moments)
+  of_client : (b : ℕ) (z : Moment) → b ≢ 0 → In z (client_at c ls b).moments → (p : Pass) × In p ps
+      × (moments_of p ≡ (client_at c ls b).moments)
   of_client b z some i = elim (cases_lt (b - 1) (length ls)) [
     | inl lt ↦
         let l = has_client ls (b - 1) lt in
@@ -115,6 +122,7 @@ module _ (w : Inside) (is : IsWorld w) (ps : List Pass) (taken : AllZip IsPassOf
   pub of_actor : (b : ℕ) (z : Moment) → In z (moments_by c ls b) → (p : Pass) × In p ps × (moments_of p ≡ moments_by c ls b)
   of_actor b z i = by_zero (eqb b 0) refl i
     where
-      by_zero : (t : Bool) → eqb b 0 ≡ t → In z (if t then [] else (client_at c ls b).moments) → (p : Pass) × In p ps × (moments_of p ≡ (if t then [] else (client_at c ls b).moments))
+      by_zero : (t : Bool) → eqb b 0 ≡ t → In z (if t then [] else (client_at c ls b).moments) → (p : Pass) × In p ps
+          × (moments_of p ≡ (if t then [] else (client_at c ls b).moments))
       by_zero true e j = absurd j
       by_zero false e j = of_client b z (λ zero. grind (arith, num_eq_cases b 0, zero, e)) j

@@ -1,5 +1,6 @@
 -- a command that runs goes on by transactions to its end
-use Rattle.std.proofs.Common.{◌≡◌, ℕ, ◌+◌, ◌-◌, ◌<◌, Bool, true, ◌||◌, eqb, if◌then◌else◌, Option, Some, None, is_some, List, [], ◌∷◌, ◌++◌, refl, sym, ap, ◌∙◌, subst, append_assoc, inl, inr, arith}
+use Rattle.std.proofs.Common.{◌≡◌, ℕ, ◌+◌, ◌-◌, ◌<◌, Bool, true, ◌||◌, eqb, if◌then◌else◌, Option, Some, None, is_some, List, [], ◌∷◌, ◌++◌}
+use Rattle.std.proofs.Common.{refl, sym, ap, ◌∙◌, subst, append_assoc, inl, inr, arith}
 use Rattle.std.specs.Prelude.{IsSome, OnErr, Result, Ok, Err}
 use Rattle.std.proofs.lemmas.List.{append-nil}
 use Rattle.tect_ids.specs.declared.ids.Counts.{Counts}
@@ -11,11 +12,12 @@ use Rattle.store_rules.specs.declared.any.AnyReply.{AnyReply}
 use Rattle.store_rules.specs.Store.{Store, store_reply}
 use Rattle.program_rules.specs.declared.program.Program.{Program}
 use Rattle.world_runs.specs.declared.event.Event.{Event}
-use Rattle.world_runs.specs.declared.event.Event.TheVariants.{Began, Refused, Acted, Ended, Stopped, Failed, Dumped}
+use Rattle.world_runs.specs.declared.event.Event.TheVariants.{Began, NotBegun, Acted, Ended, Stopped, Failed, Dumped}
 use Rattle.world_runs.specs.Follows.{Acts}
 use Rattle.world_runs.specs.Moments.{Actor, WorldState, IsWorldRun, after_all, moment, running, asked, answered, program_of, program_answer}
 use Rattle.script_runs.proofs.Running.{running_goes_on, running_is_last_begun}
-use Rattle.tect_world.specs.Life.{Life, present, grown, last_op, actor_asks, acted_actor, ended_actor, stepped_actor, transaction, ending, step_answer, step_events}
+use Rattle.tect_world.specs.Life.{Life, present, grown, last_op, actor_asks, acted_actor, ended_actor, stepped_actor, transaction, ending}
+use Rattle.tect_world.specs.Life.{step_answer, step_events}
 use Rattle.clients.specs.declared.turned.Turned.TheVariants.{Going, Done}
 use Rattle.clients.specs.Turns.{turned_by}
 use Rattle.tect_world.specs.Steps.{FailsWith, Stepped, RanToEnd, GoesOn}
@@ -31,7 +33,7 @@ pub acts_push : (op : OpId) (q : AnyReq) (x : AnyReply) (n : ℕ) (es : List Eve
 acts_push op q x n [] acts = (refl, (n, refl, acts))
 acts_push op q x n (Acted other r y ∷ es) (own, (rest, is, acts)) = (own, (rest + 1, ap (λ k. k + 1) is, acts_push op q x rest es acts))
 acts_push op q x n (Began other c ∷ es) acts = absurd acts
-acts_push op q x n (Refused other c ∷ es) acts = absurd acts
+acts_push op q x n (NotBegun other c ∷ es) acts = absurd acts
 acts_push op q x n (Ended other a ∷ es) acts = absurd acts
 acts_push op q x n (Stopped other ∷ es) acts = absurd acts
 acts_push op q x n (Failed other a ∷ es) acts = absurd acts
@@ -41,14 +43,16 @@ pub grown-grown : (w : Life) (es fs : List Event) → grown (grown w es) fs ≡ 
 grown-grown w es fs i = record { counts = w.counts; history = append_assoc w.history es fs i }
 
 pub goes_none : (w : Life) (op : OpId) → GoesOn w w op
-goes_none w op = record { acts = []; count = 0; are_acts = refl; history = λ i. record { counts = w.counts; history = sym (append-nil w.history) i } }
+goes_none w op = record
+    { acts = []; count = 0; are_acts = refl; history = λ i. record { counts = w.counts; history = sym (append-nil w.history) i } }
 
 -- ---- a command that runs asks something, or has its answer
 
 abbrev pub run_is : Life → Type 0
 run_is w = IsWorldRun w.counts w.history
 
-pub own_program : (w : Life) (a : ℕ) (p : Program) → run_is w → ((present w).actors a).running ≡ Some p → running (present w) (last_op (present w) a) ≡ Some p
+pub own_program : (w : Life) (a : ℕ) (p : Program) → run_is w → ((present w).actors a).running ≡ Some p
+    → running (present w) (last_op (present w) a) ≡ Some p
 own_program w a p run is =
     let k = running_is_last_begun w.counts w.history run a p is in
     let same : p.op ≡ last_op (present w) a = λ i. record { actor = k.own i; number = k.last i } in
@@ -59,7 +63,8 @@ some_of (Some x) is = (x, refl)
 some_of None is = absurd (grind (arith, is))
 
 -- the program that runs is the one of the actor's last op
-pub own_running : (w : Life) (a : ℕ) → run_is w → IsSome ((present w).actors a).running → (p : Program) × (running (present w) (last_op (present w) a) ≡ Some p)
+pub own_running : (w : Life) (a : ℕ) → run_is w → IsSome ((present w).actors a).running → (p : Program)
+    × (running (present w) (last_op (present w) a) ≡ Some p)
 own_running w a run runs = let own = some_of _ runs in (own.0, own_program w a own.0 run own.1)
 
 pub goes_own : (w : Life) (a : ℕ) (p : Program) → run_is w → ((present w).actors a).running ≡ Some p
@@ -67,16 +72,19 @@ pub goes_own : (w : Life) (a : ℕ) (p : Program) → run_is w → ((present w).
 goes_own w a p run is = running_goes_on w.counts w.history run (last_op (present w) a) p (own_program w a p run is)
 
 -- what a step that comes to no answer does
-going_by : (w v : Life) (op : OpId) (o : Option AnyReq) (u : Life) → GoesOn w v op → u ≡ grown v (transaction (present v).store op o ++ ending op None) → is_some o ≡ true → GoesOn w u op
+going_by : (w v : Life) (op : OpId) (o : Option AnyReq) (u : Life) → GoesOn w v op
+    → u ≡ grown v (transaction (present v).store op o ++ ending op None) → is_some o ≡ true → GoesOn w u op
 going_by w v op None u goes is some = absurd (grind (arith, some))
 going_by w v op (Some q) u goes is some = record {
   acts = goes.acts ++ Acted op q (store_reply (present v).store q) ∷ [];
   count = goes.count + 1;
   are_acts = acts_push op q (store_reply (present v).store q) goes.count goes.acts goes.are_acts;
-  history = is ∙ ap (λ (x : Life). grown x (Acted op q (store_reply (present v).store q) ∷ [])) goes.history ∙ grown-grown w goes.acts (Acted op q (store_reply (present v).store q) ∷ []);
+  history = is ∙ ap (λ (x : Life). grown x (Acted op q (store_reply (present v).store q) ∷ [])) goes.history ∙ grown-grown w goes.acts
+      (Acted op q (store_reply (present v).store q) ∷ []);
 }
 
-ends_by : (w v : Life) (op : OpId) (o : Option AnyReq) (a : Answer) (u : Life) → GoesOn w v op → u ≡ grown v (transaction (present v).store op o ++ ending op (Some a)) → RanToEnd w u op a
+ends_by : (w v : Life) (op : OpId) (o : Option AnyReq) (a : Answer) (u : Life) → GoesOn w v op
+    → u ≡ grown v (transaction (present v).store op o ++ ending op (Some a)) → RanToEnd w u op a
 ends_by w v op None a u goes is = record {
   acts = goes.acts;
   count = goes.count;
@@ -96,9 +104,11 @@ ends_by w v op (Some q) a u goes is = record {
       ∙ ap (grown w) (sym (append_assoc goes.acts (Acted op q (store_reply (present v).store q) ∷ []) (Ended op a ∷ [])));
 }
 
-pub ran_to_end : (w v u : Life) (op : OpId) (a : Answer) → GoesOn w v op → u ≡ grown v (step_events (present v) op) → step_answer (present v) op ≡ Some a → RanToEnd w u op a
+pub ran_to_end : (w v u : Life) (op : OpId) (a : Answer) → GoesOn w v op → u ≡ grown v (step_events (present v) op)
+    → step_answer (present v) op ≡ Some a → RanToEnd w u op a
 ran_to_end w v u op a goes is ends = ends_by w v op (actor_asks ((present v).actors op.actor) op) a u goes
-    (is ∙ ap (λ (o : Option Answer). grown v (transaction (present v).store op (actor_asks ((present v).actors op.actor) op) ++ ending op o)) ends)
+    (is ∙ ap (λ (o : Option Answer). grown v
+    (transaction (present v).store op (actor_asks ((present v).actors op.actor) op) ++ ending op o)) ends)
 
 -- for want of memory it ends too
 fails_by : (w v u : Life) (op : OpId) (x : Answer) → GoesOn w v op → u ≡ grown v (Failed op x ∷ []) → RanToEnd w u op x
@@ -111,7 +121,8 @@ fails_by w v u op x goes is = record {
   history = is ∙ ap (λ (y : Life). grown y (Failed op x ∷ [])) goes.history ∙ grown-grown w goes.acts (Failed op x ∷ []);
 }
 
-act_fails : (w v : Life) (op : OpId) (o : Option AnyReq) (a : Answer) (u : Life) → GoesOn w v op → u ≡ grown v (transaction (present v).store op o ++ Failed op a ∷ []) → RanToEnd w u op a
+act_fails : (w v : Life) (op : OpId) (o : Option AnyReq) (a : Answer) (u : Life) → GoesOn w v op
+    → u ≡ grown v (transaction (present v).store op o ++ Failed op a ∷ []) → RanToEnd w u op a
 act_fails w v op None a u goes is = fails_by w v u op a goes is
 act_fails w v op (Some q) a u goes is = record {
   acts = goes.acts ++ Acted op q (store_reply (present v).store q) ∷ [];
@@ -129,20 +140,28 @@ fails_with w v u op a goes (inl is) = fails_by w v u op a goes is
 fails_with w v u op a goes (inr is) = act_fails w v op (actor_asks ((present v).actors op.actor) op) a u goes is
 
 -- with no answer after the step, it asked something
-asks_some : (counts : Counts) (s : Store) (st : Actor) (op : OpId) (o : Option AnyReq) → actor_asks st op ≡ o → program_answer (program_of (acted_actor counts s st o).running op) ≡ None
+asks_some : (counts : Counts) (s : Store) (st : Actor) (op : OpId) (o : Option AnyReq) → actor_asks st op ≡ o
+    → program_answer (program_of (acted_actor counts s st o).running op) ≡ None
     → (is_some (actor_asks st op) || is_some (program_answer (program_of st.running op))) ≡ true → is_some o ≡ true
 asks_some counts s st op None asks none goes = absurd (grind (arith, asks, none, goes))
 asks_some counts s st op (Some q) asks none goes = refl
 
-pub step_asks : (v : Life) (a : ℕ) (p : Program) → run_is v → ((present v).actors a).running ≡ Some p → step_answer (present v) (last_op (present v) a) ≡ None
+pub step_asks : (v : Life) (a : ℕ) (p : Program) → run_is v → ((present v).actors a).running ≡ Some p
+    → step_answer (present v) (last_op (present v) a) ≡ None
     → is_some (actor_asks ((present v).actors a) (last_op (present v) a)) ≡ true
 step_asks v a p run is none =
-    asks_some (present v).counts (present v).store ((present v).actors a) (last_op (present v) a) (actor_asks ((present v).actors a) (last_op (present v) a)) refl none (goes_own v a p run is)
+    asks_some (present v).counts (present v).store ((present v).actors a) (last_op (present v) a)
+    (actor_asks ((present v).actors a) (last_op (present v) a)) refl none (goes_own v a p run is)
 
-pub goes_more : (w v u : Life) (a : ℕ) (p : Program) → run_is v → ((present v).actors a).running ≡ Some p → GoesOn w v (last_op (present v) a)
-    → u ≡ grown v (step_events (present v) (last_op (present v) a)) → step_answer (present v) (last_op (present v) a) ≡ None → GoesOn w u (last_op (present v) a)
-goes_more w v u a p run is goes grows none = going_by w v (last_op (present v) a) (actor_asks ((present v).actors a) (last_op (present v) a)) u goes
-    (grows ∙ ap (λ (o : Option Answer). grown v (transaction (present v).store (last_op (present v) a) (actor_asks ((present v).actors a) (last_op (present v) a)) ++ ending (last_op (present v) a) o)) none)
+pub goes_more : (w v u : Life) (a : ℕ) (p : Program) → run_is v → ((present v).actors a).running ≡ Some p
+    → GoesOn w v (last_op (present v) a)
+    → u ≡ grown v (step_events (present v) (last_op (present v) a)) → step_answer (present v) (last_op (present v) a) ≡ None
+    → GoesOn w u (last_op (present v) a)
+goes_more w v u a p run is goes grows none = going_by w v (last_op (present v) a)
+    (actor_asks ((present v).actors a) (last_op (present v) a)) u goes
+    (grows ∙ ap (λ (o : Option Answer). grown v
+    (transaction (present v).store (last_op (present v) a) (actor_asks ((present v).actors a) (last_op (present v) a)) ++ ending
+    (last_op (present v) a) o)) none)
     (step_asks v a p run is none)
 
 -- ---- what is so after a step that came to no answer
@@ -150,29 +169,41 @@ goes_more w v u a p run is goes grows none = going_by w v (last_op (present v) a
 same : (a : ℕ) → eqb a a ≡ true
 same a = grind (arith, num_eq_cases a a)
 
-after_step : (v u : Life) (a : ℕ) → u ≡ grown v (step_events (present v) (last_op (present v) a)) → present u ≡ after_all (present v) (step_events (present v) (last_op (present v) a))
+after_step : (v u : Life) (a : ℕ) → u ≡ grown v (step_events (present v) (last_op (present v) a))
+    → present u ≡ after_all (present v) (step_events (present v) (last_op (present v) a))
 after_step v u a grows = ap present grows ∙ present-grown v (step_events (present v) (last_op (present v) a))
 
-pub last_kept : (v u : Life) (a : ℕ) → u ≡ grown v (step_events (present v) (last_op (present v) a)) → last_op (present u) a ≡ last_op (present v) a
-last_kept v u a grows i = record { actor = a; number = (ap (λ (x : WorldState). (x.actors a).number) (after_step v u a grows) ∙ step_number (present v) (last_op (present v) a) a) i }
+pub last_kept : (v u : Life) (a : ℕ) → u ≡ grown v (step_events (present v) (last_op (present v) a))
+    → last_op (present u) a ≡ last_op (present v) a
+last_kept v u a grows i = record {
+  actor = a;
+  number = (ap (λ (x : WorldState). (x.actors a).number) (after_step v u a grows) ∙ step_number (present v) (last_op (present v) a) a) i;
+}
 
-pub own_after : (v u : Life) (a : ℕ) → u ≡ grown v (step_events (present v) (last_op (present v) a)) → (present u).actors a ≡ stepped_actor (present v).counts (present v).store ((present v).actors a) (last_op (present v) a)
+pub own_after : (v u : Life) (a : ℕ) → u ≡ grown v (step_events (present v) (last_op (present v) a))
+    → (present u).actors a ≡ stepped_actor (present v).counts (present v).store ((present v).actors a) (last_op (present v) a)
 own_after v u a grows =
     ap (λ (x : WorldState). x.actors a) (after_step v u a grows) ∙ step_actors (present v) (last_op (present v) a) a
-    ∙ ap (λ (b : Bool). if b then stepped_actor (present v).counts (present v).store ((present v).actors a) (last_op (present v) a) else (present v).actors a) (same a)
+    ∙ ap (λ (b : Bool). if b then stepped_actor (present v).counts (present v).store ((present v).actors a) (last_op (present v) a) else
+    (present v).actors a) (same a)
 
 -- it still runs
-runs_by : (counts : Counts) (s : Store) (st : Actor) (p : Program) (o : Option AnyReq) → st.running ≡ Some p → IsSome (ended_actor (acted_actor counts s st o) None).running
+runs_by : (counts : Counts) (s : Store) (st : Actor) (p : Program) (o : Option AnyReq) → st.running ≡ Some p
+    → IsSome (ended_actor (acted_actor counts s st o) None).running
 runs_by counts s st p None is = rw is refl
 runs_by counts s st p (Some q) is = rw is refl
 
-pub step_runs : (v u : Life) (a : ℕ) (p : Program) → ((present v).actors a).running ≡ Some p → u ≡ grown v (step_events (present v) (last_op (present v) a))
+pub step_runs : (v u : Life) (a : ℕ) (p : Program) → ((present v).actors a).running ≡ Some p
+    → u ≡ grown v (step_events (present v) (last_op (present v) a))
     → step_answer (present v) (last_op (present v) a) ≡ None → IsSome ((present u).actors a).running
 step_runs v u a p is grows none =
     let st : Actor = (present v).actors a in
     let op : OpId = last_op (present v) a in
-    let stays : stepped_actor (present v).counts (present v).store st op ≡ ended_actor (acted_actor (present v).counts (present v).store st (actor_asks st op)) None = ap (ended_actor (acted_actor (present v).counts (present v).store st (actor_asks st op))) none in
-    subst (λ (x : Actor). IsSome x.running) (sym (own_after v u a grows ∙ stays)) (runs_by (present v).counts (present v).store st p (actor_asks st op) is)
+    let stays : stepped_actor (present v).counts (present v).store st op ≡ ended_actor
+    (acted_actor (present v).counts (present v).store st (actor_asks st op)) None = ap
+    (ended_actor (acted_actor (present v).counts (present v).store st (actor_asks st op))) none in
+    subst (λ (x : Actor). IsSome x.running) (sym (own_after v u a grows ∙ stays))
+    (runs_by (present v).counts (present v).store st p (actor_asks st op) is)
 
 -- ---- the room that the actor's own history has
 
@@ -180,12 +211,14 @@ step_runs v u a p is grows none =
 abbrev pub room_at : Life → ℕ → ℕ
 room_at w a = 65536 - used w.history a
 
-limits_last : (counts : Counts) (before es : List Event) (e : Event) → KeepsLimitsAfter counts before (es ++ e ∷ []) → KeepsRoom counts (before ++ es) ((moment counts (before ++ es)).actors (actor_in e)) e
+limits_last : (counts : Counts) (before es : List Event) (e : Event) → KeepsLimitsAfter counts before (es ++ e ∷ [])
+    → KeepsRoom counts (before ++ es) ((moment counts (before ++ es)).actors (actor_in e)) e
 limits_last counts before [] e keeps = rw (append-nil before) keeps.0
 limits_last counts before (x ∷ es) e keeps = rw (← append_assoc before (x ∷ []) es) (limits_last counts (before ++ x ∷ []) es e keeps.1)
 
 -- a transaction takes one
-room_by : (v u : Life) (a : ℕ) (o : Option AnyReq) → u ≡ grown v (transaction (present v).store (last_op (present v) a) o ++ ending (last_op (present v) a) None) → is_some o ≡ true
+room_by : (v u : Life) (a : ℕ) (o : Option AnyReq)
+    → u ≡ grown v (transaction (present v).store (last_op (present v) a) o ++ ending (last_op (present v) a) None) → is_some o ≡ true
     → KeepsLimits u.counts u.history → room_at u a < room_at v a
 room_by v u a None grows some keeps = absurd (grind (arith, some))
 room_by v u a (Some q) grows some keeps =
@@ -221,7 +254,8 @@ pub goes_first : (w : Life) (a : ℕ) → run_is w → IsSome ((present w).actor
 goes_first w a run running = record { going = goes_none w (last_op (present w) a); last = refl; running = running; run = run }
 
 -- a step that goes on, and one that ends the command
-going_step : (v u : Life) (op : OpId) → Stepped v u op Going → (u ≡ grown v (step_events (present v) op)) × (step_answer (present v) op ≡ None)
+going_step : (v u : Life) (op : OpId) → Stepped v u op Going → (u ≡ grown v (step_events (present v) op))
+    × (step_answer (present v) op ≡ None)
 going_step v u op (inl (grows, turned)) = (grows, not_done _ (sym turned))
 going_step v u op (inr (a, lack, fails, turned)) = absurd cc
 
@@ -250,7 +284,9 @@ module _ (w v u : Life) (a : ℕ) (goes : Goes w v a) where
     pub goes_nearer : KeepsLimits u.counts u.history → room_at u a < room_at v a
     goes_nearer keeps =
         room_by v u a (actor_asks ((present v).actors a) (last_op (present v) a))
-        (grows ∙ ap (λ (o : Option Answer). grown v (transaction (present v).store (last_op (present v) a) (actor_asks ((present v).actors a) (last_op (present v) a)) ++ ending (last_op (present v) a) o)) none)
+        (grows ∙ ap (λ (o : Option Answer). grown v
+        (transaction (present v).store (last_op (present v) a) (actor_asks ((present v).actors a) (last_op (present v) a)) ++ ending
+        (last_op (present v) a) o)) none)
         (step_asks v a own.0 goes.run own.1 none) keeps
 
   done_by : (x : Answer) → Stepped v u (last_op (present v) a) (Done x) → RanToEnd w u (last_op (present v) a) x

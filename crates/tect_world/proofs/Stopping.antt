@@ -1,5 +1,6 @@
 -- what a client notes where it stops, and what an op that runs tells
-use Rattle.std.proofs.Common.{◌≡◌, ℕ, ◌+◌, ◌<◌, ◌≤◌, ◌⊎◌, inl, inr, Option, Some, None, List, [], ◌∷◌, ◌++◌, length, refl, sym, ap, ◌∙◌, subst, append_assoc, arith}
+use Rattle.std.proofs.Common.{◌≡◌, ℕ, ◌+◌, ◌<◌, ◌≤◌, ◌⊎◌, inl, inr, Option, Some, None, List, [], ◌∷◌, ◌++◌, length, refl, sym, ap, ◌∙◌}
+use Rattle.std.proofs.Common.{subst, append_assoc, arith}
 use Rattle.std.proofs.lemmas.List.{append-nil, map-append}
 use Rattle.tect_ids.specs.declared.ids.Counts.{Counts}
 use Rattle.tect_ids.specs.declared.ids.OpId.{OpId}
@@ -33,17 +34,21 @@ abbrev pub failed : OpId → Answer → List Event
 failed op x = Failed op x ∷ []
 
 -- the program that runs is that of the actor's last op
-pub own_programs : (w : Life) (a : ℕ) → runs.IsWorldRun w.counts w.history → (o : Option Program) → ((present w).actors a).running ≡ o → program_of o (last_op (present w) a) ≡ o
+pub own_programs : (w : Life) (a : ℕ) → runs.IsWorldRun w.counts w.history → (o : Option Program) → ((present w).actors a).running ≡ o
+    → program_of o (last_op (present w) a) ≡ o
 own_programs w a run None is = refl
 own_programs w a run (Some p) is = ap (λ (o : Option Program). program_of o (last_op (present w) a)) (sym is) ∙ own_program w a p run is
 
-pub noted_event : (ms : List Moment) (m : Moment) (ss : List Event) → ss ≡ [] → events_of (ms ++ m ∷ []) ++ ss ≡ (events_of ms ++ ss) ++ event_of m ∷ []
+pub noted_event : (ms : List Moment) (m : Moment) (ss : List Event) → ss ≡ []
+    → events_of (ms ++ m ∷ []) ++ ss ≡ (events_of ms ++ ss) ++ event_of m ∷ []
 noted_event ms m ss none =
     ap (λ (es : List Event). events_of (ms ++ m ∷ []) ++ es) none ∙ append-nil (events_of (ms ++ m ∷ [])) ∙ map-append event_of ms (m ∷ [])
-    ∙ ap (λ (es : List Event). es ++ event_of m ∷ []) (sym (append-nil (events_of ms)) ∙ ap (λ (es : List Event). events_of ms ++ es) (sym none))
+    ∙ ap (λ (es : List Event). es ++ event_of m ∷ [])
+    (sym (append-nil (events_of ms)) ∙ ap (λ (es : List Event). events_of ms ++ es) (sym none))
 
 -- an op that runs was not refused
-pub none_silent : (ss : List Event) (ms : List Moment) (m : Moment) (op : OpId) (o : Option Program) → RunsIn ss (running_in None (ms ++ m ∷ [])) o
+pub none_silent : (ss : List Event) (ms : List Moment) (m : Moment) (op : OpId) (o : Option Program)
+    → RunsIn ss (running_in None (ms ++ m ∷ [])) o
     → running_after (running_in None ms) m ≡ Some op → ss ≡ []
 none_silent [] ms m op o going is = refl
 none_silent (e ∷ es) ms m op o going is = let last = running_in-push None ms m in let none = going.0 in absurd cc

@@ -1,7 +1,8 @@
 //! All that the world did, taken out of its places and its passes.
 ghost use Rattle.std.specs.Prelude.{◌≡◌, IfOk, IsPermutation, map};
 ghost use Rattle.std.specs.List.{AllZip, flat_map};
-ghost use Rattle.merge_runs.specs.Merged.{Agree, HaveDifferentActors, IsInOrder, RestrictsToHistories, RestrictsToTrails, StandInOrder, moments_of};
+ghost use Rattle.merge_runs.specs.Merged.{Agree, HaveDifferentActors, IsInOrder, RestrictsToHistories, RestrictsToTrails, StandInOrder};
+ghost use Rattle.merge_runs.specs.Merged.{moments_of};
 ghost use Rattle.tect_world.specs.Told.{IsPassOf, IsOneList};
 
 use clients::Client;

@@ -1,4 +1,5 @@
-ghost use Rattle.std.specs.Prelude.{◌≡◌, ℕ, ◌+◌, ◌^◌, ◌<◌, ◌≤◌, [], ◌∷◌, ◌++◌, List, OnOk, OnErr, IfOk, IsSome, IsNone, IsTrue, is_some, false};
+ghost use Rattle.std.specs.Prelude.{◌≡◌, ℕ, ◌+◌, ◌^◌, ◌<◌, ◌≤◌, [], ◌∷◌, ◌++◌, List, OnOk, OnErr, IfOk, IsSome, IsNone, IsTrue, is_some};
+ghost use Rattle.std.specs.Prelude.{false};
 ghost use Rattle.tect_ids.specs.Places.{HasPlaces};
 ghost use Rattle.store_rules.specs.Dumps.{store_dump};
 ghost use Rattle.world_runs.specs.Limits.{KeepsLimits};

@@ -6,13 +6,16 @@ use Rattle.tect_replay.proofs.report.write_report.Goals as goal
 
 pub each-preserved : goal.each-preserved
 each-preserved g c = record {
-  written = rw (line_more c.args.lines.now c.each.line-index c.line-item.result c.each-test.true c.line-item.is) (more_after _ _ _ _ _ _ _ c.each.invariant.written c.in_ok-add_line.ensures.whole);
+  written = rw (line_more c.args.lines.now c.each.line-index c.line-item.result c.each-test.true c.line-item.is)
+      (more_after _ _ _ _ _ _ _ c.each.invariant.written c.in_ok-add_line.ensures.whole);
   kept = search rules;
 }
 
 pub returns-in_err-add_line-clause-part : goal.returns-in_err-add_line-clause-part
 returns-in_err-add_line-clause-part g c =
-    on_err c.from_residual.result (report_part c.args.lines.now c.each.line-index c.line-item.result _ _ _ _ c.each-test.true c.line-item.is c.each.invariant.written c.in_err-add_line.ensures.part)
+    on_err c.from_residual.result
+    (report_part c.args.lines.now c.each.line-index c.line-item.result _ _ _ _ c.each-test.true c.line-item.is c.each.invariant.written
+    c.in_err-add_line.ensures.part)
 
 pub returns-clause-whole : goal.returns-clause-whole
 returns-clause-whole g c =

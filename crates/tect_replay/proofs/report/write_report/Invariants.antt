@@ -5,6 +5,7 @@ use Rattle.tect_replay.proofs.report.write_report.Given as goal
 
 abbrev pub invariant-each : goal.invariant-each
 invariant-each g l = record {
-  written : AppendsAllBut (g.K.Sink.written l.initial.sink) (g.K.Sink.written l.sink) (lines_text (take l.line-index l.lines)) l.buffer.items;
+  written : AppendsAllBut (g.K.Sink.written l.initial.sink) (g.K.Sink.written l.sink) (lines_text (take l.line-index l.lines))
+      l.buffer.items;
   kept : g.K.Sink.faults l.sink ≡ g.K.Sink.faults l.initial.sink;
 }
