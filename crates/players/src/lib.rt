@@ -1,20 +1,16 @@
 //! Players of a client's lines: whoever begins commands of one actor and goes on with them step by step does what a script's
-//! line asks, and tells the line of its answer. A client is one, wherever its requests are committed: [`Locked`] commits them
-//! at places behind locks. A racer keeps the lines of its client's answers.
+//! line asks, and tells the line of its answer. A client is one, wherever its requests are committed. A racer keeps the lines
+//! of its client's answers.
 #![tactic(auto)]
 
 mod acts;
 mod client;
 mod fault;
-mod locked;
 mod player;
 mod racer;
 mod stepping;
-#[cfg(test)]
-mod tests;
 
 pub use acts::play;
 pub use fault::RacerFault;
-pub use locked::Locked;
 pub use player::Player;
 pub use racer::{Racer, play_act};

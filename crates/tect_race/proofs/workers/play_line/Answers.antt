@@ -1,6 +1,6 @@
 -- The line is done by the racer that it is of, and by no other.
 use Rattle.std.proofs.Common.{refl, length}
-use Rattle.players.specs.declared.locked.Locked.{Locked}
+use Rattle.place_locks.specs.declared.locked.Locked.{Locked}
 use Rattle.tect_race.proofs.WorkerLines.{line_rests, line_counts, line_client, line_few, line_takes, line_plays}
 use Rattle.tect_race.proofs.Losses.{lost_racer, played_too}
 use Rattle.tect_race.proofs.workers.play_line.Goals as goal

@@ -1,8 +1,8 @@
 ghost use Rattle.std.specs.Prelude.{◌≡◌};
 
+use crate::places::Places;
 use entry_words::Refused;
 use passes::{Commits, Pass};
-use place_locks::Places;
 use std::sync::Wait;
 use store_rules::AnyReply;
 use tect_calls::Asked;
@@ -21,7 +21,7 @@ impl<R: Wait, G: Gate> Commits for Locked<'_, R, G> {
     ghost use Rattle.std.specs.Prelude.{IfErr};
     ghost use Rattle.store_rules.specs.Places.{request_place};
     ghost use Rattle.place_locks.specs.Commits.{IsRefusalFor};
-    ghost use Rattle.place_locks.specs.Started.{label_at};
+    ghost use Rattle.entry_words.specs.Labels.{label_at};
 
     ghost counts = { λ at. at.places.now };
 
