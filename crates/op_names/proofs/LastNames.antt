@@ -1,5 +1,33 @@
 -- the last name of a path, by its place
-use Rattle.std.proofs.Common.{◌≡◌, ◌≢◌, ℕ, zero, suc, ◌+◌, ◌-◌, ◌<◌, ◌≤◌, Bool, true, false, List, [], ◌∷◌, length, take, get_or, slice_index_or, Option, Some, None, refl, sym, ap, ◌∙◌, arith}
+use Rattle.std.proofs.Common.{
+  ◌≡◌,
+  ◌≢◌,
+  ℕ,
+  zero,
+  suc,
+  ◌+◌,
+  ◌-◌,
+  ◌<◌,
+  ◌≤◌,
+  Bool,
+  true,
+  false,
+  List,
+  [],
+  ◌∷◌,
+  length,
+  take,
+  get_or,
+  slice_index_or,
+  Option,
+  Some,
+  None,
+  refl,
+  sym,
+  ap,
+  ◌∙◌,
+  arith,
+}
 use Rattle.tect_ids.specs.Keys.{name_eq}
 use Rattle.tect_ids.proofs.KeyTests.{name_eq_cases}
 use Rattle.program_rules.specs.Paths.{but_last, last_name}
@@ -11,7 +39,8 @@ last_at [] x some is = absurd (omega (arith, some))
 last_at (n ∷ []) x some is = grind (arith, is)
 last_at (n ∷ m ∷ ns) x some is = last_at (m ∷ ns) x (omega arith) (grind (arith, is))
 
-pub at_last_is : {X : Type 0} (p : List (List ℕ)) (f : List ℕ → X) (x : List ℕ) → 1 ≤ length p → x ≡ slice_index_or p (length p - 1) x → Some (f x) ≡ at_last p f
+pub at_last_is : {X : Type 0} (p : List (List ℕ)) (f : List ℕ → X) (x : List ℕ) → 1 ≤ length p → x ≡ slice_index_or p (length p - 1) x
+    → Some (f x) ≡ at_last p f
 at_last_is [] f x some is = absurd (omega (arith, some))
 at_last_is (n ∷ ns) f x some is = ap (λ l. Some (f l)) (last_at (n ∷ ns) x some is)
 
@@ -28,7 +57,8 @@ but_last_is (n ∷ m ∷ ns) =
 pub empty_differs : (l : List ℕ) → 0 < length l → name_eq l [] ≡ false
 empty_differs l some = grind (arith, name_eq_cases l [])
 
-pub last_compared : (p : List (List ℕ)) (l x : List ℕ) → 1 ≤ length p → x ≡ slice_index_or p (length p - 1) x → name_eq l x ≡ name_eq l (last_name p)
+pub last_compared : (p : List (List ℕ)) (l x : List ℕ) → 1 ≤ length p → x ≡ slice_index_or p (length p - 1) x
+    → name_eq l x ≡ name_eq l (last_name p)
 last_compared p l x some is = ap (name_eq l) (last_at p x some is)
 
 no_names : (p : List (List ℕ)) → length p < 1 → p ≡ []
