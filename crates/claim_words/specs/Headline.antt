@@ -7,14 +7,14 @@ use Rattle.tect_ids.specs.declared.answer.Answer.TheVariants as answers
 use Rattle.tect_ids.specs.Keys.{op_eq}
 use Rattle.tree_model.specs.Tree.{opening_tree}
 use Rattle.world_runs.specs.declared.event.Event.{Event}
-use Rattle.world_runs.specs.declared.event.Event.TheVariants.{Began, Refused, Acted, Ended, Stopped, Failed, Dumped}
+use Rattle.world_runs.specs.declared.event.Event.TheVariants.{Began, NotBegun, Acted, Ended, Stopped, Failed, Dumped}
 use Rattle.program_rules.specs.Lacks.{no_room}
 use Rattle.claim_words.specs.TreeSteps.{tree_steps, IsTreeRun}
 use Rattle.claim_words.specs.Points.{of_op, Point, LacksName}
 
 abbrev pub begun_by : Event → OpId → Option Command
 begun_by (Began other c) op = if op_eq other op then Some c else None
-begun_by (Refused other c) op = None
+begun_by (NotBegun other c) op = None
 begun_by (Acted other q x) op = None
 begun_by (Ended other a) op = None
 begun_by (Stopped other) op = None
@@ -32,7 +32,7 @@ command_of (e ∷ es) op = or_later (begun_by e op) (command_of es op)
 
 -- the op was refused: its actor had no room to begin it
 abbrev pub refuses : OpId → Event → Bool
-refuses op (Refused other c) = op_eq other op
+refuses op (NotBegun other c) = op_eq other op
 refuses op (Began other c) = false
 refuses op (Acted other q x) = false
 refuses op (Ended other a) = false

@@ -15,7 +15,7 @@ use Rattle.tect_ids.specs.Keys.{op_eq}
 use Rattle.store_rules.specs.Names.{key_in}
 use Rattle.tree_model.specs.declared.step.TreeStep.{TreeStep}
 use Rattle.tree_model.specs.declared.step.TreeStep.TheVariants as step
-use Rattle.tree_model.specs.declared.step.Shown.TheVariants as shown
+use Rattle.tree_model.specs.declared.step.StepValue.TheVariants as shown
 use Rattle.tree_model.specs.declared.step.Refusal.{Refusal}
 use Rattle.tree_model.specs.declared.step.Refusal.TheVariants as refusal
 use Rattle.tree_model.specs.declared.step.TreeReply.{TreeReply}

@@ -8,7 +8,7 @@ use Rattle.tect_ids.specs.declared.ids.Node.TheVariants.{Dir, File}
 use Rattle.tect_ids.specs.declared.key.Key.{Key}
 use Rattle.tect_ids.specs.declared.key.Upper.{Upper}
 use Rattle.tect_ids.specs.declared.key.Upper.TheVariants as uppers
-use Rattle.store_rules.specs.declared.names.Entry.{Entry}
+use Rattle.store_rules.specs.declared.names.DirectoryEntry.{DirectoryEntry}
 use Rattle.store_rules.specs.Names.{dir_lists}
 use Rattle.store_rules.specs.Files.{file_lists}
 use Rattle.store_rules.specs.Store.{Store}
@@ -20,9 +20,11 @@ lists s (Dir d) h = dir_lists (get s.names.dirs d) h
 lists s (File f) h = file_lists (get s.files f) h
 
 pub record IsSoundStore (s : Store) : Type 0 where
-  pub listed : (k : Key) (e : Entry) → get s.names.entries k ≡ Some e → lists s e.node e.hold ≡ Some (uppers.Entry k)
-  pub bound_once : (k l : Key) (e d : Entry) → get s.names.entries k ≡ Some e → get s.names.entries l ≡ Some d → e.hold ≡ d.hold → k ≡ l
-  pub named_once : (k l : Key) (e d : Entry) → get s.names.entries k ≡ Some e → get s.names.entries l ≡ Some d → e.node ≡ d.node → k ≡ l
+  pub listed : (k : Key) (e : DirectoryEntry) → get s.names.entries k ≡ Some e → lists s e.node e.hold ≡ Some (uppers.Entry k)
+  pub bound_once : (k l : Key) (e d : DirectoryEntry) → get s.names.entries k ≡ Some e → get s.names.entries l ≡ Some d → e.hold ≡ d.hold
+      → k ≡ l
+  pub named_once : (k l : Key) (e d : DirectoryEntry) → get s.names.entries k ≡ Some e → get s.names.entries l ≡ Some d → e.node ≡ d.node
+      → k ≡ l
 
 abbrev pub IsSound : WorldState → Type 0
 IsSound m = IsSoundStore m.store

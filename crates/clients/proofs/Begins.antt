@@ -1,6 +1,6 @@
--- a client begins a command, is refused, ends what was refused, and stops
-use Rattle.std.proofs.Common.{◌≡◌, ◌≢◌, ℕ, ◌+◌, ◌<◌, ◌^◌, inl, inr, true, false, Option, Some, None, IsSome, IsNone, List, [], ◌∷◌, ◌++◌,
-    refl, sym, ap, ◌∙◌, arith}
+-- a client begins a command, is not_begun, ends what was not_begun, and stops
+use Rattle.std.proofs.Common.{◌≡◌, ◌≢◌, ℕ, ◌+◌, ◌<◌, ◌^◌, inl, inr, true, false, Option, Some, None, IsSome, IsNone, List, [], ◌∷◌, ◌++◌}
+use Rattle.std.proofs.Common.{refl, sym, ap, ◌∙◌, arith}
 use Rattle.std.specs.Prelude.{vec_len, vec_capacity}
 use Rattle.std.specs.List.{All}
 use Rattle.std.proofs.lemmas.List.Elements.{All-head, All-tail}
@@ -16,9 +16,9 @@ use Rattle.entry_words.specs.declared.entry.Note.TheVariants as notes
 use Rattle.passes.specs.declared.pass.Pass.{Pass}
 use Rattle.passes.specs.Commits as passes
 use Rattle.world_runs.specs.declared.event.Event.{Event}
-use Rattle.world_runs.specs.declared.event.Event.TheVariants.{Began, Refused, Ended, Stopped}
+use Rattle.world_runs.specs.declared.event.Event.TheVariants.{Began, NotBegun, Ended, Stopped}
 use Rattle.program_rules.specs.Lacks.{no_room}
-use Rattle.world_runs.specs.Moments.{Actor, idle_actor, begun, refused, program_of, program_answer}
+use Rattle.world_runs.specs.Moments.{Actor, idle_actor, begun, not_begun, program_of, program_answer}
 use Rattle.world_runs.specs.Report.{transactions}
 use Rattle.world_runs.specs.Served.{IsServed}
 use Rattle.world_runs.specs.Events.{events_of}
@@ -51,8 +51,13 @@ silent_use a (e ∷ es) silent =
 pub life_use : (a : Inside) → IsClient a → used (events_in (life_of a)) a.actor.actor ≡ passes.used a.pass
 life_use a is =
     let noted : used (events_of a.pass.moments.items) a.actor.actor ≡ passes.used a.pass = rw (← is.same) (pass_use a.pass) in
-    omega (arith, used-append (events_of a.pass.moments.items) a.refused.items a.actor.actor, silent_use a.actor.actor a.refused.items
-        is.silent, noted)
+    omega (
+      arith,
+      used-append (events_of a.pass.moments.items) a.refused.items a.actor.actor,
+      silent_use a.actor.actor a.refused.items
+          is.silent,
+      noted,
+    )
 
 pub refuses : (a : Inside) → IsClient a → passes.IsFullForBegin a.pass → RefusesNext (life_of a)
 refuses a is (inl much) = inl (omega (arith, life_use a is, much))
@@ -80,7 +85,7 @@ module _ (counts : Counts) (a : ActorState) (p r : Pass) (t : ℕ) (c : Command)
     (idle : a.state.running ≡ None)
     (goes : a.state.stopped ≡ false) (few : a.state.number + 1 < 2 ^ 31) (served : IsServed c) (room : ¬ passes.IsFullForBegin p)
     (moments : r.moments.items ≡ p.moments.items ++ Local (p.clock + 1) p.actor (notes.Began (next_op_of a) c) ∷ [])
-        (clock : r.clock ≡ p.clock + 1) (actor : r.actor ≡ p.actor)
+    (clock : r.clock ≡ p.clock + 1) (actor : r.actor ≡ p.actor)
     (running : r.running ≡ Some (next_op_of a)) where
   abbrev begins : ActorState
   begins = record a { state = begun a.state (next_op_of a) c }
@@ -107,15 +112,15 @@ module _ (counts : Counts) (a : ActorState) (p r : Pass) (t : ℕ) (c : Command)
   begun_stage =
       let number : (own_state counts idle_actor (own_events p)).number ≡ a.state.number = sym (ap (λ (s : Actor). s.number) stage.state) in
       push_stage counts a begins p r t 0 (Local (p.clock + 1) p.actor (notes.Began (next_op_of a) c)) (Began (next_op_of a) c) stage
-          begun_pushed
+      begun_pushed
       (sym (quiet counts (own_events p) (next_op_of a) stage.run (omega (arith, number))) ∙ sym
-          (count_other (own_events p) (Began (next_op_of a) c) (next_op_of a) refl))
+      (count_other (own_events p) (Began (next_op_of a) c) (next_op_of a) refl))
 
 -- ---- a stop that is noted
 
 module _ (counts : Counts) (a : ActorState) (p r : Pass) (t : ℕ) (stage : Stage counts a p t) (runs : IsSome a.state.running)
     (moments : r.moments.items ≡ p.moments.items ++ Local (p.clock + 1) p.actor (notes.Stopped (op_of a)) ∷ [])
-        (clock : r.clock ≡ p.clock + 1) (actor : r.actor ≡ p.actor)
+    (clock : r.clock ≡ p.clock + 1) (actor : r.actor ≡ p.actor)
     (running : r.running ≡ None) where
   abbrev stops : ActorState
   stops = record a { state = record a.state { stopped = true; running = None } }
@@ -142,7 +147,7 @@ module _ (counts : Counts) (a : ActorState) (p r : Pass) (t : ℕ) (stage : Stag
       push_stage counts a stops p r t t (Local (p.clock + 1) p.actor (notes.Stopped (op_of a))) (Stopped (op_of a)) stage stopped_pushed
       (stage.counted ∙ sym (count_other (own_events p) (Stopped (op_of a)) (op_of a) refl))
 
--- ---- an op that is refused
+-- ---- an op that is not_begun
 
 idle_by : (es : List Event) (o : Option OpId) (running : Option Program) → RunsIn es o running → running ≡ None → o ≡ None
 idle_by [] o running going idle = going.0 ∙ ap op_running idle
@@ -171,10 +176,10 @@ module _ (a b : Inside) (is : IsClient a) (counts : b.counts ≡ a.counts) (pass
 
   module _ (c : Command) (idle : a.actor.state.running ≡ None) (goes : a.actor.state.stopped ≡ false)
       (few : a.actor.state.number + 1 < 2 ^ 31) (served : IsServed c)
-      (full : passes.IsFullForBegin a.pass) (after : b.actor ≡ record a.actor { state = refused a.actor.state (next_op_of a.actor) c })
-      (silent : b.refused.items ≡ a.refused.items ++ Refused (next_op_of a.actor) c ∷ []) (zero_count : b.transactions ≡ 0)
-          (space : vec_len b.refused < vec_capacity b.refused) where
-    refused_passed : Passed a b (Refused (next_op_of a.actor) c)
+      (full : passes.IsFullForBegin a.pass) (after : b.actor ≡ record a.actor { state = not_begun a.actor.state (next_op_of a.actor) c })
+      (silent : b.refused.items ≡ a.refused.items ++ NotBegun (next_op_of a.actor) c ∷ []) (zero_count : b.transactions ≡ 0)
+      (space : vec_len b.refused < vec_capacity b.refused) where
+    refused_passed : Passed a b (NotBegun (next_op_of a.actor) c)
     refused_passed = record {
       counts = counts;
       pass = pass;
@@ -188,15 +193,15 @@ module _ (a b : Inside) (is : IsClient a) (counts : b.counts ≡ a.counts) (pass
       own_op = rw after (λ y h. sym (some_op _ y h));
       idle = idle_by a.refused.items a.pass.running a.actor.state.running is.going idle;
       full = full;
-      refused = rw after refl;
+      not_begun = rw after refl;
       counted = zero_count ∙ sym (quiet a.counts (events_in (life_of a)) (next_op_of a.actor) is.run (omega (arith, number_is)))
-          ∙ sym (count_other (events_in (life_of a)) (Refused (next_op_of a.actor) c) (next_op_of a.actor) refl)
-          ∙ ap (λ (x : ActorState). transactions (events_in (life_of a) ++ Refused (next_op_of a.actor) c ∷ []) (op_of x)) (sym after);
+          ∙ sym (count_other (events_in (life_of a)) (NotBegun (next_op_of a.actor) c) (next_op_of a.actor) refl)
+          ∙ ap (λ (x : ActorState). transactions (events_in (life_of a) ++ NotBegun (next_op_of a.actor) c ∷ []) (op_of x)) (sym after);
       space = λ runs. space;
     }
 
     pub refused_client : IsClient b
-    refused_client = passed_client a b (Refused (next_op_of a.actor) c) is refused_passed
+    refused_client = passed_client a b (NotBegun (next_op_of a.actor) c) is refused_passed
 
   -- ---- its end
 
@@ -212,8 +217,8 @@ module _ (a b : Inside) (is : IsClient a) (counts : b.counts ≡ a.counts) (pass
         → (op_of b.actor ≡ op_of a.actor) → b.transactions ≡ transactions (events_in (life_of a) ++ e ∷ []) (op_of b.actor)
     counted_still e same op =
         count ∙ is.counted ∙ ap
-            (λ (s : Actor). let o : OpId = record { actor = a.actor.actor; number = s.number } in transactions (events_in (life_of a)) o)
-            (sym is.state)
+        (λ (s : Actor). let o : OpId = record { actor = a.actor.actor; number = s.number } in transactions (events_in (life_of a)) o)
+        (sym is.state)
         ∙ sym same ∙ ap (transactions (events_in (life_of a) ++ e ∷ [])) (sym op)
 
     module _ (after : b.actor ≡ record a.actor { state = record a.actor.state { running = None } })
@@ -232,7 +237,7 @@ module _ (a b : Inside) (is : IsClient a) (counts : b.counts ≡ a.counts) (pass
         own_op = rw after (λ y h. absurd cc);
         idle = was.0;
         full = full_by a.refused.items a.pass is.full some;
-        refused = rw after tt;
+        not_begun = rw after tt;
         counted = counted_still (Ended (op_of a.actor) no_room)
             (count_other (events_in (life_of a)) (Ended (op_of a.actor) no_room) (op_of a.actor) refl) (ap op_of after);
         space = λ still. absurd
@@ -255,7 +260,7 @@ module _ (a b : Inside) (is : IsClient a) (counts : b.counts ≡ a.counts) (pass
         own_op = rw after (λ y h. absurd cc);
         idle = was.0;
         full = full_by a.refused.items a.pass is.full some;
-        refused = rw after tt;
+        not_begun = rw after tt;
         counted = counted_still (Stopped (op_of a.actor))
             (count_other (events_in (life_of a)) (Stopped (op_of a.actor)) (op_of a.actor) refl) (ap op_of after);
         space = λ still. absurd

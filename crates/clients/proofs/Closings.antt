@@ -1,6 +1,6 @@
 -- the fields of a client after what its calls did
-use Rattle.std.proofs.Common.{◌≡◌, ◌≢◌, ℕ, ◌+◌, ◌<◌, ◌^◌, true, false, Option, Some, None, IsSome, IsNone, [], ◌∷◌, ◌++◌, length, sym, ap,
-    ◌∙◌, subst, arith}
+use Rattle.std.proofs.Common.{◌≡◌, ◌≢◌, ℕ, ◌+◌, ◌<◌, ◌^◌, true, false, Option, Some, None, IsSome, IsNone, [], ◌∷◌, ◌++◌, length, sym, ap}
+use Rattle.std.proofs.Common.{◌∙◌, subst, arith}
 use Rattle.std.specs.Prelude.{Result, Ok, Err, IsOk, OnOk, is_err, ◌==◌, vec_len}
 use Rattle.tect_ids.specs.declared.ids.Counts.{Counts}
 use Rattle.tect_ids.specs.declared.ids.OpId.{OpId}
@@ -107,7 +107,7 @@ module _ {W : Type 0} (done : W → W → ℕ → AnyReq → Result Entry Refuse
     turned_client count =
         let stage : Stage a.counts b.actor b.pass (a.transactions + step.transactions) =
         step_stage done a.counts w v a.actor b.actor a.pass b.pass a.transactions (stage_of a noted_before is) (runs_here a l is view runs)
-            step took in
+        step took in
         let own : b.actor.actor ≡ a.actor.actor = finished_actor _ b.actor _ b.pass step.answer took.finishes in
         client_of b noted_after (rw counts is.places) (rw own is.is_actor) (rw (counts, count) stage)
 
@@ -120,7 +120,7 @@ module _ {W : Type 0} (done : W → W → ℕ → AnyReq → Result Entry Refuse
     pub turned_step : OwnStep done w v l (life_of b) (turned_by step.answer)
     turned_step =
         let here = own_step done a.counts w v a.actor b.actor a.pass b.pass a.transactions (stage_of a noted_before is)
-            (runs_here a l is view runs) step took in
+        (runs_here a l is view runs) step took in
         subst (λ (x : ClientLife). OwnStep done w v x (life_of b) (turned_by step.answer)) life_before
         (subst (λ (x : ClientLife). OwnStep done w v (life_at a.counts a.actor a.pass) x (turned_by step.answer)) life_after here)
 
@@ -151,25 +151,25 @@ same_stage counts a p r t moments running clock actor stage = record {
 module _ (a b : Inside) (m : Pass) (c noted_as : Command) (l : ClientLife) (is : IsClient a) (view : life_of a ≡ l)
     (idle : IsNone (state_in l).running)
     (goes : (state_in l).stopped ≡ false) (few : (state_in l).number + 1 < 2 ^ 31) (served : IsServed c) (room : ¬ RefusesNext l)
-        (copied : noted_as ≡ c) where
+    (copied : noted_as ≡ c) where
   pub begun_client : m.moments.items ≡ a.pass.moments.items → m.running ≡ a.pass.running → m.clock ≡ a.pass.clock → m.actor ≡ a.pass.actor
       → b.actor ≡ record a.actor { state = begun a.actor.state (next_op_of a.actor) c } → (op : OpId) → op ≡ op_of b.actor
       → b.pass.moments.items ≡ m.moments.items ++ Local (m.clock + 1) m.actor (notes.Began op noted_as) ∷ [] → b.pass.clock ≡ m.clock + 1
-          → b.pass.actor ≡ m.actor
+      → b.pass.actor ≡ m.actor
       → b.pass.running ≡ Some op → b.counts ≡ a.counts → b.refused ≡ a.refused → b.transactions ≡ 0 → IsClient b
   begun_client same_moments same_running same_clock same_actor after op op_is moments clock actor running counts refused zero_count =
       let noted : a.refused.items ≡ [] = noted_here a l is view room in
       let noted_still : b.refused.items ≡ [] = ap (λ (x : _). x.items) refused ∙ noted in
       let stage : Stage a.counts a.actor m a.transactions = same_stage a.counts a.actor a.pass m a.transactions same_moments same_running
-          same_clock same_actor (stage_of a noted is) in
+      same_clock same_actor (stage_of a noted is) in
       let first : op ≡ next_op_of a.actor = op_is ∙ ap op_of after in
       let told : b.pass.moments.items ≡ m.moments.items ++ Local (m.clock + 1) m.actor (notes.Began (next_op_of a.actor) c) ∷ [] =
       moments ∙ ap (λ (o : OpId). m.moments.items ++ Local (m.clock + 1) m.actor (notes.Began o noted_as) ∷ []) first
       ∙ ap (λ (d : Command). m.moments.items ++ Local (m.clock + 1) m.actor (notes.Began (next_op_of a.actor) d) ∷ []) copied in
       let own : ¬ passes.IsFullForBegin m = λ full. room
-          (refuses_here a l is view (same_full a.pass m same_moments same_running same_clock full)) in
+      (refuses_here a l is view (same_full a.pass m same_moments same_running same_clock full)) in
       let next = begun_stage a.counts a.actor m b.pass a.transactions c stage is.is_actor (idle_here a l is view idle)
-          (goes_here a l is view goes) (few_here a l is view few) served own told clock actor (running ∙ ap Some first) in
+      (goes_here a l is view goes) (few_here a l is view few) served own told clock actor (running ∙ ap Some first) in
       client_of b noted_still (rw counts is.places) (rw after is.is_actor) (rw (counts, after, zero_count) next)
 
 -- ---- a stop that is noted
@@ -179,7 +179,7 @@ module _ (a b : Inside) (l : ClientLife) (is : IsClient a) (view : life_of a ≡
   pub stopped_client : b.actor ≡ record a.actor { state = record a.actor.state { stopped = true; running = None } } → (op : OpId)
       → op ≡ op_of a.actor
       → b.pass.moments.items ≡ a.pass.moments.items ++ Local (a.pass.clock + 1) a.pass.actor (notes.Stopped op) ∷ []
-          → b.pass.clock ≡ a.pass.clock + 1 → b.pass.actor ≡ a.pass.actor
+      → b.pass.clock ≡ a.pass.clock + 1 → b.pass.actor ≡ a.pass.actor
       → b.pass.running ≡ None → b.counts ≡ a.counts → b.refused ≡ a.refused → b.transactions ≡ a.transactions → IsClient b
   stopped_client after op op_is moments clock actor running counts refused count =
       let here : a.refused.items ≡ [] = silent_here a l is view noted in
@@ -187,5 +187,5 @@ module _ (a b : Inside) (l : ClientLife) (is : IsClient a) (view : life_of a ≡
       let told : b.pass.moments.items ≡ a.pass.moments.items ++ Local (a.pass.clock + 1) a.pass.actor (notes.Stopped (op_of a.actor)) ∷ [] =
       moments ∙ ap (λ (o : OpId). a.pass.moments.items ++ Local (a.pass.clock + 1) a.pass.actor (notes.Stopped o) ∷ []) op_is in
       let next = stopped_stage a.counts a.actor a.pass b.pass a.transactions (stage_of a here is) (runs_here a l is view runs) told clock
-          actor running in
+      actor running in
       client_of b still (rw counts is.places) (rw after is.is_actor) (rw (counts, after, count) next)

@@ -7,14 +7,14 @@ use Rattle.std.proofs.lemmas.List.Sums.{count_by-le-length}
 use Rattle.tect_ids.specs.declared.ids.OpId.{OpId}
 use Rattle.entry_words.specs.declared.entry.Moment.{Moment}
 use Rattle.world_runs.specs.declared.event.Event.{Event}
-use Rattle.world_runs.specs.declared.event.Event.TheVariants.{Began, Refused, Acted, Ended, Stopped, Failed, Dumped}
+use Rattle.world_runs.specs.declared.event.Event.TheVariants.{Began, NotBegun, Acted, Ended, Stopped, Failed, Dumped}
 use Rattle.world_runs.specs.Report.{is_act_of, transactions}
 use Rattle.world_runs.specs.Events.{event_of, events_of}
 use Rattle.world_runs.specs.Woven.{IsSilent}
 use Rattle.world_runs.proofs.OwnLines.{transactions-append}
 
 silent_event : (op : OpId) (e : Event) → IsSilent e → transactions (e ∷ []) op ≡ 0
-silent_event op (Refused other c) is = refl
+silent_event op (NotBegun other c) is = refl
 silent_event op (Ended other a) is = refl
 silent_event op (Stopped other) is = refl
 silent_event op (Failed other a) is = refl
@@ -29,5 +29,11 @@ silent_none op (e ∷ es) all = omega (arith, transactions-append (e ∷ []) es 
 pub few_transactions : (ms : List Moment) (silent : List Event) (op : OpId) (n : ℕ) → length ms ≤ n → All IsSilent silent
     → transactions (events_of ms ++ silent) op ≤ n
 few_transactions ms silent op n few all =
-    omega (arith, transactions-append (events_of ms) silent op, silent_none op silent (recursion_from_All IsSilent silent all),
-        count_by-le-length (is_act_of op) (events_of ms), length-map ms event_of, few)
+    omega (
+      arith,
+      transactions-append (events_of ms) silent op,
+      silent_none op silent (recursion_from_All IsSilent silent all),
+      count_by-le-length (is_act_of op) (events_of ms),
+      length-map ms event_of,
+      few,
+    )

@@ -1,6 +1,6 @@
 -- what a step tells: its op's transaction, or its end; and a command that goes on is nearer to its end
-use Rattle.std.proofs.Common.{◌≡◌, inl, inr, ℕ, ◌+◌, ◌<◌, Option, Some, None, List, [], ◌∷◌, ◌++◌, refl, ap, ◌∙◌, length, length-append,
-    arith}
+use Rattle.std.proofs.Common.{◌≡◌, inl, inr, ℕ, ◌+◌, ◌<◌, Option, Some, None, List, [], ◌∷◌, ◌++◌, refl, ap, ◌∙◌, length, length-append}
+use Rattle.std.proofs.Common.{arith}
 use Rattle.std.specs.Prelude.{Result, Ok, Err, MatchResult, OnOk, OnErr}
 use Rattle.tect_ids.specs.declared.ids.Counts.{Counts}
 use Rattle.tect_ids.specs.declared.ids.OpId.{OpId}
@@ -24,8 +24,8 @@ use Rattle.clients.specs.declared.turned.Turned.TheVariants.{Going, Done}
 use Rattle.clients.specs.Turns.{turned_by}
 use Rattle.passes.specs.declared.commits.Astray.{Astray}
 use Rattle.clients.specs.Lives.{ClientLife, events_in, state_in, op_in, Begins, left_in, IsLife}
-use Rattle.clients.specs.Steps.{entry_in, Tried, Unasked, Did, Denied, EndsSo, state_after, WentAstray, tried_events, end_events,
-    tried_life, ended_with, ended_life, OwnStep}
+use Rattle.clients.specs.Steps.{entry_in, Tried, Unasked, Did, Denied, EndsSo, state_after, WentAstray, tried_events, end_events}
+use Rattle.clients.specs.Steps.{tried_life, ended_with, ended_life, OwnStep}
 use Rattle.clients.specs.PassSteps.{act_count}
 
 -- the events of a step
@@ -67,7 +67,7 @@ module _ {W : Type 0} (done : W → W → ℕ → AnyReq → Result Entry Refuse
   going_acts step =
       let none : step.answer ≡ None = not_done step.answer step.told in
       let here : Acts (op_in old) 1 (step_events old.silent (op_in old) step.tried None) = one_act
-          (state_after old.counts (state_in old) step.tried) old.silent (op_in old) step.tried (rw none at step.ends) in
+      (state_after old.counts (state_in old) step.tried) old.silent (op_in old) step.tried (rw none at step.ends) in
       rw none here
 
   pub done_ends : (a : Answer) (step : OwnStep done w v old new (Done a))
@@ -124,7 +124,7 @@ module _ {W : Type 0} (done : W → W → ℕ → AnyReq → Result Entry Refuse
   pub step_counts : new.counts ≡ old.counts
   step_counts =
       ap (λ (l : ClientLife). l.counts) step.life ∙ ended_counts (tried_life old step.stamp step.tried) (op_in old) step.answer ∙
-          tried_counts old step.stamp step.tried
+      tried_counts old step.stamp step.tried
 
   pub step_actor : new.actor ≡ old.actor
   step_actor = ap (λ (l : ClientLife). l.actor) step.life ∙ ended_actor (tried_life old step.stamp step.tried) (op_in old) step.answer ∙
@@ -147,7 +147,7 @@ module _ {W : Type 0} (done : W → W → ℕ → AnyReq → Result Entry Refuse
 pub same_op : {W : Type 0} (done : W → W → ℕ → AnyReq → Result Entry Refused → Type 0) (w v : W) (old new : ClientLife)
     (r : Result Turned Astray)
     → MatchResult r (OwnStep done w v old new) (λ e. WentAstray done w v old new (refusals.Astray e.want e.found))
-        → (new.counts ≡ old.counts) × (op_in new ≡ op_in old)
+    → (new.counts ≡ old.counts) × (op_in new ≡ op_in old)
 same_op done w v old new (Ok turned) step = (step_counts done w v old new turned step, step_op done w v old new turned step)
 same_op done w v old new (Err e) astray = (ap (λ (l : ClientLife). l.counts) astray.life, ap op_in astray.life)
 
@@ -176,5 +176,5 @@ step_nearer done w v old new is step =
     let none : step.answer ≡ None = not_done step.answer step.told in
     let adds = did_adds old (state_after old.counts (state_in old) step.tried) step.stamp (op_in old) step.tried (rw none at step.ends) in
     let life : new ≡ ended_life (tried_life old step.stamp step.tried) (op_in old) None = step.life ∙ ap
-        (ended_life (tried_life old step.stamp step.tried) (op_in old)) none in
+    (ended_life (tried_life old step.stamp step.tried) (op_in old)) none in
     omega (arith, is.few, adds, ap (λ (l : ClientLife). length l.moments) life)

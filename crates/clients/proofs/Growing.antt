@@ -1,6 +1,6 @@
 -- an actor's own events, when one more comes
-use Rattle.std.proofs.Common.{◌≡◌, ◌≢◌, ℕ, ◌+◌, ◌<◌, ◌≤◌, true, false, if◌then◌else◌, cond, Option, Some, None, List, [], ◌∷◌, ◌++◌, length,
-    refl, sym, ap, ◌∙◌, arith}
+use Rattle.std.proofs.Common.{◌≡◌, ◌≢◌, ℕ, ◌+◌, ◌<◌, ◌≤◌, true, false, if◌then◌else◌, cond, Option, Some, None, List, [], ◌∷◌, ◌++◌, length}
+use Rattle.std.proofs.Common.{refl, sym, ap, ◌∙◌, arith}
 use Rattle.std.specs.Option.{ForSome}
 use Rattle.std.proofs.lemmas.List.Sums.{sum_by-append, count_by-le-length}
 use Rattle.tect_ids.specs.declared.ids.Counts.{Counts}
@@ -14,7 +14,7 @@ use Rattle.store_rules.specs.declared.any.AnyReply.{AnyReply}
 use Rattle.store_rules.specs.Views.{is_made}
 use Rattle.program_rules.specs.declared.program.Program.{Program}
 use Rattle.world_runs.specs.declared.event.Event.{Event}
-use Rattle.world_runs.specs.declared.event.Event.TheVariants.{Began, Refused, Acted, Ended, Stopped, Failed, Dumped}
+use Rattle.world_runs.specs.declared.event.Event.TheVariants.{Began, NotBegun, Acted, Ended, Stopped, Failed, Dumped}
 use Rattle.program_rules.specs.Lacks.{IsLack}
 use Rattle.world_runs.specs.Moments.{Actor, idle_actor, program_of, program_ask, heard, next_serial}
 use Rattle.world_runs.specs.Races.{is_own}
@@ -101,7 +101,7 @@ heard_no_later counts serial q x (Some r) n low p is = rw (← some_op _ p is) (
 
 no_later_after : (counts : Counts) (s : Actor) (e : Event) → OwnMay s e → RunsNoLater s → RunsNoLater (own_after counts s e)
 no_later_after counts s (Began op c) may low p is = rw (← some_op _ p is) (omega arith)
-no_later_after counts s (Refused op c) may low p is = rw (← some_op _ p is) (omega arith)
+no_later_after counts s (NotBegun op c) may low p is = rw (← some_op _ p is) (omega arith)
 no_later_after counts s (Acted op q x) may low p is = heard_no_later counts s.serial q x s.running s.number low p is
 no_later_after counts s (Ended op a) may low p is = absurd cc
 no_later_after counts s (Stopped op) may low p is = absurd cc
@@ -110,7 +110,7 @@ no_later_after counts s Dumped may low p is = low p is
 
 numbers_grow : (counts : Counts) (s : Actor) (e : Event) → OwnMay s e → s.number ≤ (own_after counts s e).number
 numbers_grow counts s (Began op c) may = omega (arith, (may.0).next)
-numbers_grow counts s (Refused op c) may = omega (arith, (may.0).next)
+numbers_grow counts s (NotBegun op c) may = omega (arith, (may.0).next)
 numbers_grow counts s (Acted op q x) may = omega arith
 numbers_grow counts s (Ended op a) may = omega arith
 numbers_grow counts s (Stopped op) may = omega arith
@@ -127,8 +127,8 @@ asks_its : (serial : ℕ) (o : Option Program) (op : OpId) (q : AnyReq) → prog
 asks_its serial None op q is = absurd cc
 asks_its serial (Some p) op q is =
     elim (op_eq p.op op) as
-        (λ b. op_eq p.op op ≡ b → program_ask serial (if b then Some p else None) ≡ Some q → (r : Program) × (Some p ≡ Some r)
-        × (r.op ≡ op)) [
+    (λ b. op_eq p.op op ≡ b → program_ask serial (if b then Some p else None) ≡ Some q → (r : Program) × (Some p ≡ Some r)
+    × (r.op ≡ op)) [
       | true ↦ λ e h. (p, refl, grind (arith, op_eq_cases p.op op))
       | false ↦ λ e h. absurd cc
     ] refl is
@@ -140,7 +140,7 @@ not_its_act s (Acted other q x) op low may late =
     let differs : other ≢ op = λ same. absurd (omega (arith, ap (λ (o : OpId). o.number) same)) in
     grind (arith, op_eq_cases other op)
 not_its_act s (Began other c) op low may late = refl
-not_its_act s (Refused other c) op low may late = refl
+not_its_act s (NotBegun other c) op low may late = refl
 not_its_act s (Ended other a) op low may late = refl
 not_its_act s (Stopped other) op low may late = refl
 not_its_act s (Failed other a) op low may late = refl
@@ -169,7 +169,7 @@ next_serial-le serial x = elim (is_made x) as (λ b. (if b then serial + 1 else 
 serial_after : (counts : Counts) (s : Actor) (e : Event) → (own_after counts s e).serial ≤ s.serial + 1
 serial_after counts s (Acted op q x) = next_serial-le s.serial x
 serial_after counts s (Began op c) = omega arith
-serial_after counts s (Refused op c) = omega arith
+serial_after counts s (NotBegun op c) = omega arith
 serial_after counts s (Ended op a) = omega arith
 serial_after counts s (Stopped op) = omega arith
 serial_after counts s (Failed op a) = omega arith

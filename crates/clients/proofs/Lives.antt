@@ -71,7 +71,7 @@ module _ (a : Inside) (noted : a.refused.items ≡ []) where
         smooth = going.1;
         counted = is.counted ∙ ap (λ (es : List Event). transactions es (op_in (life_of a))) events_noted
             ∙ ap (λ (s : Actor). let op : OpId = record { actor = a.actor.actor; number = s.number } in transactions (own_events a.pass) op)
-                (sym is.state);
+            (sym is.state);
       }
 
   pub client_of : HasPlaces a.counts → IsActor a.actor.actor → Stage a.counts a.actor a.pass a.transactions → IsClient a
@@ -92,7 +92,7 @@ module _ (a : Inside) (noted : a.refused.items ≡ []) where
         full = rw noted tt;
         counted = stage.counted ∙ ap (λ (es : List Event). transactions es (op_of a.actor)) (sym events_noted)
             ∙ ap (λ (s : Actor). let op : OpId = record { actor = a.actor.actor; number = s.number }
-                in transactions (events_in (life_of a)) op) state;
+            in transactions (events_in (life_of a)) op) state;
         room = λ runs some. absurd (omega (arith, ap length noted, some));
       }
 
@@ -102,7 +102,7 @@ module _ (a : Inside) (noted : a.refused.items ≡ []) where
       let stage = stage_of is in
       let few = serials-few a.counts (own_events a.pass) in
       let serial : a.actor.state.serial ≡ (own_state a.counts idle_actor (own_events a.pass)).serial = ap (λ (s : Actor). s.serial)
-          stage.state in
+      stage.state in
       omega (arith, few, serial, a.pass.known.few, length_of a.pass)
 
   pub count_few : IsClient a → a.transactions + 1 < 2 ^ 64

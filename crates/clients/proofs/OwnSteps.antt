@@ -1,6 +1,6 @@
 -- the step of an actor with its pass, as a step of its client's life
-use Rattle.std.proofs.Common.{◌≡◌, ℕ, ◌+◌, inl, inr, Option, Some, None, IsSome, List, [], ◌∷◌, ◌++◌, length, refl, sym, ap, ◌∙◌, subst,
-    arith, append_assoc}
+use Rattle.std.proofs.Common.{◌≡◌, ℕ, ◌+◌, inl, inr, Option, Some, None, IsSome, List, [], ◌∷◌, ◌++◌, length, refl, sym, ap, ◌∙◌, subst}
+use Rattle.std.proofs.Common.{arith, append_assoc}
 use Rattle.std.specs.Prelude.{Result, Ok}
 use Rattle.std.proofs.lemmas.List.{append-nil}
 use Rattle.tect_ids.specs.declared.ids.Counts.{Counts}
@@ -28,11 +28,11 @@ use Rattle.clients.specs.Turns.{turned_by}
 use Rattle.clients.specs.declared.steps.Step.{Step}
 use Rattle.passes.specs.Adding.{entry_at}
 use Rattle.clients.specs.Lives.{ClientLife, events_in, state_in, op_in}
-use Rattle.clients.specs.Steps.{Tried, Unasked, Did, Denied, Asks, DidThere, state_after, EndsSo, entry_in, tried_life, ended_life,
-    tried_events, end_events, is_later, OwnStep, WentAstray}
+use Rattle.clients.specs.Steps.{Tried, Unasked, Did, Denied, Asks, DidThere, state_after, EndsSo, entry_in, tried_life, ended_life}
+use Rattle.clients.specs.Steps.{tried_events, end_events, is_later, OwnStep, WentAstray}
 use Rattle.clients.specs.PassSteps.{Finishes, Tries, act_count, after_try, TookStep, LostStep}
-use Rattle.clients.proofs.Stages.{own_events, Stage, pushed_events, runs_op, heard_some, acted_pushed, acted_stage, Because, ended_pushed,
-    ended_stage}
+use Rattle.clients.proofs.Stages.{own_events, Stage, pushed_events, runs_op, heard_some, acted_pushed, acted_stage, Because, ended_pushed}
+use Rattle.clients.proofs.Stages.{ended_stage}
 
 -- its life, where no op was refused
 abbrev pub life_at : Counts → ActorState → Pass → ClientLife
@@ -73,9 +73,16 @@ module _ (counts : Counts) (a : ActorState) (p : Pass) (t : ℕ) (stage : Stage 
         let number : passes.op_number p.running ≡ (state_in (life_at counts a p)).number =
         ap passes.op_number (runs_op counts a p t stage runs) ∙ ap (λ (s : Actor). s.number) state_at in
         let step : p.steps ≡ length (trail_of p.moments.items) = omega
-            (arith, steps_count-len 0 p.steps (trail_of p.moments.items) p.known.counted) in
-        λ i. record { stamp = stamp; place = request_place counts q; actor = stage.same i; number = number i; step = step i; req = q;
-            reply = x }
+        (arith, steps_count-len 0 p.steps (trail_of p.moments.items) p.known.counted) in
+        λ i. record {
+          stamp = stamp;
+          place = request_place counts q;
+          actor = stage.same i;
+          number = number i;
+          step = step i;
+          req = q;
+          reply = x;
+        }
 
     pub tried_life_is : (r : Pass) (tried : Tried) → Tries counts p r tried
         → life_at counts (after_try counts a tried) r ≡ tried_life (life_at counts a p) r.clock tried
@@ -96,7 +103,7 @@ module _ (counts : Counts) (a : ActorState) (p : Pass) (t : ℕ) (stage : Stage 
     tried_own r Unasked asks tries = same_events r tries
     tried_own r (Did q x) asks tries =
         pushed_events counts a _ p r t t (Act (entry_at counts r.clock p q x)) (Acted (op_of a) q x) stage
-            (acted_pushed counts a p t stage runs r q x asks tries.0 tries.1)
+        (acted_pushed counts a p t stage runs r q x asks tries.0 tries.1)
     tried_own r (Denied q refusals.NoMemory) asks tries = same_events r tries
     tried_own r (Denied q (refusals.HistoryFull place)) asks tries = same_events r tries.0
     tried_own r (Denied q (refusals.Astray want found)) asks tries = same_events r tries
@@ -136,7 +143,7 @@ later_of counts p r (Denied q e) tries = tt
 because : (counts : Counts) (a : ActorState) (p r : Pass) (t n : ℕ) (tried : Tried) (stage : Stage counts (after_try counts a tried) r n)
     (runs : IsSome (after_try counts a tried).state.running)
     → Asks a.state tried → Tries counts p r tried → (x : Answer) → EndsSo (state_after counts a.state tried) tried (Some x)
-        → Because counts (after_try counts a tried) r n stage runs x
+    → Because counts (after_try counts a tried) r n stage runs x
 because counts a p r t n Unasked stage runs asks tries x (inl is) = inl is
 because counts a p r t n Unasked stage runs asks tries x (inr is) = inr (inl is)
 because counts a p r t n (Did q y) stage runs asks tries x (inl is) = inl is
@@ -171,28 +178,28 @@ module _ {W : Type 0} (done : W → W → ℕ → AnyReq → Result Entry Refuse
     step_stage =
         let last : Stage counts b r (t + act_count took.tried) =
         finished_stage counts (after_try counts a took.tried) took.middle (t + act_count took.tried) middle_stage middle_runs b r
-            step.answer took.finishes why in
+        step.answer took.finishes why in
         rw took.acted last
 
     step_life : life_at counts b r ≡ ended_life (tried_life (life_at counts a p) took.middle.clock took.tried) (op_in (life_at counts a p))
         step.answer
     step_life =
         let op : op_of (after_try counts a took.tried) ≡ op_in (life_at counts a p) = number_stays counts a took.tried ∙ sym
-            (op_at counts a p t stage) in
+        (op_at counts a p t stage) in
         finished_life counts (after_try counts a took.tried) took.middle (t + act_count took.tried) middle_stage middle_runs b r step.answer
-            took.finishes
+        took.finishes
         ∙ ap (λ (o : OpId). ended_life (life_at counts (after_try counts a took.tried) took.middle) o step.answer) op
         ∙ ap (λ (l : ClientLife). ended_life l (op_in (life_at counts a p)) step.answer)
-            (tried_life_is counts a p t stage runs took.middle took.tried took.tries)
+        (tried_life_is counts a p t stage runs took.middle took.tried took.tries)
 
     step_own : own_events r ≡ own_events p ++ (tried_events (op_of a) took.tried ++ end_events [] (op_of a) step.answer)
     step_own =
         finished_own counts (after_try counts a took.tried) took.middle (t + act_count took.tried) middle_stage middle_runs b r step.answer
-            took.finishes why
+        took.finishes why
         ∙ ap (λ (es : List Event). es ++ end_events [] (op_of (after_try counts a took.tried)) step.answer)
-            (tried_own counts a p t stage runs took.middle took.tried took.asks took.tries)
+        (tried_own counts a p t stage runs took.middle took.tried took.asks took.tries)
         ∙ ap (λ (o : OpId). (own_events p ++ tried_events (op_of a) took.tried) ++ end_events [] o step.answer)
-            (number_stays counts a took.tried)
+        (number_stays counts a took.tried)
         ∙ append_assoc (own_events p) (tried_events (op_of a) took.tried) (end_events [] (op_of a) step.answer)
 
     step_events : events_in (life_at counts b r) ≡ events_in (life_at counts a p) ++
@@ -201,8 +208,8 @@ module _ {W : Type 0} (done : W → W → ℕ → AnyReq → Result Entry Refuse
         append-nil (own_events r) ∙ step_own
         ∙ ap (λ (o : OpId). own_events p ++ (tried_events o took.tried ++ end_events [] o step.answer)) (sym (op_at counts a p t stage))
         ∙ ap (λ (es : List Event). es ++
-            (tried_events (op_in (life_at counts a p)) took.tried ++ end_events [] (op_in (life_at counts a p)) step.answer))
-            (sym (append-nil (own_events p)))
+        (tried_events (op_in (life_at counts a p)) took.tried ++ end_events [] (op_in (life_at counts a p)) step.answer))
+        (sym (append-nil (own_events p)))
 
     there_at : (tried : Tried) → DidThere done w v p.clock (entry_at counts took.middle.clock p) tried
         → DidThere done w v p.clock (entry_in (life_at counts a p) took.middle.clock) tried

@@ -54,7 +54,7 @@ module _ (a b : Inside) (e : Event) (is : IsClient a) (passed : Passed a b e) wh
   pub passed_events : events_in (life_of b) ≡ events_in (life_of a) ++ e ∷ []
   passed_events =
       ap (λ (p : Pass). events_of p.moments.items ++ b.refused.items) passed.pass ∙ ap
-          (λ (es : List Event). events_of a.pass.moments.items ++ es) passed.silent
+      (λ (es : List Event). events_of a.pass.moments.items ++ es) passed.silent
       ∙ sym (append_assoc (events_of a.pass.moments.items) a.refused.items (e ∷ []))
 
   passed_state : b.actor.state ≡ own_state b.counts idle_actor (events_in (life_of a) ++ e ∷ [])
@@ -75,7 +75,7 @@ module _ (a b : Inside) (e : Event) (is : IsClient a) (passed : Passed a b e) wh
       let soon : a.pass.clock < 2 ^ 63 = subst (λ (p : Pass). p.clock < 2 ^ 63) passed.pass early in
       subst (λ (c : Counts). OwnLimits c [] idle_actor (events_in (life_of a) ++ e ∷ [])) (sym passed.counts)
       (limits_push a.counts (events_in (life_of a)) e (is.limits soon)
-          (subst (λ (s : Actor). KeepsRoom a.counts (events_in (life_of a)) s e) is.state (passed.room soon)))
+      (subst (λ (s : Actor). KeepsRoom a.counts (events_in (life_of a)) s e) is.state (passed.room soon)))
 
   passed_own : own b.actor.actor (events_in (life_of a) ++ e ∷ []) ≡ events_in (life_of a) ++ e ∷ []
   passed_own = ap (λ (k : ℕ). own k (events_in (life_of a) ++ e ∷ [])) passed.actor ∙ own_push a.actor.actor (events_in (life_of a)) e
@@ -98,6 +98,6 @@ module _ (a b : Inside) (e : Event) (is : IsClient a) (passed : Passed a b e) wh
     full = full_push a.refused.items b.refused.items e b.pass passed.silent (rw passed.pass passed.full);
     counted = passed.counted ∙ ap (λ (es : List Event). transactions es (op_of b.actor)) (sym passed_events)
         ∙ ap (λ (s : Actor). let op : OpId = record { actor = b.actor.actor; number = s.number } in transactions (events_in (life_of b)) op)
-            state_is;
+        state_is;
     room = λ runs some. passed.space runs;
   }

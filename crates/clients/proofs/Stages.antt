@@ -1,6 +1,6 @@
 -- a client whose ops were all noted: its actor and its pass, when one moment more comes
-use Rattle.std.proofs.Common.{◌≡◌, ℕ, ◌+◌, ◌<◌, ◌≤◌, ◌^◌, ◌⊎◌, inl, inr, true, Option, Some, None, IsSome, List, [], ◌∷◌, ◌++◌, refl, sym,
-    ap, ◌∙◌, subst, arith}
+use Rattle.std.proofs.Common.{◌≡◌, ℕ, ◌+◌, ◌<◌, ◌≤◌, ◌^◌, ◌⊎◌, inl, inr, true, Option, Some, None, IsSome, List, [], ◌∷◌, ◌++◌, refl, sym}
+use Rattle.std.proofs.Common.{ap, ◌∙◌, subst, arith}
 use Rattle.std.specs.Option.{ForSome}
 use Rattle.std.specs.List.{All}
 use Rattle.std.proofs.lemmas.List.{map-append}
@@ -36,8 +36,8 @@ use Rattle.passes.specs.Adding.{Committed, NotedEnd, entry_at}
 use Rattle.program_rules.specs.Asking.{RunsSmoothly, op_running}
 use Rattle.clients.specs.PassSteps.{ended}
 use Rattle.program_rules.proofs.Phases.{smooth_hears, smooth_answers}
-use Rattle.clients.proofs.Growing.{state_push, run_push, limits_push, own_push, program_own, heard_own, plain_end, count_act, count_other,
-    end_no_act}
+use Rattle.clients.proofs.Growing.{state_push, run_push, limits_push, own_push, program_own, heard_own, plain_end, count_act, count_other}
+use Rattle.clients.proofs.Growing.{end_no_act}
 use Rattle.clients.proofs.Weights.{fills, has_room}
 
 abbrev pub own_events : Pass → List Event
@@ -155,7 +155,7 @@ module _ (counts : Counts) (a : ActorState) (p : Pass) (t : ℕ) (stage : Stage 
     acted_event : event_of (Act (entry_at counts r.clock p q x)) ≡ Acted (op_of a) q x
     acted_event =
         let by : (k : ℕ) (o : Option OpId) → k ≡ a.actor → o ≡ Some (op_of a)
-            → (let op : OpId = record { actor = k; number = passes.op_number o } in Acted op q x ≡ Acted (op_of a) q x) =
+        → (let op : OpId = record { actor = k; number = passes.op_number o } in Acted op q x ≡ Acted (op_of a) q x) =
         λ k o e f. rw (e, f) refl in
         by p.actor p.running stage.same runs_op
 
@@ -190,7 +190,7 @@ module _ (counts : Counts) (a : ActorState) (p : Pass) (t : ℕ) (stage : Stage 
   abbrev pub Because : Answer → Type 0
   Because x = (program_answer a.state.running ≡ Some x) ⊎ ((x ≡ answers.NoMemory)
       ⊎ ((place : Place) × (q : AnyReq) × (x ≡ answers.HistoryFull place) × passes.IsFull p
-          × (program_ask a.state.serial a.state.running ≡ Some q) × (place ≡ request_place counts q)))
+      × (program_ask a.state.serial a.state.running ≡ Some q) × (place ≡ request_place counts q)))
 
   module _ (b : ActorState) (r : Pass) (x : Answer) (after : b ≡ ended a) (done : NotedEnd p r (notes.Ended (op_of a) x)) where
     ended_by : (e : Event) → end_event (op_of a) x ≡ e → OwnMay a.state e → (r.clock < 2 ^ 63 → KeepsRoom counts (own_events p) a.state e)
@@ -233,12 +233,14 @@ module _ (counts : Counts) (a : ActorState) (p : Pass) (t : ℕ) (stage : Stage 
     ended_pushed (inr (inr (place, q, is, full, asks, at))) =
         subst (Pushed counts a b p r (Local (p.clock + 1) p.actor (notes.Ended (op_of a) x))) (sym (ap (end_event (op_of a)) is))
         (failed_by (answers.HistoryFull place) is refl tt
-        (λ early. (rw (← stage.same) (fills p full (omega (arith, done.clock, early))),
-            (q, ap (program_ask a.state.serial) its_program ∙ asks, at))))
+        (λ early. (
+          rw (← stage.same) (fills p full (omega (arith, done.clock, early))),
+          (q, ap (program_ask a.state.serial) its_program ∙ asks, at),
+        )))
 
     pub ended_stage : Because x → Stage counts b r t
     ended_stage why =
         push_stage counts a b p r t t (Local (p.clock + 1) p.actor (notes.Ended (op_of a) x)) (end_event (op_of a) x) stage
-            (ended_pushed why)
+        (ended_pushed why)
         (stage.counted ∙ sym (count_other (own_events p) (end_event (op_of a) x) (op_of a) (end_no_act (op_of a) (op_of a) x))
         ∙ ap (λ (z : ActorState). transactions (own_events p ++ end_event (op_of a) x ∷ []) (op_of z)) (sym after))

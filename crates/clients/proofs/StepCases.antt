@@ -41,7 +41,7 @@ module _ {W : Type 0} (done : W → W → ℕ → AnyReq → Result Entry Refuse
   pub did_step : (m : Pass) (q : AnyReq) (x : AnyReply) (answer : Option Answer) → program_ask a.state.serial a.state.running ≡ Some q
       → done w v p.clock q (Ok (entry_at counts m.clock p q x)) → ¬ IsFull p
       → Committed counts p m q x → Settles (record a { state = went_on counts a.state q x }) b m r answer
-          → TookStep done counts w v a b p r (record { transactions = 1; answer = answer })
+      → TookStep done counts w v a b p r (record { transactions = 1; answer = answer })
   did_step m q x answer asks did room committed settles = record {
     tried = Did q x;
     middle = m;

@@ -1,6 +1,6 @@
 -- what a pass takes up is what the events of its moments do
-use Rattle.std.proofs.Common.{◌≡◌, ℕ, ◌+◌, ◌<◌, ◌^◌, inl, inr, Bool, true, false, ◌&&◌, if◌then◌else◌, List, [], ◌∷◌, refl, sym, ap, ◌∙◌,
-    eqb, arith}
+use Rattle.std.proofs.Common.{◌≡◌, ℕ, ◌+◌, ◌<◌, ◌^◌, inl, inr, Bool, true, false, ◌&&◌, if◌then◌else◌, List, [], ◌∷◌, refl, sym, ap, ◌∙◌}
+use Rattle.std.proofs.Common.{eqb, arith}
 use Rattle.std.proofs.lemmas.List.Sums.{sum_by-cons}
 use Rattle.tect_ids.specs.declared.ids.OpId.{OpId}
 use Rattle.tect_ids.specs.declared.answer.Answer.{Answer}
@@ -14,7 +14,7 @@ use Rattle.store_rules.specs.ReplyBytes.{reply_bytes}
 use Rattle.entry_words.specs.Moments.{op_of, trail_of, all_of_actor, all_notes_of, all_reply_bytes, moment_cost, moments_cost}
 use Rattle.passes.specs.Commits as passes
 use Rattle.world_runs.specs.declared.event.Event.{Event}
-use Rattle.world_runs.specs.declared.event.Event.TheVariants.{Began, Refused, Acted, Ended, Stopped, Failed, Dumped}
+use Rattle.world_runs.specs.declared.event.Event.TheVariants.{Began, NotBegun, Acted, Ended, Stopped, Failed, Dumped}
 use Rattle.world_runs.specs.Events.{end_event, event_of, events_of}
 use Rattle.world_runs.specs.Limits.{event_cost, event_bytes, used, kept_bytes, IsFull}
 use Rattle.world_runs.specs.Woven.{IsSilent}
@@ -65,7 +65,7 @@ moments_keep a [] own = refl
 moments_keep a (Act e ∷ ms) own =
     let here = both (eqb e.actor a) (all_of_actor a ms) own in
     sum_by-cons (event_bytes a) (event_of (Act e)) (events_of ms) ∙ ap
-        (λ (b : Bool). (if b then reply_bytes e.reply else 0) + kept_bytes (events_of ms) a) here.0
+    (λ (b : Bool). (if b then reply_bytes e.reply else 0) + kept_bytes (events_of ms) a) here.0
     ∙ ap (λ (n : ℕ). reply_bytes e.reply + n) (moments_keep a ms here.1)
 moments_keep a (Local stamp by note ∷ ms) own =
     let here = both (eqb by a) (all_of_actor a ms) own in
@@ -94,7 +94,7 @@ module _ (p : Pass) where
 pub silent_cost : (a : ℕ) (e : Event) → IsSilent e → event_cost a e ≡ 0
 silent_cost a (Began op c) silent = absurd silent
 silent_cost a (Acted op q x) silent = absurd silent
-silent_cost a (Refused op c) silent = refl
+silent_cost a (NotBegun op c) silent = refl
 silent_cost a (Ended op x) silent = refl
 silent_cost a (Stopped op) silent = refl
 silent_cost a (Failed op x) silent = refl

@@ -11,7 +11,7 @@ use Rattle.entry_words.specs.declared.entry.Moment.TheVariants.{Local}
 use Rattle.entry_words.specs.declared.entry.Note.TheVariants as notes
 use Rattle.entry_words.specs.Moments.{rises, all_of_actor, all_notes_of, running_in}
 use Rattle.world_runs.specs.declared.event.Event.{Event}
-use Rattle.world_runs.specs.declared.event.Event.TheVariants.{Refused, Stopped}
+use Rattle.world_runs.specs.declared.event.Event.TheVariants.{NotBegun, Stopped}
 use Rattle.world_runs.specs.Moments.{Actor, idle_actor}
 use Rattle.world_runs.specs.Events.{events_of, own}
 use Rattle.world_runs.specs.OwnRuns.{OwnRun, own_state}
@@ -52,12 +52,15 @@ idle_life actor counts = record { counts = counts; actor = actor; clock = 0; mom
 -- the next op begins the command, and that is noted
 abbrev pub begun_life : ClientLife → Command → ClientLife
 begun_life life c =
-    record life { clock = life.clock + 1; moments = life.moments ++ Local (life.clock + 1) life.actor (notes.Began (next_op_in life) c)
-        ∷ [] }
+    record life {
+      clock = life.clock + 1;
+      moments = life.moments ++ Local (life.clock + 1) life.actor (notes.Began (next_op_in life) c)
+          ∷ [];
+    }
 
 -- it is refused, and nothing is noted
 abbrev pub refused_life : ClientLife → Command → ClientLife
-refused_life life c = record life { silent = life.silent ++ Refused (next_op_in life) c ∷ [] }
+refused_life life c = record life { silent = life.silent ++ NotBegun (next_op_in life) c ∷ [] }
 
 -- one of the two, as there is room
 abbrev pub Begins : ClientLife → ClientLife → Command → Type 0

@@ -4,7 +4,7 @@ ghost use Rattle.tect_ids.specs.declared.ids.Counts.{Counts};
 ghost use Rattle.store_rules.specs.declared.any.AnyReq.{AnyReq};
 ghost use Rattle.store_rules.specs.Places.{request_place};
 ghost use Rattle.tect_calls.specs.Knowing.{IsActor};
-ghost use Rattle.world_runs.specs.Moments.{idle_actor, begun, refused, went_on, next_serial, program_ask, program_answer};
+ghost use Rattle.world_runs.specs.Moments.{idle_actor, begun, not_begun, went_on, next_serial, program_ask, program_answer};
 ghost use Rattle.clients.specs.ActorState.{op_of, next_op_of};
 
 use op_names::Running;
@@ -110,11 +110,11 @@ impl Actor {
         requires idle { IsNone self.old.state.running }
         requires goes_on { self.old.state.stopped ≡ false }
         requires few { self.old.state.number + 1 < 2 ^ 32 }
-        ensures { self.new ≡ record self.old { state = refused self.old.state (next_op_of self.old) command } }
+        ensures { self.new ≡ record self.old { state = not_begun self.old.state (next_op_of self.old) command } }
     {
         let op = self.next_op();
         self.number += 1;
-        self.running = Some(Running::refused(self.alloc, op, command));
+        self.running = Some(Running::not_begun(self.alloc, op, command));
     }
 
     /// The request that its command makes next, with the tokens that it needs; none where it has its answer, or where no

@@ -228,7 +228,7 @@ impl Client {
         self.actor.begin_refused(command);
         self.transactions = 0;
         let op = self.actor.op();
-        push_event(&mut self.refused, Event::Refused { op, command: kept });
+        push_event(&mut self.refused, Event::NotBegun { op, command: kept });
         Ok(())
     }
 

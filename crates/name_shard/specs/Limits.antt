@@ -4,9 +4,9 @@ use Rattle.std.specs.FinMap.{FinMap, len}
 use Rattle.tect_ids.specs.declared.ids.DirId.{DirId}
 use Rattle.tect_ids.specs.Keys.{key_cmp}
 use Rattle.key_maps.specs.Maps.{within}
-use Rattle.store_rules.specs.declared.names.Entry.{Entry}
+use Rattle.store_rules.specs.declared.names.DirectoryEntry.{DirectoryEntry}
 use Rattle.store_rules.specs.Names.{entry_limit}
 
 -- no directory has more entries than that
-pub record IsWithinLimit (entries : FinMap key_cmp Entry) : Type 0 where
+pub record IsWithinLimit (entries : FinMap key_cmp DirectoryEntry) : Type 0 where
   pub count : (d : DirId) → len (within entries d) ≤ entry_limit

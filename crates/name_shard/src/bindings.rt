@@ -13,7 +13,7 @@ ghost use Rattle.name_shard.specs.Outcomes.{outcome_of, dir_refusal};
 use crate::outcome::Outcome;
 use crate::shard::NameShard;
 use key_maps::EntryTable;
-use store_rules::{Entry, NameReply, Replaced};
+use store_rules::{DirectoryEntry, NameReply, Replaced};
 use tect_ids::{DirId, Hold, Key, Name, NoMemory, Node, Over, Want};
 
 // How many entries a directory may have.
@@ -77,7 +77,7 @@ impl NameShard {
         match self.bind_outcome(key, over) {
             Outcome::Leaves(reply) => Ok(reply),
             Outcome::Changes(reply) => {
-                self.entries.put(key, Entry { node, hold })?;
+                self.entries.put(key, DirectoryEntry { node, hold })?;
                 Ok(reply)
             }
         }
@@ -144,7 +144,7 @@ impl NameShard {
         dir: DirId,
         from: &Name,
         to: &Name,
-        entry: Entry,
+        entry: DirectoryEntry,
     ) -> Result<NameReply, NoMemory>
         ensures answers { IfOk result (λ x. x ≡ reply (swap_answer self.old dir from.now to.now entry.node)) }
         ensures steps { OnOk result (self.new ≡ name_step self.old (req.Swap dir from.now to.now entry.node entry.hold)) }
@@ -162,7 +162,7 @@ impl NameShard {
 }
 
 // What an unbind of any file comes to at what stands at the key.
-fn unbind_any(entry: Option<&Entry>) -> Outcome
+fn unbind_any(entry: Option<&DirectoryEntry>) -> Outcome
     ensures { outcome_of result ≡ unbind_any (option_copied entry.entry) }
 {
     let Some(entry) = entry else {
@@ -175,7 +175,7 @@ fn unbind_any(entry: Option<&Entry>) -> Outcome
 }
 
 // What an unbind of that node alone comes to at what stands at the key.
-fn unbind_node(entry: Option<&Entry>, node: Node) -> Outcome
+fn unbind_node(entry: Option<&DirectoryEntry>, node: Node) -> Outcome
     ensures { outcome_of result ≡ unbind_node (option_copied entry.entry) node }
 {
     let Some(entry) = entry else {
@@ -189,7 +189,7 @@ fn unbind_node(entry: Option<&Entry>, node: Node) -> Outcome
     unbound(entry)
 }
 
-fn unbound(entry: &Entry) -> Outcome
+fn unbound(entry: &DirectoryEntry) -> Outcome
     ensures { outcome_of result ≡ Changes (Unbound entry.now.node entry.now.hold) }
 {
     Outcome::Changes(NameReply::Unbound {
@@ -205,7 +205,7 @@ fn is_node(a: Node, b: Node) -> bool
 }
 
 // What a swap comes to at what stands at the new name; the hold is that of the old name.
-fn swap_over(over: Option<&Entry>, node: Node, hold: Hold) -> Outcome
+fn swap_over(over: Option<&DirectoryEntry>, node: Node, hold: Hold) -> Outcome
     ensures { outcome_of result ≡ swap_over (option_copied over.entry) node hold }
 {
     let Some(old) = over else {
@@ -226,10 +226,10 @@ fn swap_over(over: Option<&Entry>, node: Node, hold: Hold) -> Outcome
 
 // Takes the entry at the old key away and puts one at the new key, or nothing of it for want of memory.
 fn rename_entry(
-    entries: &mut EntryTable<Entry>,
+    entries: &mut EntryTable<DirectoryEntry>,
     from: &Key,
     to: &Key,
-    entry: Entry,
+    entry: DirectoryEntry,
 ) -> Result<(), NoMemory>
     ensures moved { OnOk result (entries.new ≡ set_at (set_at entries.old from.now None) to.now (Some entry)) }
     ensures unchanged { OnErr result (entries.new ≡ entries.old) }

@@ -4,7 +4,7 @@ ghost use Rattle.store_rules.specs.Dumps.{dir_line, dir_lines, entry_line, dir_s
 ghost use Rattle.name_shard.specs.DirDumps.{dir_dump};
 
 use crate::shard::NameShard;
-use store_rules::{Directory, Entry};
+use store_rules::{Directory, DirectoryEntry};
 use tect_ids::{DirId, DirState, DumpLine, Key, NoMemory};
 
 impl NameShard {
@@ -76,7 +76,7 @@ impl NameShard {
         })
     }
 
-    fn entry_line(&self, key: &Key, entry: &Entry) -> Result<DumpLine, NoMemory>
+    fn entry_line(&self, key: &Key, entry: &DirectoryEntry) -> Result<DumpLine, NoMemory>
         ensures { IfOk result (λ line. line ≡ entry_line (key.now, entry.now)) }
     {
         Ok(DumpLine::Entry {

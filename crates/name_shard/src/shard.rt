@@ -6,7 +6,7 @@ ghost use Rattle.name_shard.specs.Memory.{takes_no_memory};
 use key_maps::{DirMap, EntryTable, HoldList};
 use std::alloc::Global;
 use std::marker::Model;
-use store_rules::{Directory, Entry, NameReply, NameReq};
+use store_rules::{Directory, DirectoryEntry, NameReply, NameReq};
 use tect_ids::{DirId, NoMemory, ROOT};
 
 /// A shard of the Name layer: some of the directories, each with all of its entries. No directory comes to have more than
@@ -15,7 +15,7 @@ use tect_ids::{DirId, NoMemory, ROOT};
 pub struct NameShard {
     pub(crate) alloc: Global,
     pub(crate) dirs: DirMap<Directory>,
-    pub(crate) entries: EntryTable<Entry>,
+    pub(crate) entries: EntryTable<DirectoryEntry>,
 }
 
 impl Model for NameShard {
@@ -91,7 +91,7 @@ impl NameShard {
                 node,
                 hold,
             } => {
-                let entry = Entry {
+                let entry = DirectoryEntry {
                     node: *node,
                     hold: *hold,
                 };

@@ -39,7 +39,8 @@ lines_follow actor busy b (lines.Sweep ∷ ls) es last at does = absurd does
 lines_follow actor busy b (lines.Lose disk ∷ ls) es last at does = absurd does
 
 pub clients_follow : ClientsFollow
-clients_follow ls history does actor = lines_follow actor none_busy None (filter (line_concerns actor) ls) (filter (concerns actor) history) (does actor).0 refl (does actor).1
+clients_follow ls history does actor = lines_follow actor none_busy None (filter (line_concerns actor) ls) (filter (concerns actor) history)
+    (does actor).0 refl (does actor).1
 
 -- some lines, and then further ones
 pub does_lines-append : (actor : ℕ) (a b c : Option OpId) (ls ks : List Line) (es fs : List Event) → DoesLines actor a ls es b

@@ -13,7 +13,7 @@ use Rattle.entry_words.specs.declared.entry.Note.TheVariants as notes
 use Rattle.entry_words.specs.Moments.{actor_of, all_notes_of, all_of_actor, all_reply_bytes, moment_cost, moments_cost, trail_of}
 use Rattle.store_rules.specs.ReplyBytes.{reply_bytes}
 use Rattle.world_runs.specs.declared.event.Event.{Event}
-use Rattle.world_runs.specs.declared.event.Event.TheVariants.{Began, Refused, Acted, Ended, Stopped, Failed, Dumped}
+use Rattle.world_runs.specs.declared.event.Event.TheVariants.{Began, NotBegun, Acted, Ended, Stopped, Failed, Dumped}
 use Rattle.world_runs.specs.Races.{concerns, is_own}
 use Rattle.world_runs.specs.Events.{end_event, event_of, events_of, own}
 use Rattle.world_runs.specs.Events.{IsOwnNote}
@@ -26,12 +26,21 @@ use Rattle.world_runs.proofs.Actors.{one_number}
 pub own_notes : (actor : ℕ) (ms : List Moment) → all_of_actor actor ms ≡ true → all_notes_of actor ms ≡ true → AllByRecursion IsOwnNote ms
 own_notes actor [] of noted = tt
 own_notes actor (Act e ∷ ms) of noted = (tt, own_notes actor ms (and_parts _ _ of).1 noted)
-own_notes actor (Local stamp by (notes.Began op c) ∷ ms) of noted =
-    (one_number op.actor actor (and_parts _ _ noted).0 ∙ sym (one_number by actor (and_parts _ _ of).0), own_notes actor ms (and_parts _ _ of).1 (and_parts _ _ noted).1)
-own_notes actor (Local stamp by (notes.Ended op a) ∷ ms) of noted =
-    (one_number op.actor actor (and_parts _ _ noted).0 ∙ sym (one_number by actor (and_parts _ _ of).0), own_notes actor ms (and_parts _ _ of).1 (and_parts _ _ noted).1)
-own_notes actor (Local stamp by (notes.Stopped op) ∷ ms) of noted =
-    (one_number op.actor actor (and_parts _ _ noted).0 ∙ sym (one_number by actor (and_parts _ _ of).0), own_notes actor ms (and_parts _ _ of).1 (and_parts _ _ noted).1)
+own_notes actor (Local stamp by (notes.Began op c) ∷ ms) of noted = (
+  one_number op.actor actor (and_parts _ _ noted).0 ∙ sym (one_number by actor (and_parts _ _ of).0),
+  own_notes actor ms
+      (and_parts _ _ of).1 (and_parts _ _ noted).1,
+)
+own_notes actor (Local stamp by (notes.Ended op a) ∷ ms) of noted = (
+  one_number op.actor actor (and_parts _ _ noted).0 ∙ sym (one_number by actor (and_parts _ _ of).0),
+  own_notes actor ms
+      (and_parts _ _ of).1 (and_parts _ _ noted).1,
+)
+own_notes actor (Local stamp by (notes.Stopped op) ∷ ms) of noted = (
+  one_number op.actor actor (and_parts _ _ noted).0 ∙ sym (one_number by actor (and_parts _ _ of).0),
+  own_notes actor ms
+      (and_parts _ _ of).1 (and_parts _ _ noted).1,
+)
 
 -- ---- the room
 
@@ -56,7 +65,8 @@ pub used_moments : (actor : ℕ) (ms : List Moment) → all_of_actor actor ms �
     → used (events_of ms) actor ≡ moments_cost ms
 used_moments actor [] of noted = refl
 used_moments actor (m ∷ ms) of noted =
-    let rest : used (events_of ms) actor ≡ moments_cost ms = used_moments actor ms (and_parts (eqb (actor_of m) actor) (all_of_actor actor ms) of).1 (other_notes actor m ms noted) in
+    let rest : used (events_of ms) actor ≡ moments_cost ms = used_moments actor ms
+    (and_parts (eqb (actor_of m) actor) (all_of_actor actor ms) of).1 (other_notes actor m ms noted) in
     let first : event_cost actor (event_of m) ≡ moment_cost m = moment_used actor m ms of noted in
     omega (arith, first, rest, sum_by-cons (event_cost actor) (event_of m) (events_of ms), sum_by-cons moment_cost m ms)
 
@@ -75,18 +85,21 @@ pub bytes_of_moments : (actor : ℕ) (ms : List Moment) → all_of_actor actor m
     → kept_bytes (events_of ms) actor ≡ all_reply_bytes (trail_of ms)
 bytes_of_moments actor [] of = refl
 bytes_of_moments actor (Act e ∷ ms) of =
-    let rest : kept_bytes (events_of ms) actor ≡ all_reply_bytes (trail_of ms) = bytes_of_moments actor ms (and_parts (eqb e.actor actor) (all_of_actor actor ms) of).1 in
-    let first : event_bytes actor (event_of (Act e)) ≡ reply_bytes e.reply = ap (λ b. if b then reply_bytes e.reply else 0) (and_parts _ _ of).0 in
+    let rest : kept_bytes (events_of ms) actor ≡ all_reply_bytes (trail_of ms) = bytes_of_moments actor ms
+    (and_parts (eqb e.actor actor) (all_of_actor actor ms) of).1 in
+    let first : event_bytes actor (event_of (Act e)) ≡ reply_bytes e.reply = ap (λ b. if b then reply_bytes e.reply else 0)
+    (and_parts _ _ of).0 in
     omega (arith, first, rest, sum_by-cons (event_bytes actor) (event_of (Act e)) (events_of ms))
 bytes_of_moments actor (Local stamp by note ∷ ms) of =
-    let rest : kept_bytes (events_of ms) actor ≡ all_reply_bytes (trail_of ms) = bytes_of_moments actor ms (and_parts (eqb by actor) (all_of_actor actor ms) of).1 in
+    let rest : kept_bytes (events_of ms) actor ≡ all_reply_bytes (trail_of ms) = bytes_of_moments actor ms
+    (and_parts (eqb by actor) (all_of_actor actor ms) of).1 in
     let first : event_bytes actor (event_of (Local stamp by note)) ≡ 0 = note_bytes actor stamp by note in
     omega (arith, first, rest, sum_by-cons (event_bytes actor) (event_of (Local stamp by note)) (events_of ms))
 
 -- ---- refusals take no room
 
 silent_cost : (actor : ℕ) (e : Event) → IsSilent e → event_cost actor e ≡ 0
-silent_cost actor (Refused op c) is = refl
+silent_cost actor (NotBegun op c) is = refl
 silent_cost actor (Ended op a) is = refl
 silent_cost actor (Stopped op) is = refl
 silent_cost actor (Failed op a) is = refl
@@ -95,7 +108,7 @@ silent_cost actor (Acted op q x) is = absurd is
 silent_cost actor Dumped is = absurd is
 
 silent_bytes : (actor : ℕ) (e : Event) → IsSilent e → event_bytes actor e ≡ 0
-silent_bytes actor (Refused op c) is = refl
+silent_bytes actor (NotBegun op c) is = refl
 silent_bytes actor (Ended op a) is = refl
 silent_bytes actor (Stopped op) is = refl
 silent_bytes actor (Failed op a) is = refl
@@ -105,17 +118,19 @@ silent_bytes actor Dumped is = absurd is
 
 pub no_room_used : (actor : ℕ) (es : List Event) → AllByRecursion IsSilent es → used es actor ≡ 0
 no_room_used actor [] quiet = refl
-no_room_used actor (e ∷ es) quiet = omega (arith, silent_cost actor e quiet.0, no_room_used actor es quiet.1, sum_by-cons (event_cost actor) e es)
+no_room_used actor (e ∷ es) quiet = omega
+    (arith, silent_cost actor e quiet.0, no_room_used actor es quiet.1, sum_by-cons (event_cost actor) e es)
 
 pub no_bytes_kept : (actor : ℕ) (es : List Event) → AllByRecursion IsSilent es → kept_bytes es actor ≡ 0
 no_bytes_kept actor [] quiet = refl
-no_bytes_kept actor (e ∷ es) quiet = omega (arith, silent_bytes actor e quiet.0, no_bytes_kept actor es quiet.1, sum_by-cons (event_bytes actor) e es)
+no_bytes_kept actor (e ∷ es) quiet = omega
+    (arith, silent_bytes actor e quiet.0, no_bytes_kept actor es quiet.1, sum_by-cons (event_bytes actor) e es)
 
 -- ---- own events
 
 not_own : (actor : ℕ) (e : Event) → concerns actor e ≡ false → is_own actor e ≡ false
 not_own actor (Began op c) h = h
-not_own actor (Refused op c) h = h
+not_own actor (NotBegun op c) h = h
 not_own actor (Acted op q x) h = h
 not_own actor (Ended op a) h = h
 not_own actor (Stopped op) h = h
@@ -126,7 +141,9 @@ not_own actor Dumped h = absurd cc
 pub own_of_concerns : (actor : ℕ) (es : List Event) → own actor (filter (concerns actor) es) ≡ own actor es
 own_of_concerns actor [] = refl
 own_of_concerns actor (e ∷ es) =
-    elim (concerns actor e) as (λ b. concerns actor e ≡ b → own actor (if b then e ∷ filter (concerns actor) es else filter (concerns actor) es) ≡ own actor (e ∷ es)) [
+    elim (concerns actor e) as
+    (λ b. concerns actor e ≡ b
+    → own actor (if b then e ∷ filter (concerns actor) es else filter (concerns actor) es) ≡ own actor (e ∷ es)) [
       | true ↦ λ h. ap (λ os. if is_own actor e then e ∷ os else os) (own_of_concerns actor es)
       | false ↦ λ h. own_of_concerns actor es ∙ sym (ap (λ b. if b then e ∷ own actor es else own actor es) (not_own actor e h))
     ] refl

@@ -15,7 +15,7 @@ use Rattle.entry_words.specs.declared.entry.Moment.{Moment}
 use Rattle.entry_words.specs.declared.entry.Moment.TheVariants.{Act, Local}
 use Rattle.entry_words.specs.declared.entry.Note.TheVariants as notes
 use Rattle.world_runs.specs.declared.event.Event.{Event}
-use Rattle.world_runs.specs.declared.event.Event.TheVariants.{Began, Refused, Acted, Ended, Stopped, Failed, Dumped}
+use Rattle.world_runs.specs.declared.event.Event.TheVariants.{Began, NotBegun, Acted, Ended, Stopped, Failed, Dumped}
 use Rattle.world_runs.specs.Moments.{WorldState, moment}
 use Rattle.world_runs.specs.Races.{concerns, is_own, own_lines, lines_from, part_lines, race_report_after}
 use Rattle.world_runs.specs.Events.{end_event, event_of, events_of, own}
@@ -35,19 +35,21 @@ use Rattle.noted_runs.proofs.Weaving.{AreSilentCuts, filter_agree_where, keeps, 
 pub by_client_agree : (names : List (List ℕ)) (actor : ℕ) (f g : ℕ → List ReportLine) → ((a : ℕ) → f a ≡ g a)
     → by_client names actor f ≡ by_client names actor g
 by_client_agree [] actor f g same = refl
-by_client_agree (name ∷ names) actor f g same = ap (λ l. l ++ by_client names (actor + 1) f) (same actor) ∙ ap (λ l. g actor ++ l) (by_client_agree names (actor + 1) f g same)
+by_client_agree (name ∷ names) actor f g same = ap (λ l. l ++ by_client names (actor + 1) f) (same actor) ∙ ap (λ l. g actor ++ l)
+    (by_client_agree names (actor + 1) f g same)
 
 pub lines_by_client : (counts : Counts) (clients names : List (List ℕ)) (actor : ℕ) (before part : List Event)
     → lines_from counts clients names actor before part ≡ by_client names actor (λ a. own_lines counts clients a before part)
 lines_by_client counts clients [] actor before part = refl
-lines_by_client counts clients (name ∷ names) actor before part = ap (λ l. own_lines counts clients actor before part ++ l) (lines_by_client counts clients names (actor + 1) before part)
+lines_by_client counts clients (name ∷ names) actor before part = ap (λ l. own_lines counts clients actor before part ++ l)
+    (lines_by_client counts clients names (actor + 1) before part)
 
 -- ---- the parts of a report
 
 -- no event is a dump
 abbrev pub IsNoDump : Event → Type 0
 IsNoDump (Began op c) = Unit {0}
-IsNoDump (Refused op c) = Unit {0}
+IsNoDump (NotBegun op c) = Unit {0}
 IsNoDump (Acted op q x) = Unit {0}
 IsNoDump (Ended op a) = Unit {0}
 IsNoDump (Stopped op) = Unit {0}
@@ -63,12 +65,18 @@ grown counts clients before part e es fs h = h ∙ ap (λ p. race_report_after c
 pub part_grows : (counts : Counts) (clients : List (List ℕ)) (before part es fs : List Event) → AllByRecursion IsNoDump es
     → race_report_after counts clients before part (es ++ fs) ≡ race_report_after counts clients before (part ++ es) fs
 part_grows counts clients before part [] fs all = ap (λ p. race_report_after counts clients before p fs) (sym (append-nil part))
-part_grows counts clients before part (Began op c ∷ es) fs all = grown counts clients before part (Began op c) es fs (part_grows counts clients before (part ++ Began op c ∷ []) es fs all.1)
-part_grows counts clients before part (Refused op c ∷ es) fs all = grown counts clients before part (Refused op c) es fs (part_grows counts clients before (part ++ Refused op c ∷ []) es fs all.1)
-part_grows counts clients before part (Acted op q x ∷ es) fs all = grown counts clients before part (Acted op q x) es fs (part_grows counts clients before (part ++ Acted op q x ∷ []) es fs all.1)
-part_grows counts clients before part (Ended op a ∷ es) fs all = grown counts clients before part (Ended op a) es fs (part_grows counts clients before (part ++ Ended op a ∷ []) es fs all.1)
-part_grows counts clients before part (Stopped op ∷ es) fs all = grown counts clients before part (Stopped op) es fs (part_grows counts clients before (part ++ Stopped op ∷ []) es fs all.1)
-part_grows counts clients before part (Failed op a ∷ es) fs all = grown counts clients before part (Failed op a) es fs (part_grows counts clients before (part ++ Failed op a ∷ []) es fs all.1)
+part_grows counts clients before part (Began op c ∷ es) fs all = grown counts clients before part (Began op c) es fs
+    (part_grows counts clients before (part ++ Began op c ∷ []) es fs all.1)
+part_grows counts clients before part (NotBegun op c ∷ es) fs all = grown counts clients before part (NotBegun op c) es fs
+    (part_grows counts clients before (part ++ NotBegun op c ∷ []) es fs all.1)
+part_grows counts clients before part (Acted op q x ∷ es) fs all = grown counts clients before part (Acted op q x) es fs
+    (part_grows counts clients before (part ++ Acted op q x ∷ []) es fs all.1)
+part_grows counts clients before part (Ended op a ∷ es) fs all = grown counts clients before part (Ended op a) es fs
+    (part_grows counts clients before (part ++ Ended op a ∷ []) es fs all.1)
+part_grows counts clients before part (Stopped op ∷ es) fs all = grown counts clients before part (Stopped op) es fs
+    (part_grows counts clients before (part ++ Stopped op ∷ []) es fs all.1)
+part_grows counts clients before part (Failed op a ∷ es) fs all = grown counts clients before part (Failed op a) es fs
+    (part_grows counts clients before (part ++ Failed op a ∷ []) es fs all.1)
 part_grows counts clients before part (Dumped ∷ es) fs all = absurd all.0
 
 end_no_dump : (op : OpId) (a : Answer) → IsNoDump (end_event op a)
@@ -83,7 +91,7 @@ moment_no_dump (Local stamp by (notes.Ended op a)) = end_no_dump op a
 moment_no_dump (Local stamp by (notes.Stopped op)) = tt
 
 pub silent_no_dump : (e : Event) → IsSilent e → IsNoDump e
-silent_no_dump (Refused op c) is = tt
+silent_no_dump (NotBegun op c) is = tt
 silent_no_dump (Ended op a) is = tt
 silent_no_dump (Stopped op) is = tt
 silent_no_dump (Failed op a) is = tt
@@ -100,7 +108,7 @@ part_no_dump (m ∷ ms) silent quiet = (moment_no_dump m, part_no_dump ms silent
 
 pub no_dump_own : (actor : ℕ) (e : Event) → IsNoDump e → is_own actor e ≡ concerns actor e
 no_dump_own actor (Began op c) is = refl
-no_dump_own actor (Refused op c) is = refl
+no_dump_own actor (NotBegun op c) is = refl
 no_dump_own actor (Acted op q x) is = refl
 no_dump_own actor (Ended op a) is = refl
 no_dump_own actor (Stopped op) is = refl
@@ -121,7 +129,8 @@ module _ (counts : Counts) (clients : List (List ℕ)) where
       → part_lines counts clients history (events_of ms ++ silent) ≡ part_report counts clients before ms silent
   part_shown history before ms silent own_before are quiet =
       lines_by_client counts clients clients 1 history (events_of ms ++ silent)
-      ∙ by_client_agree clients 1 (λ a. own_lines counts clients a history (events_of ms ++ silent)) (λ a. own_lines counts clients a (before a) (own_part a ms silent))
+      ∙ by_client_agree clients 1 (λ a. own_lines counts clients a history (events_of ms ++ silent))
+      (λ a. own_lines counts clients a (before a) (own_part a ms silent))
       (λ a.
       sym (own_lines_own counts clients a history (events_of ms ++ silent))
       ∙ ap (λ b. own_lines counts clients a b (own a (events_of ms ++ silent))) (own_before a)
@@ -133,7 +142,8 @@ module _ (counts : Counts) (clients : List (List ℕ)) where
       → (moment counts (history ++ (events_of ms ++ silent))).store ≡ stored_after store (events_of ms)
   part_store history store ms silent at quiet =
       let part : List Event = events_of ms ++ silent in
-      ap (λ (m : WorldState). m.store) (moment-append counts history part) ∙ store_is_after (moment counts history) part ∙ ap (λ s. stored_after s part) at
+      ap (λ (m : WorldState). m.store) (moment-append counts history part) ∙ store_is_after (moment counts history) part ∙ ap
+      (λ s. stored_after s part) at
       ∙ stored_after-append store (events_of ms) silent ∙ (silent_replies (stored_after store (events_of ms)) silent quiet).1
 
   own_more : (history : List Event) (before : List Event) (a : ℕ) (ms : List Moment) (silent : List Event) → own a history ≡ before
@@ -149,7 +159,8 @@ module _ (counts : Counts) (clients : List (List ℕ)) where
       → race_report_after counts clients history [] (woven cuts last ms) ≡ parts_report counts clients before store cuts last ms
   reports_by [] last ms history before store own_before at are quiet =
       let part : List Event = events_of ms ++ last in
-      ap (λ es. race_report_after counts clients history [] es) (sym (append-nil part)) ∙ part_grows counts clients history [] part [] (part_no_dump ms last quiet.1)
+      ap (λ es. race_report_after counts clients history [] es) (sym (append-nil part)) ∙ part_grows counts clients history [] part []
+      (part_no_dump ms last quiet.1)
       ∙ part_shown history before ms last own_before are quiet.1
   reports_by (c ∷ cs) last ms history before store own_before at are quiet =
       let early : List Moment = filter (is_early c.stamp) ms in
@@ -157,19 +168,26 @@ module _ (counts : Counts) (clients : List (List ℕ)) where
       let part : List Event = events_of early ++ c.silent in
       let behind : List Event = (history ++ part) ++ Dumped ∷ [] in
       let own_early : AllByRecursion IsOwnNote early = keeps IsOwnNote (is_early c.stamp) ms are in
-      let store_then : (moment counts (history ++ part)).store ≡ stored_after store (events_of early) = part_store history store early c.silent at quiet.0.0 in
+      let store_then : (moment counts (history ++ part)).store ≡ stored_after store (events_of early) = part_store history store early
+      c.silent at quiet.0.0 in
       let store_behind : (moment counts behind).store ≡ stored_after store (events_of early) =
       ap (λ (m : WorldState). m.store) (moment-append counts (history ++ part) (Dumped ∷ [])) ∙ store_then in
       let rest : race_report_after counts clients behind [] (woven cs last late)
-      ≡ parts_report counts clients (λ actor. before actor ++ own_part actor early c.silent) (stored_after store (events_of early)) cs last late =
+      ≡ parts_report counts clients (λ actor. before actor ++ own_part actor early c.silent) (stored_after store (events_of early)) cs last
+      late =
       reports_by cs last late behind (λ actor. before actor ++ own_part actor early c.silent) (stored_after store (events_of early))
-      (λ a. own_more history (before a) a early c.silent (own_before a) own_early quiet.0.0) store_behind (keeps IsOwnNote (is_late c.stamp) ms are) (quiet.0.1, quiet.1) in
+      (λ a. own_more history (before a) a early c.silent (own_before a) own_early quiet.0.0) store_behind
+      (keeps IsOwnNote (is_late c.stamp) ms are) (quiet.0.1, quiet.1) in
       part_grows counts clients history [] part (Dumped ∷ woven cs last late) (part_no_dump early c.silent quiet.0.0)
-      ∙ ap (λ l. (l ++ map report_lines.Dump (store_dump (moment counts (history ++ part)).store)) ++ race_report_after counts clients behind [] (woven cs last late))
+      ∙ ap (λ l. (l ++ map report_lines.Dump (store_dump (moment counts (history ++ part)).store)) ++ race_report_after counts clients
+      behind [] (woven cs last late))
       (part_shown history before early c.silent own_before own_early quiet.0.0)
-      ∙ ap (λ s. (part_report counts clients before early c.silent ++ map report_lines.Dump (store_dump s)) ++ race_report_after counts clients behind [] (woven cs last late)) store_then
-      ∙ ap (λ l. (part_report counts clients before early c.silent ++ map report_lines.Dump (store_dump (stored_after store (events_of early)))) ++ l) rest
+      ∙ ap (λ s. (part_report counts clients before early c.silent ++ map report_lines.Dump (store_dump s)) ++ race_report_after counts
+      clients behind [] (woven cs last late)) store_then
+      ∙ ap (λ l. (part_report counts clients before early c.silent ++ map report_lines.Dump
+      (store_dump (stored_after store (events_of early)))) ++ l) rest
 
 pub woven_reports : WovenReports
 woven_reports counts clients cuts last ms are quiet =
-    reports_by counts clients cuts last ms [] (λ a. []) opening_store (λ a. refl) refl (recursion_from_All IsOwnNote ms are) (silent_cuts cuts last quiet)
+    reports_by counts clients cuts last ms [] (λ a. []) opening_store (λ a. refl) refl (recursion_from_All IsOwnNote ms are)
+    (silent_cuts cuts last quiet)

@@ -14,7 +14,7 @@ use Rattle.entry_words.specs.declared.entry.Moment.TheVariants.{Act, Local}
 use Rattle.entry_words.specs.declared.entry.Note.TheVariants as notes
 use Rattle.entry_words.specs.Moments.{stamp_of, is_of}
 use Rattle.world_runs.specs.declared.event.Event.{Event}
-use Rattle.world_runs.specs.declared.event.Event.TheVariants.{Began, Refused, Acted, Ended, Stopped, Failed, Dumped}
+use Rattle.world_runs.specs.declared.event.Event.TheVariants.{Began, NotBegun, Acted, Ended, Stopped, Failed, Dumped}
 use Rattle.world_runs.specs.Races.{concerns, is_own}
 use Rattle.world_runs.specs.Events.{end_event, event_of, events_of, own}
 use Rattle.world_runs.specs.Events.{IsOwnNote, StampsRise}
@@ -30,10 +30,11 @@ pub filter-swap : {X : Type 0} (p q : X → Bool) (xs : List X) → filter p (fi
 filter-swap p q [] = refl
 filter-swap p q (x ∷ xs) =
     elim (p x) as (λ a. p x ≡ a → filter p (filter q (x ∷ xs)) ≡ filter q (if a then x ∷ filter p xs else filter p xs)) [
-      | true ↦ λ h. elim (q x) as (λ b. filter p (if b then x ∷ filter q xs else filter q xs) ≡ (if b then x ∷ filter q (filter p xs) else filter q (filter p xs))) [
-        | true ↦ rw h (ap (λ ys. x ∷ ys) (filter-swap p q xs))
-        | false ↦ filter-swap p q xs
-      ]
+      | true ↦ λ h. elim (q x) as
+          (λ b. filter p (if b then x ∷ filter q xs else filter q xs) ≡ (if b then x ∷ filter q (filter p xs) else filter q (filter p xs))) [
+            | true ↦ rw h (ap (λ ys. x ∷ ys) (filter-swap p q xs))
+            | false ↦ filter-swap p q xs
+          ]
       | false ↦ λ h. elim (q x) as (λ b. filter p (if b then x ∷ filter q xs else filter q xs) ≡ filter q (filter p xs)) [
         | true ↦ rw h (filter-swap p q xs)
         | false ↦ filter-swap p q xs
@@ -66,13 +67,15 @@ events_concern actor (m ∷ ms) are =
     let same : concerns actor (event_of m) ≡ is_of actor m = moment_concerns actor m are.0 in
     let rest : filter (concerns actor) (events_of ms) ≡ events_of (filter (is_of actor) ms) = events_concern actor ms are.1 in
     rw (same, rest)
-    (elim (is_of actor m) as (λ b. (if b then event_of m ∷ events_of (filter (is_of actor) ms) else events_of (filter (is_of actor) ms)) ≡ events_of (if b then m ∷ filter (is_of actor) ms else filter (is_of actor) ms)) [
+    (elim (is_of actor m) as
+    (λ b. (if b then event_of m ∷ events_of (filter (is_of actor) ms) else events_of (filter (is_of actor) ms)) ≡ events_of
+    (if b then m ∷ filter (is_of actor) ms else filter (is_of actor) ms)) [
       | true ↦ refl
       | false ↦ refl
     ])
 
 silent_concerns : (actor : ℕ) (e : Event) → IsSilent e → concerns actor e ≡ is_own actor e
-silent_concerns actor (Refused op c) is = refl
+silent_concerns actor (NotBegun op c) is = refl
 silent_concerns actor (Ended op a) is = refl
 silent_concerns actor (Stopped op) is = refl
 silent_concerns actor (Failed op a) is = refl
@@ -89,7 +92,12 @@ silent_cuts cuts last are = (each cuts are.0, recursion_from_All IsSilent last a
   where
     each : (cs : List Cut) → All (λ (c : Cut). All IsSilent c.silent) cs → AllByRecursion (λ (c : Cut). AllByRecursion IsSilent c.silent) cs
     each [] all = tt
-    each (c ∷ cs) all = (recursion_from_All IsSilent c.silent (All-head (λ (d : Cut). All IsSilent d.silent) c cs all), each cs (All-tail (λ (d : Cut). All IsSilent d.silent) c cs all))
+    each (c ∷ cs) all
+        = (
+          recursion_from_All IsSilent c.silent (All-head (λ (d : Cut). All IsSilent d.silent) c cs all),
+          each cs
+              (All-tail (λ (d : Cut). All IsSilent d.silent) c cs all),
+        )
 
 pub keeps : (P : Moment → Type 0) (p : Moment → Bool) (ms : List Moment) → AllByRecursion P ms → AllByRecursion P (filter p ms)
 keeps P p ms all = recursion_from_All P (filter p ms) (All-filter p P ms (All-from_recursion P ms all))
@@ -99,7 +107,8 @@ pub part_concerns : (actor : ℕ) (silent : List Event) (ms : List Moment) → A
 part_concerns actor silent ms are quiet =
     filter-append (concerns actor) (events_of ms) silent
     ∙ ap (λ es. es ++ filter (concerns actor) silent) (events_concern actor ms are)
-    ∙ ap (λ es. events_of (filter (is_of actor) ms) ++ es) (filter_agree_where IsSilent (concerns actor) (is_own actor) (silent_concerns actor) silent quiet)
+    ∙ ap (λ es. events_of (filter (is_of actor) ms) ++ es)
+    (filter_agree_where IsSilent (concerns actor) (is_own actor) (silent_concerns actor) silent quiet)
 
 woven_concerns-by : (actor : ℕ) (cuts : List Cut) (last : List Event) (ms : List Moment) → AllByRecursion IsOwnNote ms
     → AreSilentCuts cuts last
@@ -108,10 +117,12 @@ woven_concerns-by actor [] last ms are quiet = part_concerns actor last ms are q
 woven_concerns-by actor (c ∷ cs) last ms are quiet =
     let early : List Moment = filter (is_early c.stamp) ms in
     let late : List Moment = filter (is_late c.stamp) ms in
-    let here : filter (concerns actor) (events_of early ++ c.silent) ≡ events_of (filter (is_early c.stamp) (filter (is_of actor) ms)) ++ own actor c.silent =
+    let here : filter (concerns actor) (events_of early ++ c.silent) ≡ events_of (filter (is_early c.stamp) (filter (is_of actor) ms)) ++
+    own actor c.silent =
     part_concerns actor c.silent early (keeps IsOwnNote (is_early c.stamp) ms are) quiet.0.0
     ∙ ap (λ os. events_of os ++ own actor c.silent) (filter-swap (is_of actor) (is_early c.stamp) ms) in
-    let there : filter (concerns actor) (woven cs last late) ≡ woven (own_cuts actor cs) (own actor last) (filter (is_late c.stamp) (filter (is_of actor) ms)) =
+    let there : filter (concerns actor) (woven cs last late) ≡ woven (own_cuts actor cs) (own actor last)
+    (filter (is_late c.stamp) (filter (is_of actor) ms)) =
     woven_concerns-by actor cs last late (keeps IsOwnNote (is_late c.stamp) ms are) (quiet.0.1, quiet.1)
     ∙ ap (λ os. woven (own_cuts actor cs) (own actor last) os) (filter-swap (is_of actor) (is_late c.stamp) ms) in
     filter-append (concerns actor) (events_of early ++ c.silent) (Dumped ∷ woven cs last late)
@@ -119,14 +130,15 @@ woven_concerns-by actor (c ∷ cs) last ms are quiet =
     ∙ ap (λ es. (events_of (filter (is_early c.stamp) (filter (is_of actor) ms)) ++ own actor c.silent) ++ Dumped ∷ es) there
 
 pub woven_concerns : WovenConcerns
-woven_concerns actor cuts last ms are quiet = woven_concerns-by actor cuts last ms (recursion_from_All IsOwnNote ms are) (silent_cuts cuts last quiet)
+woven_concerns actor cuts last ms are quiet = woven_concerns-by actor cuts last ms (recursion_from_All IsOwnNote ms are)
+    (silent_cuts cuts last quiet)
 
 -- ---- the replies
 
 -- refusals say nothing of the store
 pub silent_replies : (s : Store) (es : List Event) → AllByRecursion IsSilent es → RepliesAre s es × (stored_after s es ≡ s)
 silent_replies s [] quiet = (tt, refl)
-silent_replies s (Refused op c ∷ es) quiet = silent_replies s es quiet.1
+silent_replies s (NotBegun op c ∷ es) quiet = silent_replies s es quiet.1
 silent_replies s (Ended op a ∷ es) quiet = silent_replies s es quiet.1
 silent_replies s (Stopped op ∷ es) quiet = silent_replies s es quiet.1
 silent_replies s (Failed op a ∷ es) quiet = silent_replies s es quiet.1
@@ -147,10 +159,14 @@ all_late stamp low (m ∷ ms) above all =
 pub stamps_split : (stamp : ℕ) (ms : List Moment) → StampsRise ms → filter (is_early stamp) ms ++ filter (is_late stamp) ms ≡ ms
 stamps_split stamp [] rise = refl
 stamps_split stamp (m ∷ ms) rise =
-    elim (is_early stamp m) as (λ b. is_early stamp m ≡ b → (if b then m ∷ filter (is_early stamp) ms else filter (is_early stamp) ms) ++ (if not b then m ∷ filter (is_late stamp) ms else filter (is_late stamp) ms) ≡ m ∷ ms) [
+    elim (is_early stamp m) as
+    (λ b. is_early stamp m ≡ b
+    → (if b then m ∷ filter (is_early stamp) ms else filter (is_early stamp) ms) ++
+    (if not b then m ∷ filter (is_late stamp) ms else filter (is_late stamp) ms) ≡ m ∷ ms) [
       | true ↦ λ h. ap (λ ns. m ∷ ns) (stamps_split stamp ms rise.1)
       | false ↦ λ h.
-          let rest = all_late stamp (stamp_of m) ms (leb-false (stamp_of m) stamp h) (recursion_from_All (λ n. stamp_of m ≤ stamp_of n) ms rise.0) in
+          let rest = all_late stamp (stamp_of m) ms (leb-false (stamp_of m) stamp h)
+          (recursion_from_All (λ n. stamp_of m ≤ stamp_of n) ms rise.0) in
           rw (rest.0, rest.1) refl
     ] refl
 
@@ -175,12 +191,15 @@ woven_replies-by s [] last ms rise quiet replies = (quiet_behind s (events_of ms
 woven_replies-by s (c ∷ cs) last ms rise quiet replies =
     let early : List Moment = filter (is_early c.stamp) ms in
     let late : List Moment = filter (is_late c.stamp) ms in
-    let split : events_of ms ≡ events_of early ++ events_of late = ap events_of (sym (stamps_split c.stamp ms rise)) ∙ map-append event_of early late in
+    let split : events_of ms ≡ events_of early ++ events_of late = ap events_of (sym (stamps_split c.stamp ms rise)) ∙ map-append event_of
+    early late in
     let both : RepliesAre s (events_of early ++ events_of late) = subst (λ es. RepliesAre s es) split replies in
     let front = quiet_behind s (events_of early) c.silent quiet.0.0 (replies-front s (events_of early) (events_of late) both) in
     let rest : RepliesAre (stored_after s (events_of early)) (woven cs last late) =
-    woven_replies-by (stored_after s (events_of early)) cs last late (stamps_rise-filter (is_late c.stamp) ms rise) (quiet.0.1, quiet.1) (replies-rest s (events_of early) (events_of late) both) in
-    replies-append s (events_of early ++ c.silent) (Dumped ∷ woven cs last late) front.0 (subst (λ t. RepliesAre t (woven cs last late)) (sym front.1) rest)
+    woven_replies-by (stored_after s (events_of early)) cs last late (stamps_rise-filter (is_late c.stamp) ms rise) (quiet.0.1, quiet.1)
+    (replies-rest s (events_of early) (events_of late) both) in
+    replies-append s (events_of early ++ c.silent) (Dumped ∷ woven cs last late) front.0
+    (subst (λ t. RepliesAre t (woven cs last late)) (sym front.1) rest)
 
 pub woven_replies : WovenReplies
 woven_replies s cuts last ms rise quiet replies = woven_replies-by s cuts last ms rise (silent_cuts cuts last quiet) replies

@@ -27,51 +27,25 @@ use Rattle.program_rules.specs.declared.program.Phase.{Phase}
 use Rattle.program_rules.specs.declared.program.Phase.TheVariants.{Walk, Bind, Grant, Swap, Release, End}
 use Rattle.program_rules.specs.declared.program.Program.{Program}
 use Rattle.program_rules.specs.Paths.{last_name}
-use Rattle.program_rules.specs.Programs.{
-  own_hold,
-  at_last,
-  new_path,
-  first_ask,
-  grant_ask,
-  release_ask,
-  phase_ask,
-  first_hear,
-  phase_hear,
-  walked,
-  looked,
-  checked,
-  entries_heard,
-  unbound_heard,
-  source_heard,
-  bound_heard,
-  swapped_heard,
-  then_release,
-  refusal,
-}
+use Rattle.program_rules.specs.Programs.{own_hold, at_last, new_path, first_ask, grant_ask, release_ask, phase_ask, first_hear, phase_hear}
+use Rattle.program_rules.specs.Programs.{walked, looked, checked, entries_heard, unbound_heard, source_heard, bound_heard, swapped_heard}
+use Rattle.program_rules.specs.Programs.{then_release, refusal}
 use Rattle.tect_calls.specs.declared.tokens.Fact.{Fact}
 use Rattle.tect_calls.specs.declared.tokens.Fact.TheVariants.{Spent}
 use Rattle.tect_calls.specs.Teaching as teach
-use Rattle.tect_calls.specs.Teaching.{
-  taught,
-  exists_facts,
-  made_facts,
-  granted_facts,
-  replaced_facts,
-  bound_facts,
-  swapped_facts,
-  unbound_facts,
-}
-use Rattle.op_names.specs.declared.shown.Shown.{Shown}
-use Rattle.op_names.specs.declared.shown.Shown.TheVariants.{Upper, Own, Lost}
+use Rattle.tect_calls.specs.Teaching.{taught, exists_facts, made_facts, granted_facts, replaced_facts, bound_facts, swapped_facts}
+use Rattle.tect_calls.specs.Teaching.{unbound_facts}
+use Rattle.op_names.specs.declared.held.HeldTokens.{HeldTokens}
+use Rattle.op_names.specs.declared.held.HeldTokens.TheVariants.{Upper, Own, Lost}
 use Rattle.op_names.specs.Needs.{needed, old_hold}
 use Rattle.op_names.specs.Carrying.{first, second, carried}
 
 -- the next phase has what it needs, of what was held and of what was taught
 
-abbrev Carries : OpId → Phase → Shown → List Fact → Type 0
+abbrev Carries : OpId → Phase → HeldTokens → List Fact → Type 0
 Carries op next had facts = carried next had (first facts) (second facts) ≡ needed op next
 
-module _ (op : OpId) (place : Place) (x : AnyReply) (had : Shown) where
+module _ (op : OpId) (place : Place) (x : AnyReply) (had : HeldTokens) where
   walked_carries : (k : Key) (ns : List (List ℕ)) (o : Option Node) → Carries op (walked place k ns x o) had (exists_facts o)
   walked_carries k ns None = refl
   walked_carries k ns (Some (nodes.Dir d)) = refl
@@ -195,8 +169,8 @@ module _ (op : OpId) (place : Place) (x : AnyReply) where
 
 -- the same of the values that the code has
 pub carries_on :
-    (place : Place) (x : AnyReply) (number : ℕ) (q : AnyReq) (program : Program) (one two : Option Fact) (had : Shown) (next : Program)
-    (shown : Shown)
+    (place : Place) (x : AnyReply) (number : ℕ) (q : AnyReq) (program : Program) (one two : Option Fact) (had : HeldTokens) (next : Program)
+    (shown : HeldTokens)
     → phase_ask program.op number program.command program.phase ≡ Some q
     → one ≡ first (taught q x) → two ≡ second (taught q x)
     → had ≡ needed program.op program.phase

@@ -8,8 +8,8 @@ use Rattle.program_rules.specs.declared.program.Phase.TheVariants.{Walk, Bind, G
 use Rattle.program_rules.specs.Programs.{root}
 use Rattle.tect_calls.specs.declared.tokens.Fact.{Fact}
 use Rattle.tect_calls.specs.declared.tokens.Fact.TheVariants.{Made, Granted, Spent}
-use Rattle.op_names.specs.declared.shown.Shown.{Shown}
-use Rattle.op_names.specs.declared.shown.Shown.TheVariants.{Upper, Own, Lost, Nothing}
+use Rattle.op_names.specs.declared.held.HeldTokens.{HeldTokens}
+use Rattle.op_names.specs.declared.held.HeldTokens.TheVariants.{Upper, Own, Lost, Nothing}
 
 -- a reply teaches at most two tokens
 abbrev pub first : List Fact → Option Fact
@@ -21,15 +21,15 @@ second [] = None
 second (x ∷ xs) = first xs
 
 -- at its beginning a command has walked to the root, or has its answer
-abbrev pub opening : Phase → Shown
+abbrev pub opening : Phase → HeldTokens
 opening (Walk d ns) = Upper (nodes.Dir root)
 opening _ = Nothing
 
-abbrev pub upper_from : Shown → Option Fact → Shown
+abbrev pub upper_from : HeldTokens → Option Fact → HeldTokens
 upper_from had (Some (Made n)) = Upper n
 upper_from had _ = had
 
-abbrev pub own_from : Shown → Option Fact → Shown
+abbrev pub own_from : HeldTokens → Option Fact → HeldTokens
 own_from had (Some (Granted h)) = Own h
 own_from had _ = had
 
@@ -38,17 +38,17 @@ spent_in (Some (Spent h)) = Some h
 spent_in _ = None
 
 -- the own hold is given up, or the other spent one comes next
-abbrev pub given_up : Shown → Shown
+abbrev pub given_up : HeldTokens → HeldTokens
 given_up (Own h) = Lost h None
 given_up (Lost h (Some old)) = Lost old None
 given_up had = had
 
-abbrev pub lost_from : Shown → Option Fact → Option Fact → Shown
+abbrev pub lost_from : HeldTokens → Option Fact → Option Fact → HeldTokens
 lost_from had (Some (Spent h)) y = Lost h (spent_in y)
 lost_from had _ y = given_up had
 
 -- by the next phase
-abbrev pub carried : Phase → Shown → Option Fact → Option Fact → Shown
+abbrev pub carried : Phase → HeldTokens → Option Fact → Option Fact → HeldTokens
 carried (Walk d ns) had x y = upper_from had x
 carried (Bind k n o) had x y = own_from had y
 carried (Grant k n) had x y = had

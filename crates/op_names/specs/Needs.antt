@@ -14,15 +14,15 @@ use Rattle.store_rules.specs.declared.any.AnyReq.TheVariants as any
 use Rattle.program_rules.specs.declared.program.Phase.{Phase}
 use Rattle.program_rules.specs.declared.program.Phase.TheVariants.{Walk, Bind, Grant, Swap, Release, End}
 use Rattle.program_rules.specs.Programs.{own_hold}
-use Rattle.op_names.specs.declared.shown.Shown.{Shown}
-use Rattle.op_names.specs.declared.shown.Shown.TheVariants.{Upper, Own, Lost, Nothing}
+use Rattle.op_names.specs.declared.held.HeldTokens.{HeldTokens}
+use Rattle.op_names.specs.declared.held.HeldTokens.TheVariants.{Upper, Own, Lost, Nothing}
 
 abbrev pub old_hold : Option Replaced → Option Hold
 old_hold None = None
 old_hold (Some old) = Some old.hold
 
 -- by the phase
-abbrev pub needed : OpId → Phase → Shown
+abbrev pub needed : OpId → Phase → HeldTokens
 needed op (Walk d ns) = Upper (nodes.Dir d)
 needed op (Bind k n o) = Own (own_hold op)
 needed op (Grant k n) = Upper (nodes.Dir k.dir)
@@ -31,20 +31,20 @@ needed op (Release n h old a) = Lost h (old_hold old)
 needed op (End a) = Nothing
 
 -- what a command's tokens show
-abbrev pub upper_of : Shown → Option Node
+abbrev pub upper_of : HeldTokens → Option Node
 upper_of (Upper n) = Some n
 upper_of _ = None
 
-abbrev pub own_of : Shown → Option Hold
+abbrev pub own_of : HeldTokens → Option Hold
 own_of (Own h) = Some h
 own_of _ = None
 
-abbrev pub lost_of : Shown → Option Hold
+abbrev pub lost_of : HeldTokens → Option Hold
 lost_of (Lost h old) = Some h
 lost_of _ = None
 
 -- by the request
-abbrev pub ShowsName : Shown → NameReq → Type 0
+abbrev pub ShowsName : HeldTokens → NameReq → Type 0
 ShowsName t (names.CheckDir d) = Unit {0}
 ShowsName t (names.Look k) = Unit {0}
 ShowsName t (names.List d) = Unit {0}
@@ -55,11 +55,11 @@ ShowsName t (names.Unbind k w) = Unit {0}
 ShowsName t (names.Grant d h k) = upper_of t ≡ Some (nodes.Dir k.dir)
 ShowsName t (names.Release d h) = lost_of t ≡ Some h
 
-abbrev pub ShowsFile : Shown → FileReq → Type 0
+abbrev pub ShowsFile : HeldTokens → FileReq → Type 0
 ShowsFile t (files.MakeFile f h k token) = upper_of t ≡ Some (nodes.Dir k.dir)
 ShowsFile t (files.Grant f h k) = upper_of t ≡ Some (nodes.Dir k.dir)
 ShowsFile t (files.Release f h) = lost_of t ≡ Some h
 
-abbrev pub Shows : Shown → AnyReq → Type 0
+abbrev pub Shows : HeldTokens → AnyReq → Type 0
 Shows t (any.Name q) = ShowsName t q
 Shows t (any.File q) = ShowsFile t q

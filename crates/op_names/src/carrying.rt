@@ -2,7 +2,7 @@ ghost use Rattle.std.specs.Prelude.{◌≡◌, IfOk};
 ghost use Rattle.tect_calls.specs.Teaching.{taught};
 ghost use Rattle.op_names.specs.Carrying.{first, second, opening, upper_from, own_from, spent_in, given_up, lost_from, carried};
 
-use crate::shown::Shown;
+use crate::held::HeldTokens;
 use program_rules::Phase;
 use std::alloc::Global;
 use store_rules::{AnyReply, AnyReq};
@@ -34,29 +34,29 @@ pub(crate) fn facts_of(
 }
 
 // The tokens of a command that begins.
-pub(crate) fn opening_of(phase: &Phase) -> Shown
+pub(crate) fn opening_of(phase: &Phase) -> HeldTokens
     ensures { result ≡ opening phase.now }
 {
     match phase {
-        Phase::Walk { .. } => Shown::Upper(Made::root()),
-        _ => Shown::Nothing,
+        Phase::Walk { .. } => HeldTokens::Upper(Made::root()),
+        _ => HeldTokens::Nothing,
     }
 }
 
-fn upper_of(had: Shown, fact: Option<Fact>) -> Shown
+fn upper_of(had: HeldTokens, fact: Option<Fact>) -> HeldTokens
     ensures { result ≡ upper_from had fact }
 {
     match fact {
-        Some(Fact::Made(made)) => Shown::Upper(made),
+        Some(Fact::Made(made)) => HeldTokens::Upper(made),
         _ => had,
     }
 }
 
-fn own_of(had: Shown, fact: Option<Fact>) -> Shown
+fn own_of(had: HeldTokens, fact: Option<Fact>) -> HeldTokens
     ensures { result ≡ own_from had fact }
 {
     match fact {
-        Some(Fact::Granted(granted)) => Shown::Own(granted),
+        Some(Fact::Granted(granted)) => HeldTokens::Own(granted),
         _ => had,
     }
 }
@@ -71,27 +71,27 @@ fn spent_of(fact: Option<Fact>) -> Option<Spent>
 }
 
 // The own hold is given up, or the other spent one comes next.
-fn give_up(had: Shown) -> Shown
+fn give_up(had: HeldTokens) -> HeldTokens
     ensures { result ≡ given_up had }
 {
     match had {
-        Shown::Own(granted) => Shown::Lost {
+        HeldTokens::Own(granted) => HeldTokens::Lost {
             hold: granted.give_up(),
             old: None,
         },
-        Shown::Lost {
+        HeldTokens::Lost {
             old: Some(hold),
             ..
-        } => Shown::Lost { hold, old: None },
+        } => HeldTokens::Lost { hold, old: None },
         _ => had,
     }
 }
 
-fn lost_of(had: Shown, first: Option<Fact>, second: Option<Fact>) -> Shown
+fn lost_of(had: HeldTokens, first: Option<Fact>, second: Option<Fact>) -> HeldTokens
     ensures { result ≡ lost_from had first second }
 {
     match first {
-        Some(Fact::Spent(hold)) => Shown::Lost {
+        Some(Fact::Spent(hold)) => HeldTokens::Lost {
             hold,
             old: spent_of(second),
         },
@@ -100,7 +100,12 @@ fn lost_of(had: Shown, first: Option<Fact>, second: Option<Fact>) -> Shown
 }
 
 // The tokens of the next phase, from those that the phase before it held and those that the reply taught.
-pub(crate) fn carry(phase: &Phase, had: Shown, first: Option<Fact>, second: Option<Fact>) -> Shown
+pub(crate) fn carry(
+    phase: &Phase,
+    had: HeldTokens,
+    first: Option<Fact>,
+    second: Option<Fact>,
+) -> HeldTokens
     ensures { result ≡ carried phase.now had first second }
 {
     match phase {
@@ -109,6 +114,6 @@ pub(crate) fn carry(phase: &Phase, had: Shown, first: Option<Fact>, second: Opti
         Phase::Grant { .. } => had,
         Phase::Swap { .. } => own_of(had, first),
         Phase::Release { .. } => lost_of(had, first, second),
-        Phase::End { .. } => Shown::Nothing,
+        Phase::End { .. } => HeldTokens::Nothing,
     }
 }

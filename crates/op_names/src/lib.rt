@@ -5,11 +5,11 @@
 mod ask;
 mod carrying;
 mod hear;
+mod held;
 mod paths;
 mod refusals;
 mod running;
 mod showing;
-mod shown;
 mod start;
 
 pub use running::Running;

@@ -7,8 +7,8 @@ ghost use Rattle.op_names.specs.Serials.{after_reply};
 use crate::ask::ask;
 use crate::carrying::{carry, facts_of, opening_of};
 use crate::hear::{Heard, hear};
+use crate::held::HeldTokens;
 use crate::showing::show;
-use crate::shown::Shown;
 use crate::start::start;
 use program_rules::{Phase, Program};
 use std::alloc::Global;
@@ -23,7 +23,7 @@ use tect_ids::{Answer, Command, NoMemory, OpId, Place};
 pub struct Running {
     alloc: Global,
     program: Program,
-    shown: Shown,
+    shown: HeldTokens,
 }
 
 impl Model for Running {
@@ -63,7 +63,7 @@ impl Running {
         Running {
             alloc,
             program: Program { op, command, phase },
-            shown: Shown::Nothing,
+            shown: HeldTokens::Nothing,
         }
     }
 
@@ -119,7 +119,7 @@ impl Running {
         if reply.is_made() {
             memory.take_serial();
         }
-        let had = mem::replace(&mut self.shown, Shown::Nothing);
+        let had = mem::replace(&mut self.shown, HeldTokens::Nothing);
         self.shown = carry(&self.program.phase, had, first, second);
         Ok(())
     }

@@ -1,14 +1,14 @@
 ghost use Rattle.std.specs.Prelude.{◌≡◌};
 ghost use Rattle.op_names.specs.Needs.{ShowsName, ShowsFile, Shows};
 
-use crate::shown::Shown;
+use crate::held::HeldTokens;
 use store_rules::{AnyReq, FileReq, NameReq};
 use tect_calls::{
     Asked, file_grant, file_make_file, file_release, name_bind, name_check_dir, name_grant,
     name_list, name_look, name_make_dir, name_release, name_swap, name_unbind,
 };
 
-fn show_name(shown: &Shown, req: NameReq) -> Asked
+fn show_name(shown: &HeldTokens, req: NameReq) -> Asked
     requires { ShowsName shown.now req }
     ensures { result ≡ AnyReq.Name req }
 {
@@ -41,7 +41,7 @@ fn show_name(shown: &Shown, req: NameReq) -> Asked
     }
 }
 
-fn show_file(shown: &Shown, req: FileReq) -> Asked
+fn show_file(shown: &HeldTokens, req: FileReq) -> Asked
     requires { ShowsFile shown.now req }
     ensures { result ≡ AnyReq.File req }
 {
@@ -58,7 +58,7 @@ fn show_file(shown: &Shown, req: FileReq) -> Asked
 }
 
 // Shows what the request needs.
-pub(crate) fn show(shown: &Shown, req: AnyReq) -> Asked
+pub(crate) fn show(shown: &HeldTokens, req: AnyReq) -> Asked
     requires { Shows shown.now req }
     ensures { result ≡ req }
 {

@@ -14,7 +14,15 @@ use Rattle.passes.specs.Commits.{local_of, op_number}
 -- the entry of the pass's request at its place, with that stamp
 abbrev pub entry_at : Counts → ℕ → Pass → AnyReq → AnyReply → Entry
 entry_at counts stamp p q x =
-    record { stamp = stamp; place = request_place counts q; actor = p.actor; number = op_number p.running; step = p.steps; req = q; reply = x }
+    record {
+      stamp = stamp;
+      place = request_place counts q;
+      actor = p.actor;
+      number = op_number p.running;
+      step = p.steps;
+      req = q;
+      reply = x;
+    }
 
 -- what came of the pass's request, with the entry that the pass then has
 abbrev pub entered : Counts → Pass → Pass → AnyReq → Result AnyReply Refused → Result Entry Refused

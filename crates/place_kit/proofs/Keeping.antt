@@ -1,5 +1,6 @@
 -- What the type of `Kept` keeps, after one entry more; and that equal parts make equal values.
-use Rattle.std.proofs.Common.{◌≡◌, ℕ, ◌+◌, ◌<◌, ◌≤◌, ◌^◌, Bool, true, false, List, [], ◌∷◌, ◌++◌, length, refl, sym, ◌∙◌, ap, subst, arith, length-append}
+use Rattle.std.proofs.Common.{◌≡◌, ℕ, ◌+◌, ◌<◌, ◌≤◌, ◌^◌, Bool, true, false, List, [], ◌∷◌, ◌++◌, length, refl, sym, ◌∙◌, ap, subst, arith}
+use Rattle.std.proofs.Common.{length-append}
 use Rattle.std.specs.Coded.{Coded}
 use Rattle.std.specs.declared.snapshot.Snapshot.{Snapshot}
 use Rattle.store_rules.specs.declared.any.AnyReq.{AnyReq}

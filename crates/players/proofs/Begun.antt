@@ -1,6 +1,6 @@
 -- A command that begins, and one that is stopped.
-use Rattle.std.proofs.Common.{◌≡◌, ℕ, ◌+◌, inl, inr, true, eqb, Option, Some, None, IsSome, List, [], ◌∷◌, ◌++◌, refl, sym, ap, subst, ◌∙◌,
-    arith}
+use Rattle.std.proofs.Common.{◌≡◌, ℕ, ◌+◌, inl, inr, true, eqb, Option, Some, None, IsSome, List, [], ◌∷◌, ◌++◌, refl, sym, ap, subst, ◌∙◌}
+use Rattle.std.proofs.Common.{arith}
 use Rattle.std.proofs.lemmas.List.{append-nil}
 use Rattle.tect_ids.specs.declared.ids.Counts.{Counts}
 use Rattle.tect_ids.specs.declared.ids.OpId.{OpId}
@@ -11,13 +11,13 @@ use Rattle.entry_words.specs.declared.entry.Moment.TheVariants.{Local}
 use Rattle.entry_words.specs.declared.entry.Note.TheVariants as notes
 use Rattle.entry_words.specs.Moments.{rises, running_in, running_after}
 use Rattle.world_runs.specs.declared.event.Event.{Event}
-use Rattle.world_runs.specs.declared.event.Event.TheVariants.{Began, Refused, Acted, Ended, Stopped, Failed, Dumped}
+use Rattle.world_runs.specs.declared.event.Event.TheVariants.{Began, NotBegun, Acted, Ended, Stopped, Failed, Dumped}
 use Rattle.world_runs.specs.Follows.{IsBeginOf}
 use Rattle.world_runs.specs.Moments.{Actor}
 use Rattle.world_runs.specs.Races.{own_lines}
 use Rattle.world_runs.specs.OwnRuns.{own_after, own_state}
-use Rattle.clients.specs.Lives.{ClientLife, events_in, state_in, op_in, next_op_in, IsLife, begun_life, refused_life, Begins, stopped_with,
-    stopped_life}
+use Rattle.clients.specs.Lives.{ClientLife, events_in, state_in, op_in, next_op_in, IsLife, begun_life, refused_life, Begins, stopped_with}
+use Rattle.clients.specs.Lives.{stopped_life}
 use Rattle.clients.specs.Phases.{RunsIn}
 use Rattle.players.specs.Lives.{news_events}
 use Rattle.players.specs.Steps.{Grows}
@@ -53,9 +53,9 @@ module _ (old new : ClientLife) (c : Command) where
       let m : Moment = Local (old.clock + 1) old.actor (notes.Began op c) in
       let clock : new.clock ≡ old.clock + 1 = ap (λ (w : ClientLife). w.clock) is in
       let runs : running_in None new.moments ≡ Some op = ap (λ (w : ClientLife). running_in None w.moments) is ∙ runs_begun None old.moments
-          (old.clock + 1) old.actor op c in
+      (old.clock + 1) old.actor op c in
       let silent : old.silent ≡ [] = sym (ap (λ (w : ClientLife). w.silent) is) ∙ begun_noted new.silent (running_in None new.moments) op
-          (state_in new).running runs life.going in
+      (state_in new).running runs life.going in
       record {
         news = m ∷ [];
         more = [];
@@ -76,14 +76,14 @@ module _ (old new : ClientLife) (c : Command) where
       let clock : new.clock ≡ old.clock = ap (λ (w : ClientLife). w.clock) is in
       record {
         news = [];
-        more = Refused op c ∷ [];
+        more = NotBegun op c ∷ [];
         grows = record {
           life = is ∙ (λ i. record old
-              { clock = sym clock i; moments = sym (append-nil old.moments) i; silent = old.silent ++ Refused op c ∷ [] });
+              { clock = sym clock i; moments = sym (append-nil old.moments) i; silent = old.silent ++ NotBegun op c ∷ [] });
           late = inl refl;
           stamps = subst (λ (n : ℕ). rises old.clock n [] ≡ true) (sym clock) (rises_here old.clock);
         };
-        begin = Refused op c;
+        begin = NotBegun op c;
         events = refl;
         begins = (refl, refl);
       }
@@ -101,7 +101,7 @@ pub record Starts (op : OpId) (s t : Actor) : Type 0 where
 pub begin_starts : (counts : Counts) (op : OpId) (c : Command) (s : Actor) (begin : Event) → IsBeginOf op c begin
     → Starts op s (own_after counts s begin)
 begin_starts counts op c s (Began other d) begins = record { number = ap (λ (o : OpId). o.number) begins.0; stopped = refl; some = refl }
-begin_starts counts op c s (Refused other d) begins = record { number = ap (λ (o : OpId). o.number) begins.0; stopped = refl; some = refl }
+begin_starts counts op c s (NotBegun other d) begins = record { number = ap (λ (o : OpId). o.number) begins.0; stopped = refl; some = refl }
 begin_starts counts op c s (Acted other q x) begins = absurd begins
 begin_starts counts op c s (Ended other a) begins = absurd begins
 begin_starts counts op c s (Stopped other) begins = absurd begins
@@ -111,7 +111,7 @@ begin_starts counts op c s Dumped begins = absurd begins
 module _ (counts : Counts) (names : List (List ℕ)) (actor : ℕ) (before : List Event) where
   pub begin_shows : (op : OpId) (c : Command) (begin : Event) → IsBeginOf op c begin → own_lines counts names actor before (begin ∷ []) ≡ []
   begin_shows op c (Began other d) begins = either_way counts names actor (eqb other.actor actor) []
-  begin_shows op c (Refused other d) begins = either_way counts names actor (eqb other.actor actor) []
+  begin_shows op c (NotBegun other d) begins = either_way counts names actor (eqb other.actor actor) []
   begin_shows op c (Acted other q x) begins = absurd begins
   begin_shows op c (Ended other a) begins = absurd begins
   begin_shows op c (Stopped other) begins = absurd begins

@@ -1,6 +1,6 @@
 -- What a client's events and state become as it grows, once and again.
-use Rattle.std.proofs.Common.{◌≡◌, ℕ, ◌≤◌, ◌⊎◌, inl, inr, true, nat_lt, nat_le, List, [], ◌∷◌, ◌++◌, refl, sym, ap, ◌∙◌, append_assoc,
-    arith}
+use Rattle.std.proofs.Common.{◌≡◌, ℕ, ◌≤◌, ◌⊎◌, inl, inr, true, nat_lt, nat_le, List, [], ◌∷◌, ◌++◌, refl, sym, ap, ◌∙◌, append_assoc}
+use Rattle.std.proofs.Common.{arith}
 use Rattle.std.proofs.lemmas.Grind.{common_steps}
 use Rattle.std.proofs.lemmas.List.{append-nil, map-append}
 use Rattle.tect_ids.specs.declared.ids.Counts.{Counts}
@@ -43,7 +43,7 @@ pub both_news : (xs ys : List Moment) (es fs : List Event) → (ys ≡ []) ⊎ (
 both_news xs ys es fs (inl none) = rw (none, append-nil xs) (sym (append_assoc (events_of xs) es fs))
 both_news xs ys es fs (inr none) =
     rw none (ap (λ l. l ++ fs) (map-append event_of xs ys) ∙ append_assoc (events_of xs) (events_of ys) fs ∙ ap
-        (λ l. l ++ (events_of ys ++ fs)) (sym (append-nil (events_of xs))))
+    (λ l. l ++ (events_of ys ++ fs)) (sym (append-nil (events_of xs))))
 
 none_before : {A : Type 0} → (all xs ys : List A) → all ≡ xs ++ ys → all ≡ [] → (xs ≡ []) × (ys ≡ [])
 none_before all [] ys e f = (refl, sym e ∙ f)

@@ -1,6 +1,6 @@
 -- One step of a client's command: a transaction, after which it goes on, or its end.
-use Rattle.std.proofs.Common.{◌≡◌, ℕ, ◌+◌, ◌<◌, ◌≤◌, inl, inr, Bool, true, nat_lt, nat_le, ◌&&◌, Option, Some, None, List, [], ◌∷◌, ◌++◌,
-    refl, sym, ap, subst, ◌∙◌, append_assoc, arith}
+use Rattle.std.proofs.Common.{◌≡◌, ℕ, ◌+◌, ◌<◌, ◌≤◌, inl, inr, Bool, true, nat_lt, nat_le, ◌&&◌, Option, Some, None, List, [], ◌∷◌, ◌++◌}
+use Rattle.std.proofs.Common.{refl, sym, ap, subst, ◌∙◌, append_assoc, arith}
 use Rattle.std.specs.Prelude.{Result}
 use Rattle.std.proofs.lemmas.Grind.{common_steps}
 use Rattle.std.proofs.lemmas.List.{append-nil}
@@ -27,8 +27,8 @@ use Rattle.clients.specs.declared.turned.Turned.TheVariants.{Going, Done}
 use Rattle.clients.specs.Turns.{turned_by}
 use Rattle.clients.specs.Lives.{ClientLife, state_in, op_in, IsLife}
 use Rattle.clients.specs.Phases.{RunsIn}
-use Rattle.clients.specs.Steps.{Tried, Unasked, Did, Denied, Asks, state_after, entry_in, tried_life, ended_with, ended_life, is_later,
-    EndsSo, OwnStep}
+use Rattle.clients.specs.Steps.{Tried, Unasked, Did, Denied, Asks, state_after, entry_in, tried_life, ended_with, ended_life, is_later}
+use Rattle.clients.specs.Steps.{EndsSo, OwnStep}
 use Rattle.players.specs.Lives.{news_events}
 use Rattle.players.specs.Players.{GoesOn, ComesToEnd, StepsOnce}
 use Rattle.players.specs.Steps.{Grows}
@@ -159,7 +159,7 @@ module _ (old new : ClientLife) (grew : List Event → Type 0)
     ends_by (Did q x) stamp a asks later life =
         let noted = asks_silent q asks in
         acted_ends stamp q x a noted later
-            (life ∙ ap (λ (s : List Event). ended_with (tried_life old stamp (Did q x)) s (op_in old) a) noted)
+        (life ∙ ap (λ (s : List Event). ended_with (tried_life old stamp (Did q x)) s (op_in old) a) noted)
 
 -- ---- a step
 
@@ -174,11 +174,11 @@ is_done (Some b) a is = (let same : a ≡ b = cc in ap Some (sym same))
 pub steps_once : {W : Type 0} (done : W → W → ℕ → AnyReq → Result Entry Refused → Type 0) (w v : W) (old new : ClientLife)
     (grew : List Event → Type 0)
     → ((news : List Moment) (more : List Event) → Grows old new news more → grew (news_events news more)) → IsLife old → (turned : Turned)
-        → OwnStep done w v old new turned → StepsOnce grew (op_in old) turned
+    → OwnStep done w v old new turned → StepsOnce grew (op_in old) turned
 steps_once done w v old new grew by is Going step =
     let none : step.answer ≡ None = not_done step.answer step.told in
     goes_by old new grew by is step.tried step.stamp step.asks step.later
-        (step.life ∙ ap (ended_life (tried_life old step.stamp step.tried) (op_in old)) none)
+    (step.life ∙ ap (ended_life (tried_life old step.stamp step.tried) (op_in old)) none)
     (subst (EndsSo (state_after old.counts (state_in old) step.tried) step.tried) none step.ends)
 steps_once done w v old new grew by is (Done a) step =
     ends_by old new grew by is step.tried step.stamp a step.asks step.later

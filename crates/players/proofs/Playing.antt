@@ -1,6 +1,6 @@
 -- What each act leaves, from what the player's calls say.
-use Rattle.std.proofs.Common.{◌≡◌, ℕ, ◌+◌, ◌≤◌, inl, inr, false, Option, Some, None, IsSome, List, [], ◌∷◌, ◌++◌, refl, sym, ap, subst, ◌∙◌,
-    append_assoc, arith}
+use Rattle.std.proofs.Common.{◌≡◌, ℕ, ◌+◌, ◌≤◌, inl, inr, false, Option, Some, None, IsSome, List, [], ◌∷◌, ◌++◌, refl, sym, ap, subst, ◌∙◌}
+use Rattle.std.proofs.Common.{append_assoc, arith}
 use Rattle.tect_ids.specs.declared.ids.Counts.{Counts}
 use Rattle.tect_ids.specs.declared.ids.OpId.{OpId}
 use Rattle.tect_ids.specs.declared.answer.Answer.{Answer}
@@ -16,13 +16,13 @@ use Rattle.world_runs.specs.Moments.{Actor}
 use Rattle.world_runs.specs.OwnRuns.{own_after, own_state}
 use Rattle.world_runs.specs.Races.{own_lines}
 use Rattle.world_runs.specs.Report.{answer_line}
-use Rattle.world_runs.specs.Standing.{AtTurn, op_of}
-use Rattle.world_runs.specs.Turns.{turn_after}
+use Rattle.world_runs.specs.Standing.{IsInState, op_of}
+use Rattle.world_runs.specs.ClientStates.{state_left_at}
 use Rattle.world_runs.proofs.OwnLines.{own_lines-append}
 use Rattle.clients.specs.declared.turned.Turned.TheVariants.{Going, Done}
 use Rattle.players.specs.Players.{op_at, next_at, HasBegun, GoesOn, ComesToEnd, StepsUpTo, StepsOnce, IsPlayer, Played}
-use Rattle.players.proofs.Transactions.{Keeps, Rests, acts-append, acts_keep, acts_then_rests, is_end, acts_show_nothing, acts_then_show,
-    stop_shows}
+use Rattle.players.proofs.Transactions.{Keeps, Rests, acts-append, acts_keep, acts_then_rests, is_end, acts_show_nothing, acts_then_show}
+use Rattle.players.proofs.Transactions.{stop_shows}
 use Rattle.players.proofs.Begun.{Starts, begin_starts, begin_shows}
 
 -- it did so many transactions of its command, which goes on
@@ -80,7 +80,7 @@ module _ {P A : Type 0} (counts : A → Counts) (fits : P → A → Type 0) (act
     pub stepped_end : (x : Answer) → StepsOnce (grows q b r c) (op q b) (Done x) → StepsUpTo (grows p a r c) (op p a) (n + 1) (Some x)
     stepped_end x step =
         let last : (end : ComesToEnd (grows q b r c) (op p a) x)
-            × (end.count ≤ 1) = subst (λ (o : OpId). (end : ComesToEnd (grows q b r c) o x) × (end.count ≤ 1)) s.same step in
+        × (end.count ≤ 1) = subst (λ (o : OpId). (end : ComesToEnd (grows q b r c) o x) × (end.count ≤ 1)) s.same step in
         let end : ComesToEnd (grows q b r c) (op p a) x = last.0 in (
           record {
             acts = s.goes.acts ++ end.acts;
@@ -107,7 +107,7 @@ module _ {P A : Type 0} (counts : A → Counts) (fits : P → A → Type 0) (act
   -- nothing is done
   module _ (names : List (List ℕ)) (p : P) (a : A) (fit : fits p a) (none : (state p a).running ≡ None) where
     nothing_played : (act : Act) → DoesLine (actor p) (op_of (state p a).running) act [] (op_of (state p a).running)
-        → AtTurn (turn_after act) (state p a) → Plays names act p a p a None
+        → IsInState (state_left_at act) (state p a) → Plays names act p a p a None
     nothing_played act does turn = record
         { part = []; grown = laws.nothing p a fit; does = does; turn = turn; few = omega arith; shows = refl }
 
@@ -230,7 +230,7 @@ module _ {P A : Type 0} (counts : A → Counts) (fits : P → A → Type 0) (act
         let rest : List Event = end.acts ++ end.end ∷ [] in
         let after = rests names q r b d x end line is in
         let ends : RunsToEnd next rest = subst (λ (o : OpId). RunsToEnd o rest) begun_op (end.count, end_after names q r b d x end line is)
-            in
+        in
         record {
           part = begun.begin ∷ rest;
           grown = laws.both p q r a b d (begun.begin ∷ []) rest begun.grown end.grown;
@@ -241,12 +241,12 @@ module _ {P A : Type 0} (counts : A → Counts) (fits : P → A → Type 0) (act
           few = omega (arith, after.number, starts.number);
           shows = end_shows names q r b d x end line is
               ∙ ap (λ (k : Counts). own_lines k names (actor q) (history q b) rest)
-                  (laws.same_counts p q a b (begun.begin ∷ []) begun.grown)
+              (laws.same_counts p q a b (begun.begin ∷ []) begun.grown)
               ∙ ap (λ (n : ℕ). own_lines (counts a) names n (history q b) rest) (laws.same_actor p q a b (begun.begin ∷ []) begun.grown)
               ∙ ap (λ (es : List Event). own_lines (counts a) names (actor p) es rest)
-                  (laws.more_history p q a b (begun.begin ∷ []) begun.grown)
+              (laws.more_history p q a b (begun.begin ∷ []) begun.grown)
               ∙ ap (λ (l : List ReportLine). l ++ own_lines (counts a) names (actor p) (history p a ++ begun.begin ∷ []) rest)
-                  (sym begun_shows)
+              (sym begun_shows)
               ∙ sym (own_lines-append (counts a) names (actor p) (history p a) (begun.begin ∷ []) rest);
         }
 
@@ -256,7 +256,7 @@ module _ {P A : Type 0} (counts : A → Counts) (fits : P → A → Type 0) (act
       → line ≡ answer_line names (history q b) (op q b) answers.Stopped → Plays names acts.Stop p a q b (Some line)
   stops names p q a b fit running grown line is =
       let state_is : state q b ≡ own_after (counts a) (state p a) (Stopped (op p a)) = laws.next_state p q a b (Stopped (op p a) ∷ []) grown
-          in
+      in
       let number : (state q b).number ≡ (state p a).number = ap (λ (s : Actor). s.number) state_is in
       let none : (state q b).running ≡ None = ap (λ (s : Actor). s.running) state_is in
       let same : op q b ≡ op p a = λ i. record { actor = laws.same_actor p q a b (Stopped (op p a) ∷ []) grown i; number = number i } in
@@ -269,6 +269,6 @@ module _ {P A : Type 0} (counts : A → Counts) (fits : P → A → Type 0) (act
         few = omega (arith, number);
         shows = ap (λ (l : ReportLine). l ∷ []) is ∙ ap (λ (o : OpId). answer_line names (history q b) o answers.Stopped ∷ []) same
             ∙ ap (λ (es : List Event). answer_line names es (op p a) answers.Stopped ∷ [])
-                (laws.more_history p q a b (Stopped (op p a) ∷ []) grown)
+            (laws.more_history p q a b (Stopped (op p a) ∷ []) grown)
             ∙ sym (stop_shows (counts a) names (actor p) (history p a) (op p a) refl);
       }

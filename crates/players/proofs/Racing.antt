@@ -16,7 +16,7 @@ use Rattle.players.specs.Players.{Played, told_lines}
 pub racer_plays : {W : Type 0} (counts_of : W → Counts) (names : List (List ℕ)) (act : Act) (old new : Racer) (w v : W)
     (told : Option ReportLine)
     → Played counts_of (λ (p : ClientLife). p.actor) (λ (p : ClientLife) (a : W). events_in p) (λ (p : ClientLife) (a : W). state_in p)
-        (GrewBy counts_of) names act old.client w new.client v told
+    (GrewBy counts_of) names act old.client w new.client v told
     → new.answers.items ≡ old.answers.items ++ told_lines told → Plays names act old new
 racer_plays counts_of names act old new w v told played added =
     let g : GrewBy counts_of old.client w new.client v played.part = played.grown in

@@ -1,6 +1,6 @@
 -- The op that a client's own run is busy with is that of its last command.
-use Rattle.std.proofs.Common.{◌≡◌, ℕ, Bool, true, false, if◌then◌else◌, Option, Some, None, IsSome, List, [], ◌∷◌, length, ◌≤◌, refl, sym,
-    ap, ◌∙◌, arith}
+use Rattle.std.proofs.Common.{◌≡◌, ℕ, Bool, true, false, if◌then◌else◌, Option, Some, None, IsSome, List, [], ◌∷◌, length, ◌≤◌, refl, sym}
+use Rattle.std.proofs.Common.{ap, ◌∙◌, arith}
 use Rattle.std.specs.List.{filter}
 use Rattle.std.specs.Option.{ForSome}
 use Rattle.tect_ids.specs.declared.ids.Counts.{Counts}
@@ -9,7 +9,7 @@ use Rattle.store_rules.specs.declared.any.AnyReq.{AnyReq}
 use Rattle.store_rules.specs.declared.any.AnyReply.{AnyReply}
 use Rattle.program_rules.specs.declared.program.Program.{Program}
 use Rattle.world_runs.specs.declared.event.Event.{Event}
-use Rattle.world_runs.specs.declared.event.Event.TheVariants.{Began, Refused, Acted, Ended, Stopped, Failed, Dumped}
+use Rattle.world_runs.specs.declared.event.Event.TheVariants.{Began, NotBegun, Acted, Ended, Stopped, Failed, Dumped}
 use Rattle.world_runs.specs.Moments.{Actor, idle_actor, heard}
 use Rattle.world_runs.specs.Races.{is_own}
 use Rattle.world_runs.specs.Standing.{op_of}
@@ -59,7 +59,7 @@ runs_last_after : (counts : Counts) (a : ℕ) (s : Actor) (e : Event) → is_own
 runs_last_after counts a s (Began op c) mine last p is =
     let same : op ≡ p.op = ap (λ (z : Program). z.op) (some_program _ p is) in
     (ap (λ (o : OpId). o.actor) (sym same) ∙ one_number op.actor a mine, ap (λ (o : OpId). o.number) (sym same))
-runs_last_after counts a s (Refused op c) mine last p is =
+runs_last_after counts a s (NotBegun op c) mine last p is =
     let same : op ≡ p.op = ap (λ (z : Program). z.op) (some_program _ p is) in
     (ap (λ (o : OpId). o.actor) (sym same) ∙ one_number op.actor a mine, ap (λ (o : OpId). o.number) (sym same))
 runs_last_after counts a s (Acted op q x) mine last p is = heard_last counts s.serial q x a s.number s.running last p is

@@ -1,6 +1,6 @@
 -- Transactions of an op, and its end: what they leave of its actor, and what they show.
-use Rattle.std.proofs.Common.{◌≡◌, ℕ, ◌+◌, Bool, true, false, eqb, if◌then◌else◌, Option, Some, None, IsSome, List, [], ◌∷◌, ◌++◌, refl,
-    sym, ap, subst, ◌∙◌, append_assoc, arith}
+use Rattle.std.proofs.Common.{◌≡◌, ℕ, ◌+◌, Bool, true, false, eqb, if◌then◌else◌, Option, Some, None, IsSome, List, [], ◌∷◌, ◌++◌, refl}
+use Rattle.std.proofs.Common.{sym, ap, subst, ◌∙◌, append_assoc, arith}
 use Rattle.tect_ids.specs.declared.ids.Counts.{Counts}
 use Rattle.tect_ids.specs.declared.ids.OpId.{OpId}
 use Rattle.tect_ids.specs.declared.answer.Answer.{Answer}
@@ -11,7 +11,7 @@ use Rattle.store_rules.specs.declared.any.AnyReq.{AnyReq}
 use Rattle.store_rules.specs.declared.any.AnyReply.{AnyReply}
 use Rattle.program_rules.specs.declared.program.Program.{Program}
 use Rattle.world_runs.specs.declared.event.Event.{Event}
-use Rattle.world_runs.specs.declared.event.Event.TheVariants.{Began, Refused, Acted, Ended, Stopped, Failed, Dumped}
+use Rattle.world_runs.specs.declared.event.Event.TheVariants.{Began, NotBegun, Acted, Ended, Stopped, Failed, Dumped}
 use Rattle.world_runs.specs.Follows.{Acts, IsEndOf}
 use Rattle.world_runs.specs.Moments.{Actor, heard, went_on}
 use Rattle.world_runs.specs.Races.{own_lines}
@@ -29,7 +29,7 @@ acts-append op n k [] fs none more = (let same : k ≡ n + k = omega (arith, non
 acts-append op n k (Acted other q x ∷ es) fs (own, (rest, is, acts)) more =
     (own, (rest + k, omega (arith, is), acts-append op rest k es fs acts more))
 acts-append op n k (Began other c ∷ es) fs acts more = absurd acts
-acts-append op n k (Refused other c ∷ es) fs acts more = absurd acts
+acts-append op n k (NotBegun other c ∷ es) fs acts more = absurd acts
 acts-append op n k (Ended other a ∷ es) fs acts more = absurd acts
 acts-append op n k (Stopped other ∷ es) fs acts more = absurd acts
 acts-append op n k (Failed other a ∷ es) fs acts more = absurd acts
@@ -53,7 +53,7 @@ acts_keep counts op n s (Acted other q x ∷ es) (own, (rest, is, acts)) =
     let k = acts_keep counts op rest (went_on counts s q x) es acts in
     record { number = k.number; stopped = k.stopped; running = λ runs. k.running (heard_some counts s.serial q x s.running runs) }
 acts_keep counts op n s (Began other c ∷ es) acts = absurd acts
-acts_keep counts op n s (Refused other c ∷ es) acts = absurd acts
+acts_keep counts op n s (NotBegun other c ∷ es) acts = absurd acts
 acts_keep counts op n s (Ended other a ∷ es) acts = absurd acts
 acts_keep counts op n s (Stopped other ∷ es) acts = absurd acts
 acts_keep counts op n s (Failed other a ∷ es) acts = absurd acts
@@ -69,7 +69,7 @@ end_rests : (counts : Counts) (op : OpId) (s : Actor) (end : Event) (a : Answer)
 end_rests counts op s (Ended other x) a ends = record { number = refl; stopped = refl; running = refl }
 end_rests counts op s (Failed other x) a ends = record { number = refl; stopped = refl; running = refl }
 end_rests counts op s (Began other c) a ends = absurd ends
-end_rests counts op s (Refused other c) a ends = absurd ends
+end_rests counts op s (NotBegun other c) a ends = absurd ends
 end_rests counts op s (Acted other q x) a ends = absurd ends
 end_rests counts op s (Stopped other) a ends = absurd ends
 end_rests counts op s Dumped a ends = absurd ends
@@ -90,7 +90,7 @@ pub is_end : (op : OpId) (end : Event) (a : Answer) → EndsWith op end a → Is
 is_end op (Ended other x) a ends = ends.0
 is_end op (Failed other x) a ends = ends.0
 is_end op (Began other c) a ends = absurd ends
-is_end op (Refused other c) a ends = absurd ends
+is_end op (NotBegun other c) a ends = absurd ends
 is_end op (Acted other q x) a ends = absurd ends
 is_end op (Stopped other) a ends = absurd ends
 is_end op Dumped a ends = absurd ends
@@ -112,9 +112,9 @@ module _ (counts : Counts) (names : List (List ℕ)) (actor : ℕ) where
   acts_show_nothing before op n [] acts = refl
   acts_show_nothing before op n (Acted other q x ∷ es) (own, (rest, is, acts)) =
       either_way (eqb other.actor actor) (own_lines counts names actor (before ++ Acted other q x ∷ []) es) ∙ acts_show_nothing
-          (before ++ Acted other q x ∷ []) op rest es acts
+      (before ++ Acted other q x ∷ []) op rest es acts
   acts_show_nothing before op n (Began other c ∷ es) acts = absurd acts
-  acts_show_nothing before op n (Refused other c ∷ es) acts = absurd acts
+  acts_show_nothing before op n (NotBegun other c ∷ es) acts = absurd acts
   acts_show_nothing before op n (Ended other a ∷ es) acts = absurd acts
   acts_show_nothing before op n (Stopped other ∷ es) acts = absurd acts
   acts_show_nothing before op n (Failed other a ∷ es) acts = absurd acts
@@ -124,7 +124,7 @@ module _ (counts : Counts) (names : List (List ℕ)) (actor : ℕ) where
       → (if eqb other.actor actor then answer_line names before other x ∷ [] else []) ++ [] ≡ answer_line names before op a ∷ []
   own_shows before op other a x own is mine =
       let yes : eqb other.actor actor ≡ true = ap (λ (o : OpId). eqb o.actor actor) own ∙ ap (λ (k : ℕ). eqb k actor) mine ∙ same_number
-          actor in
+      actor in
       ap (λ (b : Bool). (if b then answer_line names before other x ∷ [] else []) ++ []) yes
       ∙ ap (λ (o : OpId). answer_line names before o x ∷ []) own ∙ ap (λ (y : Answer). answer_line names before op y ∷ []) is
 
@@ -133,7 +133,7 @@ module _ (counts : Counts) (names : List (List ℕ)) (actor : ℕ) where
   end_shows before op (Ended other x) a (own, is) mine = own_shows before op other a x own is mine
   end_shows before op (Failed other x) a (own, is) mine = own_shows before op other a x own is mine
   end_shows before op (Began other c) a ends mine = absurd ends
-  end_shows before op (Refused other c) a ends mine = absurd ends
+  end_shows before op (NotBegun other c) a ends mine = absurd ends
   end_shows before op (Acted other q x) a ends mine = absurd ends
   end_shows before op (Stopped other) a ends mine = absurd ends
   end_shows before op Dumped a ends mine = absurd ends
@@ -142,7 +142,7 @@ module _ (counts : Counts) (names : List (List ℕ)) (actor : ℕ) where
   end_counts op (Ended other x) a ends = refl
   end_counts op (Failed other x) a ends = refl
   end_counts op (Began other c) a ends = absurd ends
-  end_counts op (Refused other c) a ends = absurd ends
+  end_counts op (NotBegun other c) a ends = absurd ends
   end_counts op (Acted other q x) a ends = absurd ends
   end_counts op (Stopped other) a ends = absurd ends
   end_counts op Dumped a ends = absurd ends
@@ -152,7 +152,7 @@ module _ (counts : Counts) (names : List (List ℕ)) (actor : ℕ) where
       → answer_line names before op a ∷ [] ≡ answer_line names (before ++ e ∷ []) op a ∷ []
   line_counts before e op a none =
       let same : transactions before op ≡ transactions (before ++ e ∷ []) op = omega (arith, transactions-append before (e ∷ []) op, none)
-          in
+      in
       ap (λ (n : ℕ). report_lines.Client (client_name names op.actor) op.number n a ∷ []) same
 
   pub acts_then_show : (before : List Event) (op : OpId) (n : ℕ) (es : List Event) (end : Event) (a : Answer) → Acts op n es

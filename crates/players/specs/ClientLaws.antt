@@ -11,7 +11,7 @@ use Rattle.players.proofs.Running.{busy_some}
 
 pub client_laws : {W : Type 0} (counts_of : W → Counts)
     → IsPlayer {P = ClientLife} {A = W} counts_of (λ p w. IsLife p × (counts_of w ≡ p.counts)) (λ p. p.actor) (λ p w. events_in p)
-        (λ p w. state_in p) (GrewBy counts_of)
+    (λ p w. state_in p) (GrewBy counts_of)
 client_laws counts_of = record {
   nothing = λ p a fit. record { here = fit.1; there = refl; news = []; more = []; grows = grows_none p; are = refl };
   both = λ p q r a b c es fs first second. record {

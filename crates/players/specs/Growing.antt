@@ -9,10 +9,10 @@ use Rattle.players.specs.Steps.{Grows}
 
 -- It grew by these events, each layer having as many shards as it takes it to have, and as before.
 pub record GrewBy {W : Type 0} (counts_of : W → Counts) (old : ClientLife) (w : W) (new : ClientLife) (v : W) (events : List Event) : Type 0
-    where
-  pub here : counts_of w ≡ old.counts
-  pub there : counts_of v ≡ counts_of w
-  pub news : List Moment
-  pub more : List Event
-  pub grows : Grows old new news more
-  pub are : news_events news more ≡ events
+  where
+    pub here : counts_of w ≡ old.counts
+    pub there : counts_of v ≡ counts_of w
+    pub news : List Moment
+    pub more : List Event
+    pub grows : Grows old new news more
+    pub are : news_events news more ≡ events

@@ -10,8 +10,8 @@ use Rattle.entry_words.specs.Moments.{rises}
 use Rattle.world_runs.specs.declared.event.Event.{Event}
 use Rattle.world_runs.specs.Follows.{DoesLine}
 use Rattle.world_runs.specs.Races.{own_lines}
-use Rattle.world_runs.specs.Turns.{turn_after}
-use Rattle.world_runs.specs.Standing.{AtTurn}
+use Rattle.world_runs.specs.ClientStates.{state_left_at}
+use Rattle.world_runs.specs.Standing.{IsInState}
 use Rattle.clients.specs.Lives.{events_in, state_in}
 use Rattle.players.specs.declared.fault.RacerFault.{RacerFault}
 use Rattle.players.specs.declared.racer.Racer.{Racer}
@@ -34,7 +34,7 @@ pub record Plays (names : List (List ℕ)) (act : Act) (old new : Racer) : Type 
   pub more : List Event
   pub adds : Adds names old new news more
   pub does : DoesLine old.client.actor (busy_in old.client) act (news_events news more) (busy_in new.client)
-  pub turn : AtTurn (turn_after act) (state_in new.client)
+  pub turn : IsInState (state_left_at act) (state_in new.client)
   pub few : (state_in new.client).number ≤ (state_in old.client).number + 1
 
 -- why it did not, where each layer has that many shards: for want of memory, or since a commit found another machine

@@ -8,13 +8,13 @@ use Rattle.tect_ids.specs.declared.script.Act.{Act}
 use Rattle.tect_ids.specs.declared.script.ReportLine.{ReportLine}
 use Rattle.entry_words.specs.declared.entry.Label.{Label}
 use Rattle.world_runs.specs.declared.event.Event.{Event}
-use Rattle.world_runs.specs.declared.event.Event.TheVariants.{Began, Refused, Acted, Ended, Stopped, Failed, Dumped}
+use Rattle.world_runs.specs.declared.event.Event.TheVariants.{Began, NotBegun, Acted, Ended, Stopped, Failed, Dumped}
 use Rattle.world_runs.specs.Follows.{Acts, DoesLine, IsBeginOf}
 use Rattle.world_runs.specs.Moments.{Actor}
 use Rattle.world_runs.specs.OwnRuns.{own_state}
 use Rattle.world_runs.specs.Races.{own_lines}
-use Rattle.world_runs.specs.Standing.{AtTurn, op_of}
-use Rattle.world_runs.specs.Turns.{turn_after}
+use Rattle.world_runs.specs.Standing.{IsInState, op_of}
+use Rattle.world_runs.specs.ClientStates.{state_left_at}
 use Rattle.clients.specs.declared.turned.Turned.{Turned}
 use Rattle.clients.specs.declared.turned.Turned.TheVariants.{Going, Done}
 use Rattle.players.specs.declared.fault.RacerFault.{RacerFault}
@@ -37,7 +37,7 @@ abbrev pub EndsWith : OpId → Event → Answer → Type 0
 EndsWith op (Ended other a) x = (other ≡ op) × (a ≡ x)
 EndsWith op (Failed other a) x = (other ≡ op) × (a ≡ x)
 EndsWith op (Began other c) x = ⊥
-EndsWith op (Refused other c) x = ⊥
+EndsWith op (NotBegun other c) x = ⊥
 EndsWith op (Acted other q r) x = ⊥
 EndsWith op (Stopped other) x = ⊥
 EndsWith op Dumped x = ⊥
@@ -97,10 +97,10 @@ told_lines (Some line) = line ∷ []
 -- It did what the line of its client asks, and the line that is told is what its events show.
 pub record Played {P A : Type 0} (counts : A → Counts) (actor : P → ℕ) (history : P → A → List Event) (state : P → A → Actor)
     (grows : P → A → P → A → List Event → Type 0) (names : List (List ℕ)) (act : Act) (p : P) (a : A) (q : P) (b : A)
-        (told : Option ReportLine) : Type 0 where
+    (told : Option ReportLine) : Type 0 where
   pub part : List Event
   pub grown : grows p a q b part
   pub does : DoesLine (actor p) (op_of (state p a).running) act part (op_of (state q b).running)
-  pub turn : AtTurn (turn_after act) (state q b)
+  pub turn : IsInState (state_left_at act) (state q b)
   pub few : (state q b).number ≤ (state p a).number + 1
   pub shows : told_lines told ≡ own_lines (counts a) names (actor p) (history p a) part

@@ -11,7 +11,7 @@ use Rattle.entry_words.specs.declared.entry.Refused.{Refused}
 use Rattle.entry_words.specs.declared.entry.Refused.TheVariants.{Astray}
 use Rattle.entry_words.specs.Moments.{rises}
 use Rattle.world_runs.specs.declared.event.Event.{Event}
-use Rattle.world_runs.specs.declared.event.Event.TheVariants.{Began, Refused as WasRefused, Acted, Ended, Stopped, Failed, Dumped}
+use Rattle.world_runs.specs.declared.event.Event.TheVariants.{Began, NotBegun as WasRefused, Acted, Ended, Stopped, Failed, Dumped}
 use Rattle.world_runs.specs.Follows.{Acts}
 use Rattle.clients.specs.Lives.{ClientLife, op_in}
 use Rattle.players.specs.Lives.{grown, news_events}

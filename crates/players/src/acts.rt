@@ -1,8 +1,8 @@
 ghost use Rattle.std.specs.Prelude.{◌≡◌, ℕ, ◌+◌, ◌<◌, ◌≤◌, ◌^◌, List, None, Some, false, IsNone, IfOk, IfErr, OnOk, length};
 ghost use Rattle.world_runs.specs.Report.{answer_line as line_of};
 ghost use Rattle.world_runs.specs.Served.{IsServed};
-ghost use Rattle.world_runs.specs.Turns.{ClientTurn, TakesAct};
-ghost use Rattle.world_runs.specs.Standing.{AtTurn};
+ghost use Rattle.world_runs.specs.ClientStates.{ClientState, TakesAct};
+ghost use Rattle.world_runs.specs.Standing.{IsInState};
 ghost use Rattle.players.specs.Players.{op_at, next_at, HasBegun, IsFault, Played};
 
 use crate::fault::RacerFault;
@@ -171,7 +171,7 @@ pub fn play<P: Player<At>, At>(
     requires fits { P.fits player.old at.old }
     requires client { (1 ≤ P.actor player.old) × (P.actor player.old ≤ length names.now) }
     requires few { (P.state player.old at.old).number + 1 < 2 ^ 31 }
-    requires takes { (turn : ClientTurn) × AtTurn turn (P.state player.old at.old) × TakesAct turn act.now }
+    requires takes { (turn : ClientState) × IsInState turn (P.state player.old at.old) × TakesAct turn act.now }
     ensures plays { IfOk result (Played P.counts P.actor P.history P.state P.grows names.now act.now player.old at.old player.new at.new) }
     ensures fits { OnOk result (P.fits player.new at.new) }
     ensures counts { P.counts at.new ≡ P.counts at.old }

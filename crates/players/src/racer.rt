@@ -1,6 +1,6 @@
 ghost use Rattle.std.specs.Prelude.{◌≡◌, ◌+◌, ◌<◌, ◌≤◌, ◌^◌, ◌++◌, [], ◌∷◌, IfErr, OnOk, length};
-ghost use Rattle.world_runs.specs.Turns.{ClientTurn, TakesAct};
-ghost use Rattle.world_runs.specs.Standing.{AtTurn};
+ghost use Rattle.world_runs.specs.ClientStates.{ClientState, TakesAct};
+ghost use Rattle.world_runs.specs.Standing.{IsInState};
 ghost use Rattle.clients.specs.Lives.{state_in};
 ghost use Rattle.players.specs.Lines.{Plays, IsFaultOf};
 ghost use Rattle.players.specs.Players.{told_lines};
@@ -45,7 +45,7 @@ pub fn play_act<C: Commits>(
     requires counts { racer.old.client.counts ≡ C.counts at.old }
     requires client { (1 ≤ racer.old.client.actor) × (racer.old.client.actor ≤ length names.now) }
     requires few { (state_in racer.old.client).number + 1 < 2 ^ 31 }
-    requires takes { (turn : ClientTurn) × AtTurn turn (state_in racer.old.client) × TakesAct turn act.now }
+    requires takes { (turn : ClientState) × IsInState turn (state_in racer.old.client) × TakesAct turn act.now }
     ensures plays { OnOk result (Plays names.now act.now racer.old racer.new) }
     ensures fault { IfErr result (IsFaultOf C.counts C.done (C.counts at.old)) }
     ensures counts { C.counts at.new ≡ C.counts at.old }

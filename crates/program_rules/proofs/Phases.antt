@@ -95,7 +95,8 @@ module _ (place : Place) (x : AnyReply) where
   entries_smooth c (Some items) = λ lack. lack
 
   made_smooth : (c : Command) (k : Key) (n : Node) (o : Over) → IsSmooth c (made_heard place k n o x)
-  made_smooth c k n o = elim (is_made x) as (λ b. IsSmooth c (if b then Bind k n o else End (refusal place k x))) [ true ↦ tt | false ↦ plain_refusal place k x ]
+  made_smooth c k n o = elim (is_made x) as (λ b. IsSmooth c (if b then Bind k n o else End (refusal place k x)))
+      [ true ↦ tt | false ↦ plain_refusal place k x ]
 
   unbound_smooth : (c : Command) (k : Key) (o : Option (Node × Hold)) → IsSmooth c (unbound_heard place k x o)
   unbound_smooth c k None = plain_refusal place k x
@@ -117,7 +118,8 @@ module _ (place : Place) (x : AnyReply) where
   first_smooth number d (commands.Mkdir (n ∷ ns)) has =
       made_smooth (commands.Mkdir (n ∷ ns)) (key_in d (last_name (n ∷ ns))) (nodes.Dir record { 0 = number }) over.Absent
   first_smooth number d (commands.Delete []) has = absurd has
-  first_smooth number d (commands.Delete (n ∷ ns)) has = unbound_smooth (commands.Delete (n ∷ ns)) (key_in d (last_name (n ∷ ns))) (as_unbound x)
+  first_smooth number d (commands.Delete (n ∷ ns)) has = unbound_smooth (commands.Delete (n ∷ ns)) (key_in d (last_name (n ∷ ns)))
+      (as_unbound x)
   first_smooth number d (commands.Rename [] []) has = absurd has
   first_smooth number d (commands.Rename [] (m ∷ to)) has = absurd has
   first_smooth number d (commands.Rename (n ∷ ns) []) has = absurd has
@@ -143,7 +145,8 @@ module _ (place : Place) (x : AnyReply) where
   smooth_hears op number c (Walk d []) smooth = first_smooth number d c smooth
   smooth_hears op number c (Bind k n o) smooth = bound_smooth c op k n (as_bound x)
   smooth_hears op number c (Grant k n) smooth =
-      elim (is_granted x) as (λ b. IsSmooth c (if b then Swap k n else End (refusal place k x))) [ true ↦ smooth | false ↦ plain_refusal place k x ]
+      elim (is_granted x) as (λ b. IsSmooth c (if b then Swap k n else End (refusal place k x)))
+      [ true ↦ smooth | false ↦ plain_refusal place k x ]
   smooth_hears op number c (Swap k n) smooth = swapped_smooth c op k n (as_swapped x)
   smooth_hears op number c (Release n h old a) smooth = released_smooth c old a smooth
   smooth_hears op number c (End a) smooth = smooth

@@ -10,7 +10,7 @@ use Rattle.tect_ids.specs.declared.script.Act.TheVariants as acts
 use Rattle.tect_ids.specs.declared.script.Line.{Line}
 use Rattle.tect_ids.specs.declared.script.Line.TheVariants as lines
 use Rattle.world_runs.specs.declared.event.Event.{Event}
-use Rattle.world_runs.specs.declared.event.Event.TheVariants.{Began, Refused, Acted, Ended, Stopped, Failed, Dumped}
+use Rattle.world_runs.specs.declared.event.Event.TheVariants.{Began, NotBegun, Acted, Ended, Stopped, Failed, Dumped}
 use Rattle.world_runs.specs.Races.{concerns, line_concerns}
 use Rattle.world_runs.specs.Follows.{Acts, IsEndOf, EndsAfter, IsBeginOf, DoesLine}
 use Rattle.world_runs.specs.ClientLines.{DoesLines}
@@ -36,7 +36,7 @@ acts_concern : (a : ℕ) (op : OpId) (n : ℕ) (es : List Event) → op.actor �
 acts_concern a op n [] k h = tt
 acts_concern a op n (Acted other q x ∷ es) k h = (is_theirs a other op h.0 k, acts_concern a op h.1.0 es k h.1.2)
 acts_concern a op n (Began other c ∷ es) k h = absurd h
-acts_concern a op n (Refused other c ∷ es) k h = absurd h
+acts_concern a op n (NotBegun other c ∷ es) k h = absurd h
 acts_concern a op n (Ended other x ∷ es) k h = absurd h
 acts_concern a op n (Stopped other ∷ es) k h = absurd h
 acts_concern a op n (Failed other x ∷ es) k h = absurd h
@@ -46,14 +46,14 @@ end_concerns : (a : ℕ) (op : OpId) (e : Event) → op.actor ≡ a → IsEndOf 
 end_concerns a op (Ended other x) k h = is_theirs a other op h k
 end_concerns a op (Failed other x) k h = is_theirs a other op h k
 end_concerns a op (Began other c) k h = absurd h
-end_concerns a op (Refused other c) k h = absurd h
+end_concerns a op (NotBegun other c) k h = absurd h
 end_concerns a op (Acted other q x) k h = absurd h
 end_concerns a op (Stopped other) k h = absurd h
 end_concerns a op Dumped k h = absurd h
 
 begin_concerns : (a : ℕ) (op : OpId) (c : Command) (e : Event) → op.actor ≡ a → IsBeginOf op c e → concerns a e ≡ true
 begin_concerns a op c (Began other d) k h = is_theirs a other op h.0 k
-begin_concerns a op c (Refused other d) k h = is_theirs a other op h.0 k
+begin_concerns a op c (NotBegun other d) k h = is_theirs a other op h.0 k
 begin_concerns a op c (Acted other q x) k h = absurd h
 begin_concerns a op c (Ended other x) k h = absurd h
 begin_concerns a op c (Stopped other) k h = absurd h
@@ -62,7 +62,8 @@ begin_concerns a op c Dumped k h = absurd h
 
 ends_concern : (a : ℕ) (op : OpId) (n : ℕ) (es : List Event) → op.actor ≡ a → EndsAfter op n es → AllConcern a es
 ends_concern a op n es k (front, end, is, acts, ends) =
-    same_events a es (front ++ end ∷ []) is (concern-append a front (end ∷ []) (acts_concern a op n front k acts) (end_concerns a op end k ends, tt))
+    same_events a es (front ++ end ∷ []) is
+    (concern-append a front (end ∷ []) (acts_concern a op n front k acts) (end_concerns a op end k ends, tt))
 
 none_concern : (a : ℕ) (es : List Event) → es ≡ [] → AllConcern a es
 none_concern a es e = same_events a es [] e tt
@@ -73,8 +74,11 @@ next_is_of a o next e h = subst (λ (p : Option OpId). BusyIsOf a p) (sym e) h
 line_concern : (a : ℕ) (busy : Option OpId) (act : Act) (es : List Event) (next : Option OpId) → BusyIsOf a busy
     → DoesLine a busy act es next
     → AllConcern a es × BusyIsOf a next
-line_concern a None (acts.Do c) es next k ((op, begin, rest, own, is, begins, runs), last) =
-    (same_events a es (begin ∷ rest) is (begin_concerns a op c begin own begins, ends_concern a op runs.0 rest own runs.1), next_is_of a None next last tt)
+line_concern a None (acts.Do c) es next k ((op, begin, rest, own, is, begins, runs), last) = (
+  same_events a es (begin ∷ rest) is (begin_concerns a op c begin own begins, ends_concern a op runs.0 rest own runs.1),
+  next_is_of a
+      None next last tt,
+)
 line_concern a None (acts.Begin c) es next k (op, begin, own, is, begins, last) =
     (same_events a es (begin ∷ []) is (begin_concerns a op c begin own begins, tt), next_is_of a (Some op) next last own)
 line_concern a None (acts.Step n) es next k h = (none_concern a es h.0, next_is_of a None next h.1 tt)
@@ -88,7 +92,8 @@ line_concern a (Some op) (acts.Step n) es next k h =
       | inr s ↦ (ends_concern a op s.0 es k s.2, next_is_of a None next s.3 tt)
     ]
 line_concern a (Some op) acts.Run es next k h = (ends_concern a op h.0.0 es k h.0.1, next_is_of a None next h.1 tt)
-line_concern a (Some op) acts.Stop es next k h = (same_events a es (Stopped op ∷ []) h.0 (is_theirs a op op refl k, tt), next_is_of a None next h.1 tt)
+line_concern a (Some op) acts.Stop es next k h =
+    (same_events a es (Stopped op ∷ []) h.0 (is_theirs a op op refl k, tt), next_is_of a None next h.1 tt)
 
 pub lines_concern : (a : ℕ) (busy : Option OpId) (ls : List Line) (es : List Event) (next : Option OpId) → BusyIsOf a busy
     → DoesLines a busy ls es next
@@ -97,7 +102,8 @@ lines_concern a busy [] es next k h = none_concern a es h.0
 lines_concern a busy (lines.Client client other act ∷ ls) es next k (part, rest, then, own, is, does, others) =
     let here : AllConcern a part × BusyIsOf a then = line_concern a busy act part then k does in
     same_events a es (part ++ rest) is (concern-append a part rest here.0 (lines_concern a then ls rest next here.1 others))
-lines_concern a busy (lines.Dump ∷ ls) es next k (rest, is, others) = same_events a es (Dumped ∷ rest) is (refl, lines_concern a busy ls rest next k others)
+lines_concern a busy (lines.Dump ∷ ls) es next k (rest, is, others) = same_events a es (Dumped ∷ rest) is
+    (refl, lines_concern a busy ls rest next k others)
 lines_concern a busy (lines.Store counts ∷ ls) es next k h = absurd h
 lines_concern a busy (lines.Sweep ∷ ls) es next k h = absurd h
 lines_concern a busy (lines.Lose disk ∷ ls) es next k h = absurd h
@@ -115,7 +121,8 @@ dumps_do : (n b : ℕ) (ls : List Line) (clocks : List ℕ) → (b ≡ 0) ⊎ (n
     → DoesLines b None (filter (line_concerns b) ls) (dumps_at clocks) None
 dumps_do n b [] [] out h e = (refl, refl)
 dumps_do n b [] (k ∷ ks) out h e = absurd (omega arith)
-dumps_do n b (lines.Client client actor act ∷ ls) clocks out h e = rw (other_number actor b (no_client n actor b out h.0)) (dumps_do n b ls clocks out h.1 e)
+dumps_do n b (lines.Client client actor act ∷ ls) clocks out h e = rw (other_number actor b (no_client n actor b out h.0))
+    (dumps_do n b ls clocks out h.1 e)
 dumps_do n b (lines.Dump ∷ ls) [] out h e = absurd (omega arith)
 dumps_do n b (lines.Dump ∷ ls) (k ∷ ks) out h e = (dumps_at ks, refl, dumps_do n b ls ks out h.1 (omega arith))
 dumps_do n b (lines.Store counts ∷ ls) clocks out h e = absurd h.0

@@ -38,7 +38,8 @@ part_last ms ss = events_of ms ++ silent_last ss
 now_own : (counts : Counts) (names : List (List ℕ)) (low k : ℕ) (ks : List ℕ) (before : List Event) (ms : List Moment) (s : Story)
     → GoesOn counts names low (k ∷ ks) before ms s → OwnPart s.actor (part_of s)
 now_own counts names low k ks before ms s g =
-    let o : OwnParts s.actor (part_of s ∷ (rest_of s).ended) s.last = subst (λ (ps : List Part). OwnParts s.actor ps s.last) (ended_is low k ks s g.timely) g.owned in
+    let o : OwnParts s.actor (part_of s ∷ (rest_of s).ended) s.last = subst (λ (ps : List Part). OwnParts s.actor ps s.last)
+    (ended_is low k ks s g.timely) g.owned in
     o.0.0
 
 now_silent : (counts : Counts) (names : List (List ℕ)) (low k : ℕ) (ks : List ℕ) (before : List Event) (ms : List Moment) (ss : List Story)
@@ -53,7 +54,8 @@ last_silent counts names low clocks before ms ss go i s e = ((go i s e).0, (go i
 pub quiet_now : (counts : Counts) (names : List (List ℕ)) (low k : ℕ) (ks : List ℕ) (before : List Event) (ms : List Moment)
     (ss : List Story)
     → AllGoOn counts names low (k ∷ ks) before ms ss → AllByRecursion IsSilent (silent_now ss)
-quiet_now counts names low k ks before ms ss go = every_piece IsSilent (λ s. (part_of s).silent) ss (λ i s e. (now_own counts names low k ks before ms s (go i s e).1).quiet)
+quiet_now counts names low k ks before ms ss go = every_piece IsSilent (λ s. (part_of s).silent) ss
+    (λ i s e. (now_own counts names low k ks before ms s (go i s e).1).quiet)
 
 pub quiet_last : (counts : Counts) (names : List (List ℕ)) (low : ℕ) (clocks : List ℕ) (before : List Event) (ms : List Moment)
     (ss : List Story)
@@ -61,12 +63,14 @@ pub quiet_last : (counts : Counts) (names : List (List ℕ)) (low : ℕ) (clocks
 quiet_last counts names low clocks before ms ss go = every_piece IsSilent (λ s. s.last.silent) ss (λ i s e. (go i s e).1.owned.1.quiet)
 
 with_silent : (ms : List Moment) (silent : List Event) → AllByRecursion IsSilent silent → ArePlain (events_of ms ++ silent)
-with_silent ms silent q = every-append IsNoDump (events_of ms) silent (moments_are_plain ms) (every_weaker IsSilent IsNoDump silent_no_dump silent q)
+with_silent ms silent q = every-append IsNoDump (events_of ms) silent (moments_are_plain ms)
+    (every_weaker IsSilent IsNoDump silent_no_dump silent q)
 
 pub plain_now : (counts : Counts) (names : List (List ℕ)) (low k : ℕ) (ks : List ℕ) (before : List Event) (ms : List Moment)
     (ss : List Story)
     → AllGoOn counts names low (k ∷ ks) before ms ss → ArePlain (part_now k ms ss)
-plain_now counts names low k ks before ms ss go = with_silent (filter (is_early k) ms) (silent_now ss) (quiet_now counts names low k ks before ms ss go)
+plain_now counts names low k ks before ms ss go = with_silent (filter (is_early k) ms) (silent_now ss)
+    (quiet_now counts names low k ks before ms ss go)
 
 pub plain_last : (counts : Counts) (names : List (List ℕ)) (low : ℕ) (clocks : List ℕ) (before : List Event) (ms : List Moment)
     (ss : List Story)
@@ -91,9 +95,11 @@ pub own_last : (counts : Counts) (names : List (List ℕ)) (low : ℕ) (before :
     → own s.actor (part_last ms ss) ≡ part_events s.last
 own_last counts names low before ms ss go notes i s e =
     let g : GoesOn counts names low [] before ms s = (go i s e).1 in
-    let trail : filter (is_of s.actor) ms ≡ s.last.news = g.trail ∙ ap (λ (ps : List Part). all_moments ps s.last) (none_ended low s.ended s.last g.timely) in
+    let trail : filter (is_of s.actor) ms ≡ s.last.news = g.trail ∙ ap (λ (ps : List Part). all_moments ps s.last)
+    (none_ended low s.ended s.last g.timely) in
     own-append s.actor (events_of ms) (silent_last ss)
-    ∙ rw (own_moments s.actor ms notes, trail, own_of_one (λ t. t.last.silent) 1 ss (last_silent counts names low [] before ms ss go) i s e) refl
+    ∙ rw (own_moments s.actor ms notes, trail, own_of_one (λ t. t.last.silent) 1 ss (last_silent counts names low [] before ms ss go) i s e)
+    refl
 
 -- ---- behind a dump
 
@@ -104,7 +110,8 @@ last_stays (s ∷ ss) = ap (λ (es : List Event). s.last.silent ++ es) (last_sta
 pub history_next : (k : ℕ) (ks : List ℕ) (ss : List Story) (ms : List Moment)
     → history_of_race (k ∷ ks) ss ms ≡ part_now k ms ss ++ Dumped ∷ history_of_race ks (map rest_of ss) (filter (is_late k) ms)
 history_next k ks ss ms =
-    ap (λ (es : List Event). part_now k ms ss ++ Dumped ∷ woven (cuts_of ks (map rest_of ss)) es (filter (is_late k) ms)) (sym (last_stays ss))
+    ap (λ (es : List Event). part_now k ms ss ++ Dumped ∷ woven (cuts_of ks (map rest_of ss)) es (filter (is_late k) ms))
+    (sym (last_stays ss))
 
 pub all_go_on : (counts : Counts) (names : List (List ℕ)) (low k : ℕ) (ks : List ℕ) (before : List Event) (ms : List Moment)
     (ss : List Story)
@@ -116,7 +123,8 @@ all_go_on counts names low k ks before ms ss go notes i t e =
     let here : (s.actor ≡ 1 + i) × GoesOn counts names low (k ∷ ks) before ms s = go i s at.1 in
     let next : GoesOn counts names k ks ((before ++ part_now k ms ss) ++ Dumped ∷ []) (filter (is_late k) ms) (rest_of s) =
     goes_on counts names low k ks before (part_now k ms ss) ms s here.1 (own_now counts names low k ks before ms ss go notes i s at.1) in
-    subst (λ (r : Story). (r.actor ≡ 1 + i) × GoesOn counts names k ks ((before ++ part_now k ms ss) ++ Dumped ∷ []) (filter (is_late k) ms) r) (sym at.2) (here.0, next)
+    subst (λ (r : Story). (r.actor ≡ 1 + i)
+    × GoesOn counts names k ks ((before ++ part_now k ms ss) ++ Dumped ∷ []) (filter (is_late k) ms) r) (sym at.2) (here.0, next)
 
 -- the events of refused ops before each dump
 pub quiet_cuts : (counts : Counts) (names : List (List ℕ)) (low : ℕ) (clocks : List ℕ) (before : List Event) (ms : List Moment)
@@ -138,7 +146,8 @@ IsStranger b ss = (i : ℕ) (s : Story) → slice_get ss i ≡ Some s → b ≢ 
 
 concerns_dump : (a : ℕ) (part es : List Event) → ArePlain part
     → filter (concerns a) (part ++ Dumped ∷ es) ≡ own a part ++ Dumped ∷ filter (concerns a) es
-concerns_dump a part es plain = filter-append (concerns a) part (Dumped ∷ es) ∙ ap (λ (fs : List Event). fs ++ Dumped ∷ filter (concerns a) es) (plain_own a part plain)
+concerns_dump a part es plain = filter-append (concerns a) part (Dumped ∷ es) ∙ ap
+    (λ (fs : List Event). fs ++ Dumped ∷ filter (concerns a) es) (plain_own a part plain)
 
 mapped_here : (ss : List Story) (i : ℕ) (s : Story) → slice_get ss i ≡ Some s → slice_get (map rest_of ss) i ≡ Some (rest_of s)
 mapped_here ss i s e = slice_get-map rest_of ss i ∙ ap (λ (o : Option Story). option_map rest_of o) e
@@ -155,22 +164,27 @@ pub client_concerns : (counts : Counts) (names : List (List ℕ)) (low : ℕ) (c
     → AllGoOn counts names low clocks before ms ss → AllByRecursion IsOwnNote ms → (i : ℕ) (s : Story) → slice_get ss i ≡ Some s
     → filter (concerns s.actor) (history_of_race clocks ss ms) ≡ with_dumps s.ended s.last
 client_concerns counts names low [] before ms ss go notes i s e =
-    plain_own s.actor (part_last ms ss) (plain_last counts names low [] before ms ss go) ∙ own_last counts names low before ms ss go notes i s e
+    plain_own s.actor (part_last ms ss) (plain_last counts names low [] before ms ss go) ∙ own_last counts names low before ms ss go notes i
+    s e
     ∙ ap (λ (ps : List Part). with_dumps ps s.last) (sym (none_ended low s.ended s.last (go i s e).1.timely))
 client_concerns counts names low (k ∷ ks) before ms ss go notes i s e =
     let next : AllGoOn counts names k ks ((before ++ part_now k ms ss) ++ Dumped ∷ []) (filter (is_late k) ms) (map rest_of ss) =
     all_go_on counts names low k ks before ms ss go notes in
-    let rest : filter (concerns s.actor) (history_of_race ks (map rest_of ss) (filter (is_late k) ms)) ≡ with_dumps (rest_of s).ended s.last =
+    let rest : filter (concerns s.actor) (history_of_race ks (map rest_of ss) (filter (is_late k) ms)) ≡ with_dumps (rest_of s).ended s.last
+    =
     client_concerns counts names k ks ((before ++ part_now k ms ss) ++ Dumped ∷ []) (filter (is_late k) ms) (map rest_of ss) next
     (every-filter IsOwnNote (is_late k) ms notes) i (rest_of s) (mapped_here ss i s e) in
     ap (λ (es : List Event). filter (concerns s.actor) es) (history_next k ks ss ms)
-    ∙ concerns_dump s.actor (part_now k ms ss) (history_of_race ks (map rest_of ss) (filter (is_late k) ms)) (plain_now counts names low k ks before ms ss go)
-    ∙ rw (own_now counts names low k ks before ms ss go notes i s e, rest) (ap (λ (ps : List Part). with_dumps ps s.last) (sym (ended_is low k ks s (go i s e).1.timely)))
+    ∙ concerns_dump s.actor (part_now k ms ss) (history_of_race ks (map rest_of ss) (filter (is_late k) ms))
+    (plain_now counts names low k ks before ms ss go)
+    ∙ rw (own_now counts names low k ks before ms ss go notes i s e, rest)
+    (ap (λ (ps : List Part). with_dumps ps s.last) (sym (ended_is low k ks s (go i s e).1.timely)))
 
 own_stranger : (b : ℕ) (ms : List Moment) (silent : List Event) → AllByRecursion IsOwnNote ms → AllByRecursion (λ m. is_of b m ≡ false) ms
     → own b silent ≡ []
     → own b (events_of ms ++ silent) ≡ []
-own_stranger b ms silent notes others none = own-append b (events_of ms) silent ∙ rw (own_moments b ms notes, filter_none (is_of b) ms others, none) refl
+own_stranger b ms silent notes others none = own-append b (events_of ms) silent ∙ rw
+    (own_moments b ms notes, filter_none (is_of b) ms others, none) refl
 
 pub stranger_concerns : (counts : Counts) (names : List (List ℕ)) (low : ℕ) (clocks : List ℕ) (before : List Event) (ms : List Moment)
     (ss : List Story)
@@ -179,16 +193,20 @@ pub stranger_concerns : (counts : Counts) (names : List (List ℕ)) (low : ℕ) 
     → filter (concerns b) (history_of_race clocks ss ms) ≡ dumps_at clocks
 stranger_concerns counts names low [] before ms ss go notes b stranger others =
     plain_own b (part_last ms ss) (plain_last counts names low [] before ms ss go)
-    ∙ own_stranger b ms (silent_last ss) notes others (own_of_none (λ t. t.last.silent) 1 ss (last_silent counts names low [] before ms ss go) b stranger)
+    ∙ own_stranger b ms (silent_last ss) notes others
+    (own_of_none (λ t. t.last.silent) 1 ss (last_silent counts names low [] before ms ss go) b stranger)
 stranger_concerns counts names low (k ∷ ks) before ms ss go notes b stranger others =
     let next : AllGoOn counts names k ks ((before ++ part_now k ms ss) ++ Dumped ∷ []) (filter (is_late k) ms) (map rest_of ss) =
     all_go_on counts names low k ks before ms ss go notes in
     let rest : filter (concerns b) (history_of_race ks (map rest_of ss) (filter (is_late k) ms)) ≡ dumps_at ks =
     stranger_concerns counts names k ks ((before ++ part_now k ms ss) ++ Dumped ∷ []) (filter (is_late k) ms) (map rest_of ss) next
-    (every-filter IsOwnNote (is_late k) ms notes) b (stranger_stays b ss stranger) (every-filter (λ m. is_of b m ≡ false) (is_late k) ms others) in
+    (every-filter IsOwnNote (is_late k) ms notes) b (stranger_stays b ss stranger)
+    (every-filter (λ m. is_of b m ≡ false) (is_late k) ms others) in
     let none : own b (part_now k ms ss) ≡ [] =
-    own_stranger b (filter (is_early k) ms) (silent_now ss) (every-filter IsOwnNote (is_early k) ms notes) (every-filter (λ m. is_of b m ≡ false) (is_early k) ms others)
+    own_stranger b (filter (is_early k) ms) (silent_now ss) (every-filter IsOwnNote (is_early k) ms notes)
+    (every-filter (λ m. is_of b m ≡ false) (is_early k) ms others)
     (own_of_none (λ t. (part_of t).silent) 1 ss (now_silent counts names low k ks before ms ss go) b stranger) in
     ap (λ (es : List Event). filter (concerns b) es) (history_next k ks ss ms)
-    ∙ concerns_dump b (part_now k ms ss) (history_of_race ks (map rest_of ss) (filter (is_late k) ms)) (plain_now counts names low k ks before ms ss go)
+    ∙ concerns_dump b (part_now k ms ss) (history_of_race ks (map rest_of ss) (filter (is_late k) ms))
+    (plain_now counts names low k ks before ms ss go)
     ∙ rw (none, rest) refl

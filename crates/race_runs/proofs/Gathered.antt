@@ -46,12 +46,14 @@ no_own_dumps b (k ∷ ks) = no_own_dumps b ks
 rising : (clocks : List ℕ) (ss : List Story) (ms : List Moment) → All (λ m. (1 ≤ actor_of m) × (actor_of m ≤ length ss)) ms
     → ((i : ℕ) (s : Story) → slice_get ss i ≡ Some s → Timely 0 clocks s.ended s.last) → ClocksRise ms 0 clocks
 rising clocks [] [] known timely = no_clocks_fall 0 clocks
-rising clocks [] (m ∷ ms) known timely = absurd (let k : (1 ≤ actor_of m) × (actor_of m ≤ 0) = known 0 m (omega arith) in omega (arith, k.0, k.1))
+rising clocks [] (m ∷ ms) known timely = absurd
+    (let k : (1 ≤ actor_of m) × (actor_of m ≤ 0) = known 0 m (omega arith) in omega (arith, k.0, k.1))
 rising clocks (s ∷ ss) ms known timely = timely_clocks_rise ms 0 clocks s.ended s.last (timely 0 s refl)
 
 -- ---- what all stories together say
 
-module _ (counts : Counts) (names : List (List ℕ)) (lines : List Line) (clocks : List ℕ) (ss : List Story) (ks : List AnyKept) (ms : List Moment)
+module _ (counts : Counts) (names : List (List ℕ)) (lines : List Line) (clocks : List ℕ) (ss : List Story) (ks : List AnyKept)
+    (ms : List Moment)
     (g : AreGathered counts names lines clocks ss ks ms) where
   story : (i : ℕ) (s : Story) → slice_get ss i ≡ Some s → IsStory counts names lines clocks s
   story i s e = at_place (IsStory counts names lines clocks) ss i s g.stories e
@@ -60,7 +62,8 @@ module _ (counts : Counts) (names : List (List ℕ)) (lines : List Line) (clocks
   parts i s e =
       let t : IsStory counts names lines clocks s = story i s e in
       let quiet : AllByRecursion (λ p. AllByRecursion IsSilent p.silent) s.ended =
-      every_weaker AllSilent (λ p. AllByRecursion IsSilent p.silent) (λ p h. recursion_from_All IsSilent p.silent h) s.ended (recursion_from_All AllSilent s.ended t.silent.0) in
+      every_weaker AllSilent (λ p. AllByRecursion IsSilent p.silent) (λ p h. recursion_from_All IsSilent p.silent h) s.ended
+      (recursion_from_All AllSilent s.ended t.silent.0) in
       own_parts s.actor s.ended s.last quiet (recursion_from_All IsSilent s.last.silent t.silent.1)
       (lines_concern s.actor None (filter (line_concerns s.actor) lines) (with_dumps s.ended s.last) t.busy tt t.does)
 
@@ -69,7 +72,13 @@ module _ (counts : Counts) (names : List (List ℕ)) (lines : List Line) (clocks
       let t : IsStory counts names lines clocks s = story i s e in
       let n : s.actor ≡ i + 1 = g.numbered i s e in (
         omega (arith, n),
-        record { timely = t.timely; owned = parts i s e; trail = at_place (λ r. filter (is_of r.actor) ms ≡ all_moments r.ended r.last) ss i s g.trails e; answers = t.answers },
+        record {
+          timely = t.timely;
+          owned = parts i s e;
+          trail = at_place (λ r. filter (is_of r.actor) ms ≡ all_moments r.ended r.last) ss i
+              s g.trails e;
+          answers = t.answers;
+        },
       )
 
   -- an actor of so many
@@ -90,7 +99,8 @@ module _ (counts : Counts) (names : List (List ℕ)) (lines : List Line) (clocks
       (λ b k. let of : (i : ℕ) × (s : Story) × (slice_get ss i ≡ Some s) × (s.actor ≡ b) = story_of b k in
       let s : Story = of.1 in
       let noted : AllByRecursion P (filter (is_of s.actor) ms) =
-      subst (λ (ns : List Moment). AllByRecursion P ns) (sym (go of.0 s of.2).1.trail) (recursion_from_All P (all_moments s.ended s.last) (h of.0 s of.2)) in
+      subst (λ (ns : List Moment). AllByRecursion P ns) (sym (go of.0 s of.2).1.trail)
+      (recursion_from_All P (all_moments s.ended s.last) (h of.0 s of.2)) in
       subst (λ (a : ℕ). AllByRecursion P (filter (is_of a) ms)) of.3 noted)
       (recursion_from_All (λ m. IsClient (actor_of m)) ms g.known)
 
@@ -102,8 +112,10 @@ module _ (counts : Counts) (names : List (List ℕ)) (lines : List Line) (clocks
 
   silent : AreSilent (cuts_of clocks ss) (silent_last ss)
   silent = (
-    All-weaker (λ (c : Cut). AllByRecursion IsSilent c.silent) (λ (c : Cut). All IsSilent c.silent) (λ c h. All-from_recursion IsSilent c.silent h) (cuts_of clocks ss)
-        (All-from_recursion (λ (c : Cut). AllByRecursion IsSilent c.silent) (cuts_of clocks ss) (quiet_cuts counts names 0 clocks [] ms ss go notes)),
+    All-weaker (λ (c : Cut). AllByRecursion IsSilent c.silent) (λ (c : Cut). All IsSilent c.silent)
+        (λ c h. All-from_recursion IsSilent c.silent h) (cuts_of clocks ss)
+        (All-from_recursion (λ (c : Cut). AllByRecursion IsSilent c.silent) (cuts_of clocks ss)
+        (quiet_cuts counts names 0 clocks [] ms ss go notes)),
     All-from_recursion IsSilent (silent_last ss) (quiet_last counts names 0 clocks [] ms ss go),
   )
 
@@ -112,13 +124,15 @@ module _ (counts : Counts) (names : List (List ℕ)) (lines : List Line) (clocks
   -- a client's own is its story
   abbrev pub OfClient : ℕ → Type 0
   OfClient b =
-      (s : Story) × IsStory counts names lines clocks s × (s.actor ≡ b) × (filter (concerns s.actor) (history_of_race clocks ss ms) ≡ with_dumps s.ended s.last)
+      (s : Story) × IsStory counts names lines clocks s × (s.actor ≡ b)
+      × (filter (concerns s.actor) (history_of_race clocks ss ms) ≡ with_dumps s.ended s.last)
       × (own s.actor (history_of_race clocks ss ms) ≡ all_events s.ended s.last)
 
   -- of another actor there are the dumps alone
   abbrev pub OfNone : ℕ → Type 0
   OfNone b =
-      ((b ≡ 0) ⊎ (length names < b)) × (filter (concerns b) (history_of_race clocks ss ms) ≡ dumps_at clocks) × (own b (history_of_race clocks ss ms) ≡ [])
+      ((b ≡ 0) ⊎ (length names < b)) × (filter (concerns b) (history_of_race clocks ss ms) ≡ dumps_at clocks)
+      × (own b (history_of_race clocks ss ms) ≡ [])
 
   of_client : (b : ℕ) → IsClient b → OfClient b
   of_client b h =
@@ -130,7 +144,8 @@ module _ (counts : Counts) (names : List (List ℕ)) (lines : List Line) (clocks
         story of.0 s of.2,
         of.3,
         all,
-        sym (own_of_concerns s.actor (history_of_race clocks ss ms)) ∙ ap (λ (es : List Event). own s.actor es) all ∙ own_with_dumps s.actor s.ended s.last (parts of.0 s of.2),
+        sym (own_of_concerns s.actor (history_of_race clocks ss ms)) ∙ ap (λ (es : List Event). own s.actor es) all ∙ own_with_dumps s.actor
+            s.ended s.last (parts of.0 s of.2),
       )
 
   of_none : (b : ℕ) → (b ≡ 0) ⊎ (length names < b) → OfNone b
@@ -141,9 +156,11 @@ module _ (counts : Counts) (names : List (List ℕ)) (lines : List Line) (clocks
       elim out [ inl h ↦ omega (arith, n, d, h) | inr h ↦ omega (arith, n, d, h, short, number) ]) in
       let others : AllByRecursion (λ m. is_of b m ≡ false) ms =
       every_weaker (λ m. IsClient (actor_of m)) (λ m. is_of b m ≡ false)
-      (λ m k. other_number (actor_of m) b (λ d. absurd (elim out [ inl h ↦ omega (arith, k.0, d, h) | inr h ↦ omega (arith, k.1, d, h, number) ])))
+      (λ m k. other_number (actor_of m) b
+      (λ d. absurd (elim out [ inl h ↦ omega (arith, k.0, d, h) | inr h ↦ omega (arith, k.1, d, h, number) ])))
       ms (recursion_from_All (λ m. IsClient (actor_of m)) ms g.known) in
-      let all : filter (concerns b) (history_of_race clocks ss ms) ≡ dumps_at clocks = stranger_concerns counts names 0 clocks [] ms ss go notes b stranger others in
+      let all : filter (concerns b) (history_of_race clocks ss ms) ≡ dumps_at clocks = stranger_concerns counts names 0 clocks [] ms ss go
+      notes b stranger others in
       (out, all, sym (own_of_concerns b (history_of_race clocks ss ms)) ∙ ap (λ (es : List Event). own b es) all ∙ no_own_dumps b clocks)
 
   of_actor : (b : ℕ) → OfClient b ⊎ OfNone b
@@ -173,12 +190,16 @@ module _ (counts : Counts) (names : List (List ℕ)) (lines : List Line) (clocks
   ]
 
   abbrev Does : ℕ → Type 0
-  Does b = (next : Option OpId) × DoesLines b None (filter (line_concerns b) lines) (filter (concerns b) (history_of_race clocks ss ms)) next
+  Does b = (next : Option OpId) × DoesLines b None (filter (line_concerns b) lines) (filter (concerns b) (history_of_race clocks ss ms))
+      next
 
   does : (b : ℕ) → Does b
   does b = elim (of_actor b) [
-    | inl h ↦ subst (λ (a : ℕ). Does a) h.2
-        (h.1.busy, subst (λ (es : List Event). DoesLines h.0.actor None (filter (line_concerns h.0.actor) lines) es h.1.busy) (sym h.3) h.1.does)
+    | inl h ↦ subst (λ (a : ℕ). Does a) h.2 (
+      h.1.busy,
+      subst (λ (es : List Event). DoesLines h.0.actor None (filter (line_concerns h.0.actor) lines) es h.1.busy) (sym h.3)
+          h.1.does,
+    )
     | inr h ↦ (
       None,
       subst (λ (es : List Event). DoesLines b None (filter (line_concerns b) lines) es None) (sym h.1)
@@ -187,7 +208,8 @@ module _ (counts : Counts) (names : List (List ℕ)) (lines : List Line) (clocks
   ]
 
   replies : RepliesAre opening_store (history_of_race clocks ss ms)
-  replies = woven_replies opening_store (cuts_of clocks ss) (silent_last ss) ms g.rising silent (places_reply counts ks ms g.places g.started g.histories placed)
+  replies = woven_replies opening_store (cuts_of clocks ss) (silent_last ss) ms g.rising silent
+      (places_reply counts ks ms g.places g.started g.histories placed)
 
   clocks_rise : ClocksRise ms 0 clocks
   clocks_rise = rising clocks ss ms g.known (λ i s e. (story i s e).timely)

@@ -46,7 +46,8 @@ last_clock low (k ∷ ks) = last_clock k ks
 
 pub moments_with : (ended : List Part) (p : Part) → all_moments ended p ≡ all_moments ended no_part ++ p.news
 moments_with [] p = refl
-moments_with (q ∷ qs) p = ap (λ (ms : List Moment). q.news ++ ms) (moments_with qs p) ∙ sym (append_assoc q.news (all_moments qs no_part) p.news)
+moments_with (q ∷ qs) p = ap (λ (ms : List Moment). q.news ++ ms) (moments_with qs p) ∙ sym
+    (append_assoc q.news (all_moments qs no_part) p.news)
 
 pub moments_dumped : (ended : List Part) (p : Part) → all_moments (ended ++ p ∷ []) no_part ≡ all_moments ended p
 moments_dumped [] p = append-nil p.news
@@ -54,7 +55,8 @@ moments_dumped (q ∷ qs) p = ap (λ (ms : List Moment). q.news ++ ms) (moments_
 
 pub events_with : (ended : List Part) (p : Part) → all_events ended p ≡ all_events ended no_part ++ part_events p
 events_with [] p = refl
-events_with (q ∷ qs) p = ap (λ (es : List Event). part_events q ++ es) (events_with qs p) ∙ sym (append_assoc (part_events q) (all_events qs no_part) (part_events p))
+events_with (q ∷ qs) p = ap (λ (es : List Event). part_events q ++ es) (events_with qs p) ∙ sym
+    (append_assoc (part_events q) (all_events qs no_part) (part_events p))
 
 pub events_dumped : (ended : List Part) (p : Part) → all_events (ended ++ p ∷ []) no_part ≡ all_events ended p
 events_dumped [] p = append-nil (part_events p)
@@ -63,12 +65,14 @@ events_dumped (q ∷ qs) p = ap (λ (es : List Event). part_events q ++ es) (eve
 pub dumps_with : (ended : List Part) (p : Part) → with_dumps ended p ≡ with_dumps ended no_part ++ part_events p
 dumps_with [] p = refl
 dumps_with (q ∷ qs) p =
-    ap (λ (es : List Event). part_events q ++ Dumped ∷ es) (dumps_with qs p) ∙ sym (append_assoc (part_events q) (Dumped ∷ with_dumps qs no_part) (part_events p))
+    ap (λ (es : List Event). part_events q ++ Dumped ∷ es) (dumps_with qs p) ∙ sym
+    (append_assoc (part_events q) (Dumped ∷ with_dumps qs no_part) (part_events p))
 
 pub dumps_dumped : (ended : List Part) (p : Part) → with_dumps (ended ++ p ∷ []) no_part ≡ with_dumps ended p ++ Dumped ∷ []
 dumps_dumped [] p = refl
 dumps_dumped (q ∷ qs) p =
-    ap (λ (es : List Event). part_events q ++ Dumped ∷ es) (dumps_dumped qs p) ∙ sym (append_assoc (part_events q) (Dumped ∷ with_dumps qs p) (Dumped ∷ []))
+    ap (λ (es : List Event). part_events q ++ Dumped ∷ es) (dumps_dumped qs p) ∙ sym
+    (append_assoc (part_events q) (Dumped ∷ with_dumps qs p) (Dumped ∷ []))
 
 -- ---- clocks
 
@@ -104,11 +108,13 @@ pub answers_with : (counts : Counts) (names : List (List ℕ)) (actor : ℕ) (be
     → Answers counts names actor before ended no_part
     → p.answers ≡ own_lines counts names actor (before ++ all_events ended no_part) (part_events p)
     → Answers counts names actor before ended p
-answers_with counts names actor before [] p a shown = shown ∙ ap (λ (es : List Event). own_lines counts names actor es (part_events p)) (append-nil before)
+answers_with counts names actor before [] p a shown = shown ∙ ap (λ (es : List Event). own_lines counts names actor es (part_events p))
+    (append-nil before)
 answers_with counts names actor before (q ∷ qs) p a shown = (
   a.0,
   answers_with counts names actor (before ++ part_events q) qs p a.1
-      (shown ∙ ap (λ (es : List Event). own_lines counts names actor es (part_events p)) (sym (append_assoc before (part_events q) (all_events qs no_part)))),
+      (shown ∙ ap (λ (es : List Event). own_lines counts names actor es (part_events p))
+      (sym (append_assoc before (part_events q) (all_events qs no_part)))),
 )
 
 pub answers_dumped : (counts : Counts) (names : List (List ℕ)) (actor : ℕ) (before : List Event) (ended : List Part) (p : Part)
@@ -134,7 +140,8 @@ story_begins counts names actor = record {
 
 -- What a client did in the lines of a part, all of whose events so far are a run within its limits, makes its story of these
 -- lines too.
-pub record AddsPart (counts : Counts) (names : List (List ℕ)) (lines : List Line) (clocks : List ℕ) (s : Story) (busy next : Option OpId) (p : Part) : Type 0 where
+pub record AddsPart (counts : Counts) (names : List (List ℕ)) (lines : List Line) (clocks : List ℕ) (s : Story) (busy next : Option OpId)
+    (p : Part) : Type 0 where
   pub own : OwnRun counts idle_actor (all_events s.ended no_part ++ part_events p)
   pub limits : OwnLimits counts [] idle_actor (all_events s.ended no_part ++ part_events p)
   pub does : DoesLines s.actor busy (filter (line_concerns s.actor) lines) (part_events p) next
@@ -149,9 +156,12 @@ pub story_with_part : (counts : Counts) (names : List (List ℕ)) (done ls : Lis
     → (next : Option OpId) (p : Part) → AddsPart counts names ls clocks s t.busy next p
     → IsStory counts names (done ++ ls) clocks (with_part s p)
 story_with_part counts names done ls clocks s t next p a =
-    let own_lines_are : filter (line_concerns s.actor) (done ++ ls) ≡ filter (line_concerns s.actor) done ++ filter (line_concerns s.actor) ls = filter-append (line_concerns s.actor) done ls in
-    let does : DoesLines s.actor None (filter (line_concerns s.actor) done ++ filter (line_concerns s.actor) ls) (with_dumps s.ended no_part ++ part_events p) next =
-    does_lines-append s.actor None t.busy next (filter (line_concerns s.actor) done) (filter (line_concerns s.actor) ls) (with_dumps s.ended no_part) (part_events p) t.does a.does in
+    let own_lines_are : filter (line_concerns s.actor) (done ++ ls) ≡ filter (line_concerns s.actor) done ++ filter (line_concerns s.actor)
+    ls = filter-append (line_concerns s.actor) done ls in
+    let does : DoesLines s.actor None (filter (line_concerns s.actor) done ++ filter (line_concerns s.actor) ls)
+    (with_dumps s.ended no_part ++ part_events p) next =
+    does_lines-append s.actor None t.busy next (filter (line_concerns s.actor) done) (filter (line_concerns s.actor) ls)
+    (with_dumps s.ended no_part) (part_events p) t.does a.does in
     record {
       own = rw (events_with s.ended p) a.own;
       limits = rw (events_with s.ended p) a.limits;
@@ -172,8 +182,10 @@ pub story_dumped : (counts : Counts) (names : List (List ℕ)) (done : List Line
 story_dumped counts names done clocks k s t rise up =
     let own_lines_are : filter (line_concerns s.actor) (done ++ lines.Dump ∷ []) ≡ filter (line_concerns s.actor) done ++ lines.Dump ∷ [] =
     filter-append (line_concerns s.actor) done (lines.Dump ∷ []) in
-    let does : DoesLines s.actor None (filter (line_concerns s.actor) done ++ lines.Dump ∷ []) (with_dumps s.ended s.last ++ Dumped ∷ []) t.busy =
-    does_lines-append s.actor None t.busy t.busy (filter (line_concerns s.actor) done) (lines.Dump ∷ []) (with_dumps s.ended s.last) (Dumped ∷ []) t.does ([], refl, (refl, refl)) in
+    let does : DoesLines s.actor None (filter (line_concerns s.actor) done ++ lines.Dump ∷ []) (with_dumps s.ended s.last ++ Dumped ∷ [])
+    t.busy =
+    does_lines-append s.actor None t.busy t.busy (filter (line_concerns s.actor) done) (lines.Dump ∷ []) (with_dumps s.ended s.last)
+    (Dumped ∷ []) t.does ([], refl, (refl, refl)) in
     record {
       own = rw (events_dumped s.ended s.last) t.own;
       limits = rw (events_dumped s.ended s.last) t.limits;
@@ -183,7 +195,11 @@ story_dumped counts names done clocks k s t rise up =
       answers = answers_dumped counts names s.actor [] s.ended s.last t.answers;
       placed = rw (moments_dumped s.ended s.last) t.placed;
       noted = rw (moments_dumped s.ended s.last) t.noted;
-      silent = (All-append AllSilent s.ended (s.last ∷ []) t.silent.0 (All-cons AllSilent s.last [] t.silent.1 (All-nil AllSilent)), All-nil IsSilent);
+      silent = (
+        All-append AllSilent s.ended (s.last ∷ []) t.silent.0 (All-cons AllSilent s.last [] t.silent.1 (All-nil AllSilent)),
+        All-nil
+            IsSilent,
+      );
     }
 
 -- ---- one list of moments and one of the events that no moment notes, in place of the parts
@@ -194,6 +210,9 @@ pub events_in_order : (ms news : List Moment) (silent more : List Event) → (ne
 events_in_order ms news silent more late =
     let all : events_of (ms ++ news) ≡ events_of ms ++ events_of news = map-append event_of ms news in
     elim late [
-      | inl none ↦ rw (all, none) (ap (λ (es : List Event). es ++ (silent ++ more)) (append-nil (events_of ms)) ∙ sym (append_assoc (events_of ms) silent more))
-      | inr none ↦ rw (all, none) (append_assoc (events_of ms) (events_of news) more ∙ ap (λ (es : List Event). es ++ (events_of news ++ more)) (sym (append-nil (events_of ms))))
+      | inl none ↦ rw (all, none)
+          (ap (λ (es : List Event). es ++ (silent ++ more)) (append-nil (events_of ms)) ∙ sym (append_assoc (events_of ms) silent more))
+      | inr none ↦ rw (all, none)
+          (append_assoc (events_of ms) (events_of news) more ∙ ap (λ (es : List Event). es ++ (events_of news ++ more))
+          (sym (append-nil (events_of ms))))
     ]

@@ -31,10 +31,12 @@ own_of_own a es h = filter_all (is_own a) es h
 
 not_others : (a b : ℕ) (e : Event) → b ≢ a → is_own a e ≡ true → is_own b e ≡ false
 not_others a b e d h =
-    elim (is_own b e) as (λ t. is_own b e ≡ t → t ≡ false) [ true ↦ λ k. absurd (d (sym (actor_of_own b e k) ∙ actor_of_own a e h)) | false ↦ λ k. refl ] refl
+    elim (is_own b e) as (λ t. is_own b e ≡ t → t ≡ false)
+    [ true ↦ λ k. absurd (d (sym (actor_of_own b e k) ∙ actor_of_own a e h)) | false ↦ λ k. refl ] refl
 
 pub others_own : (a b : ℕ) (es : List Event) → b ≢ a → AreOwn a es → own b es ≡ []
-others_own a b es d h = filter_none (is_own b) es (every_weaker (λ e. is_own a e ≡ true) (λ e. is_own b e ≡ false) (λ e k. not_others a b e d k) es h)
+others_own a b es d h = filter_none (is_own b) es
+    (every_weaker (λ e. is_own a e ≡ true) (λ e. is_own b e ≡ false) (λ e k. not_others a b e d k) es h)
 
 -- ---- what is no dump concerns its own actor alone
 
@@ -67,7 +69,9 @@ pub own_moments : (a : ℕ) (ms : List Moment) → AllByRecursion IsOwnNote ms �
 own_moments a [] h = refl
 own_moments a (m ∷ ms) h =
     let rest : own a (events_of ms) ≡ events_of (filter (is_of a) ms) = own_moments a ms h.1 in
-    elim (is_of a m) as (λ b. is_of a m ≡ b → own a (events_of (m ∷ ms)) ≡ events_of (if b then m ∷ filter (is_of a) ms else filter (is_of a) ms)) [
-      | true ↦ λ k. ap (λ b. if b then event_of m ∷ own a (events_of ms) else own a (events_of ms)) (own_moment a m h.0 ∙ k) ∙ ap (λ (es : List Event). event_of m ∷ es) rest
+    elim (is_of a m) as
+    (λ b. is_of a m ≡ b → own a (events_of (m ∷ ms)) ≡ events_of (if b then m ∷ filter (is_of a) ms else filter (is_of a) ms)) [
+      | true ↦ λ k. ap (λ b. if b then event_of m ∷ own a (events_of ms) else own a (events_of ms)) (own_moment a m h.0 ∙ k) ∙ ap
+          (λ (es : List Event). event_of m ∷ es) rest
       | false ↦ λ k. ap (λ b. if b then event_of m ∷ own a (events_of ms) else own a (events_of ms)) (own_moment a m h.0 ∙ k) ∙ rest
     ] refl

@@ -29,14 +29,16 @@ lines_by_client counts clients (name ∷ names) n before part shown (s ∷ ss) l
     let first : own_lines counts clients n before part ≡ shown s = rw add-zero at (h 0 s refl) in
     let short : length ss ≡ length names = omega arith in
     let others : lines_from counts clients names (n + 1) before part ≡ flat_map shown ss =
-    lines_by_client counts clients names (n + 1) before part shown ss short (λ i t e. ap (λ k. own_lines counts clients k before part) (later_place n i) ∙ h (suc i) t e) in
+    lines_by_client counts clients names (n + 1) before part shown ss short
+    (λ i t e. ap (λ k. own_lines counts clients k before part) (later_place n i) ∙ h (suc i) t e) in
     rw (first, others) refl
 
 -- a part with no dump behind it, and one with a dump
 pub report_end : (counts : Counts) (clients : List (List ℕ)) (before part : List Event) → ArePlain part
     → race_report_after counts clients before [] part ≡ part_lines counts clients before part
 report_end counts clients before part h =
-    ap (λ (es : List Event). race_report_after counts clients before [] es) (sym (append-nil part)) ∙ part_grows counts clients before [] part [] h
+    ap (λ (es : List Event). race_report_after counts clients before [] es) (sym (append-nil part)) ∙ part_grows counts clients before []
+    part [] h
 
 pub report_dump : (counts : Counts) (clients : List (List ℕ)) (before part es : List Event) → ArePlain part
     → race_report_after counts clients before [] (part ++ Dumped ∷ es)

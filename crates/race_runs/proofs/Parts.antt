@@ -31,8 +31,10 @@ OwnParts actor ended last = AllByRecursion (OwnPart actor) ended × OwnPart acto
 
 own_part : (a : ℕ) (p : Part) → AllByRecursion IsSilent p.silent → AllConcern a (part_events p) → OwnPart a p
 own_part a p quiet all = record {
-  noted = concerned_own a (events_of p.news) (moments_are_plain p.news) (every-front (λ e. concerns a e ≡ true) (events_of p.news) p.silent all);
-  silent = concerned_own a p.silent (every_weaker IsSilent IsNoDump silent_no_dump p.silent quiet) (every-rest (λ e. concerns a e ≡ true) (events_of p.news) p.silent all);
+  noted = concerned_own a (events_of p.news) (moments_are_plain p.news)
+      (every-front (λ e. concerns a e ≡ true) (events_of p.news) p.silent all);
+  silent = concerned_own a p.silent (every_weaker IsSilent IsNoDump silent_no_dump p.silent quiet)
+      (every-rest (λ e. concerns a e ≡ true) (events_of p.news) p.silent all);
   quiet = quiet;
 }
 
@@ -41,7 +43,8 @@ pub own_parts : (a : ℕ) (ended : List Part) (last : Part) → AllByRecursion (
     → AllConcern a (with_dumps ended last) → OwnParts a ended last
 own_parts a [] last quiet q all = (tt, own_part a last q all)
 own_parts a (p ∷ ps) last quiet q all =
-    let others : AllConcern a (Dumped ∷ with_dumps ps last) = every-rest (λ e. concerns a e ≡ true) (part_events p) (Dumped ∷ with_dumps ps last) all in
+    let others : AllConcern a (Dumped ∷ with_dumps ps last) = every-rest (λ e. concerns a e ≡ true) (part_events p)
+    (Dumped ∷ with_dumps ps last) all in
     let rest : OwnParts a ps last = own_parts a ps last quiet.1 q others.1 in
     ((own_part a p quiet.0 (every-front (λ e. concerns a e ≡ true) (part_events p) (Dumped ∷ with_dumps ps last) all), rest.0), rest.1)
 
@@ -58,7 +61,8 @@ own_with_dumps a (p ∷ ps) last h =
 -- ---- what one client does from a point on
 
 -- Behind these events, and with these moments yet to come, the client goes on so.
-pub record GoesOn (counts : Counts) (names : List (List ℕ)) (low : ℕ) (clocks : List ℕ) (before : List Event) (ms : List Moment) (s : Story) : Type 0 where
+pub record GoesOn (counts : Counts) (names : List (List ℕ)) (low : ℕ) (clocks : List ℕ) (before : List Event) (ms : List Moment) (s : Story)
+    : Type 0 where
   pub timely : Timely low clocks s.ended s.last
   pub owned : OwnParts s.actor s.ended s.last
   pub trail : filter (is_of s.actor) ms ≡ all_moments s.ended s.last
@@ -81,7 +85,8 @@ pub news_now : (counts : Counts) (names : List (List ℕ)) (low k : ℕ) (ks : L
     → GoesOn counts names low (k ∷ ks) before ms s → filter (is_of s.actor) (filter (is_early k) ms) ≡ (part_of s).news
 news_now counts names low k ks before ms s g =
     let is : s.ended ≡ part_of s ∷ (rest_of s).ended = ended_is low k ks s g.timely in
-    let t : Timely low (k ∷ ks) (part_of s ∷ (rest_of s).ended) s.last = subst (λ (ps : List Part). Timely low (k ∷ ks) ps s.last) is g.timely in
+    let t : Timely low (k ∷ ks) (part_of s ∷ (rest_of s).ended) s.last = subst (λ (ps : List Part). Timely low (k ∷ ks) ps s.last) is
+    g.timely in
     filter-swap (is_of s.actor) (is_early k) ms ∙ ap (λ (ns : List Moment). filter (is_early k) ns) g.trail
     ∙ ap (λ (ps : List Part). filter (is_early k) (all_moments ps s.last)) is ∙ early_news low k ks (part_of s) (rest_of s).ended s.last t
 
@@ -90,7 +95,8 @@ pub goes_on : (counts : Counts) (names : List (List ℕ)) (low k : ℕ) (ks : Li
     → GoesOn counts names k ks ((before ++ part) ++ Dumped ∷ []) (filter (is_late k) ms) (rest_of s)
 goes_on counts names low k ks before part ms s g own_is =
     let is : s.ended ≡ part_of s ∷ (rest_of s).ended = ended_is low k ks s g.timely in
-    let t : Timely low (k ∷ ks) (part_of s ∷ (rest_of s).ended) s.last = subst (λ (ps : List Part). Timely low (k ∷ ks) ps s.last) is g.timely in
+    let t : Timely low (k ∷ ks) (part_of s ∷ (rest_of s).ended) s.last = subst (λ (ps : List Part). Timely low (k ∷ ks) ps s.last) is
+    g.timely in
     let o : OwnParts s.actor (part_of s ∷ (rest_of s).ended) s.last = subst (λ (ps : List Part). OwnParts s.actor ps s.last) is g.owned in
     let a : Answers counts names s.actor (own s.actor before) (part_of s ∷ (rest_of s).ended) s.last =
     subst (λ (ps : List Part). Answers counts names s.actor (own s.actor before) ps s.last) is g.answers in
@@ -101,7 +107,8 @@ goes_on counts names low k ks before part ms s g own_is =
       timely = t.2;
       owned = (o.0.1, o.1);
       trail = filter-swap (is_of s.actor) (is_late k) ms ∙ ap (λ (ns : List Moment). filter (is_late k) ns) g.trail
-          ∙ ap (λ (ps : List Part). filter (is_late k) (all_moments ps s.last)) is ∙ late_news low k ks (part_of s) (rest_of s).ended s.last t;
+          ∙ ap (λ (ps : List Part). filter (is_late k) (all_moments ps s.last)) is ∙ late_news low k ks (part_of s) (rest_of s).ended s.last
+          t;
       answers = subst (λ (es : List Event). Answers counts names s.actor es (rest_of s).ended s.last) (sym past) a.1;
     }
 
@@ -120,7 +127,11 @@ pub own_of_none : (f : Story → List Event) (n : ℕ) (ss : List Story) → Eac
 own_of_none f n [] h b d = refl
 own_of_none f n (s ∷ ss) h b d =
     own-append b (f s) (flat_map f ss)
-    ∙ rw (others_own s.actor b (f s) (d 0 s refl) (h 0 s refl).1, own_of_none f (n + 1) ss (each_later f n s ss h) b (λ i t e. d (suc i) t e)) refl
+    ∙ rw (
+      others_own s.actor b (f s) (d 0 s refl) (h 0 s refl).1,
+      own_of_none f (n + 1) ss (each_later f n s ss h) b
+          (λ i t e. d (suc i) t e),
+    ) refl
 
 pub own_of_one : (f : Story → List Event) (n : ℕ) (ss : List Story) → EachHas f n ss → (i : ℕ) (s : Story) → slice_get ss i ≡ Some s
     → own s.actor (flat_map f ss) ≡ f s
@@ -128,7 +139,8 @@ own_of_one f n [] h i s e = absurd (cc)
 own_of_one f n (r ∷ ss) h zero s e =
     let same : r ≡ s = cc in
     let here : s.actor ≡ n + 0 = (h 0 s e).0 in
-    let apart : (j : ℕ) (t : Story) → slice_get ss j ≡ Some t → s.actor ≢ t.actor = λ j t k d. absurd (let there : t.actor ≡ n + suc j = (h (suc j) t k).0 in omega (arith, here, there, d)) in
+    let apart : (j : ℕ) (t : Story) → slice_get ss j ≡ Some t
+    → s.actor ≢ t.actor = λ j t k d. absurd (let there : t.actor ≡ n + suc j = (h (suc j) t k).0 in omega (arith, here, there, d)) in
     own-append s.actor (f r) (flat_map f ss)
     ∙ rw (own_of_none f (n + 1) ss (each_later f n r ss h) s.actor apart, same, own_of_own s.actor (f s) (h 0 s e).1) (append-nil (f s))
 own_of_one f n (r ∷ ss) h (suc i) s e =

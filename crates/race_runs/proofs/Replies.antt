@@ -86,8 +86,11 @@ name_history : (c : Counts) (n : ℕ) (s : Names) (es : List Entry) → n < c.na
 name_history c n s [] low at legal = tt
 name_history c n s (e ∷ es) low at legal =
     let here : (request_place c e.req).0 ≡ n = place_at c n e at.0.0 at.1.0 in
-    let steps : store_step (name_part s) e.req ≡ name_part (name_after s e.req) = name_steps c s e.req (omega arith) in
-    (legal.0, subst (λ t. RepliesAre t (events_of (map Act es))) (sym steps) (name_history c n (name_after s e.req) es low (at.0.1, at.1.1) legal.1))
+    let steps : store_step (name_part s) e.req ≡ name_part (name_after s e.req) = name_steps c s e.req (omega arith) in (
+      legal.0,
+      subst (λ t. RepliesAre t (events_of (map Act es))) (sym steps)
+          (name_history c n (name_after s e.req) es low (at.0.1, at.1.1) legal.1),
+    )
 
 file_history : (c : Counts) (n : ℕ) (s : Files) (es : List Entry) → HasPlaces c → c.names ≤ n → AreAt c n (map Act es)
     → IsLegal file_after file_replies s es
@@ -95,8 +98,11 @@ file_history : (c : Counts) (n : ℕ) (s : Files) (es : List Entry) → HasPlace
 file_history c n s [] has high at legal = tt
 file_history c n s (e ∷ es) has high at legal =
     let here : (request_place c e.req).0 ≡ n = place_at c n e at.0.0 at.1.0 in
-    let steps : store_step (file_part s) e.req ≡ file_part (file_after s e.req) = file_steps c s e.req has (omega arith) in
-    (legal.0, subst (λ t. RepliesAre t (events_of (map Act es))) (sym steps) (file_history c n (file_after s e.req) es has high (at.0.1, at.1.1) legal.1))
+    let steps : store_step (file_part s) e.req ≡ file_part (file_after s e.req) = file_steps c s e.req has (omega arith) in (
+      legal.0,
+      subst (λ t. RepliesAre t (events_of (map Act es))) (sym steps)
+          (file_history c n (file_after s e.req) es has high (at.0.1, at.1.1) legal.1),
+    )
 
 -- ---- a kept machine that was started at its place
 
@@ -113,7 +119,8 @@ module _ (c : Counts) (has : HasPlaces c) (n : ℕ) where
       let root : AnyReq = any.Name (requests.CheckDir (record { 0 = 1 })) in
       let shard = request_shard c root has in
       let there : n ≢ place_number c layers.Names 1 = omega (arith, shard.1) in
-      let names : no_names ≡ (if eqb n (place_number c layers.Names 1) then root_names else no_names) = sym (ap (λ b. if b then root_names else no_names) (other_number n (place_number c layers.Names 1) there)) in
+      let names : no_names ≡ (if eqb n (place_number c layers.Names 1) then root_names else no_names) = sym
+      (ap (λ b. if b then root_names else no_names) (other_number n (place_number c layers.Names 1) there)) in
       λ i. record { names = names i; files = opened i }
 
   kept_replies : (k : AnyKept) → label_of k ≡ label_at c n → has_names k ≡ nat_lt n c.names → AreAt c n (map Act (history_of k))
@@ -122,7 +129,8 @@ module _ (c : Counts) (has : HasPlaces c) (n : ℕ) where
       let low : n < c.names = ltb-true n c.names (sym names) in
       let whole : k.label.folded ≡ false = ap (λ (l : Label). l.folded) label in
       let rooted : k.label.rooted ≡ eqb n (place_number c layers.Names 1) = ap (λ (l : Label). l.rooted) label in
-      subst (λ t. RepliesAre t (events_of (map Act k.history.items))) (opens_names k.base.value low (k.kept.opened whole ∙ ap name_opening rooted))
+      subst (λ t. RepliesAre t (events_of (map Act k.history.items)))
+      (opens_names k.base.value low (k.kept.opened whole ∙ ap name_opening rooted))
       (name_history c n k.base.value k.history.items low at k.kept.legal)
   kept_replies (kepts.File k) label names at =
       let high : c.names ≤ n = ltb-false n c.names (sym names) in
@@ -178,8 +186,12 @@ parts_make_replies c parts whole (Local stamp actor note ∷ ms) has is replies 
 parts_make_replies c parts whole (Act e ∷ ms) has is replies placed =
     let p : Place = request_place c e.req in
     let here : is_at p.0 (Act e) ≡ true = ap (λ (r : Place). eqb r.0 p.0) placed.0 ∙ same_number p.0 in
-    let first : e.reply ≡ store_reply (parts p) e.req = first_part (parts p) e (filter (is_at p.0) ms) (is_at p.0 (Act e)) here (replies p (request_within c e.req has)) in
-    (first ∙ same_reply c parts whole is e.req, parts_make_replies c (parts_step c parts e.req) (store_step whole e.req) ms has (step_whole c parts whole is e.req) (rest_places c parts e ms placed.0 replies) placed.1)
+    let first : e.reply ≡ store_reply (parts p) e.req = first_part (parts p) e (filter (is_at p.0) ms) (is_at p.0 (Act e)) here
+    (replies p (request_within c e.req has)) in (
+      first ∙ same_reply c parts whole is e.req,
+      parts_make_replies c (parts_step c parts e.req) (store_step whole e.req) ms has
+          (step_whole c parts whole is e.req) (rest_places c parts e ms placed.0 replies) placed.1,
+    )
 
 -- ---- from the kept machines
 
@@ -197,13 +209,18 @@ place_replies c ks ms has started histories placed p low =
     let k : AnyKept = item.0 in
     let label : label_of k ≡ label_at c p.0 = started.labels p.0 k item.1 in
     let at_k : filter (is_at (place_of k)) ms ≡ map Act (history_of k) =
-    subst (λ (x : AnyKept). filter (is_at (place_of x)) ms ≡ map Act (history_of x)) (get_or_from_slice_get ks p.0 k k item.1) (histories p.0 k there) in
-    let at_p : filter (is_at p.0) ms ≡ map Act (history_of k) = subst (λ (l : Label). filter (is_at l.place.0) ms ≡ map Act (history_of k)) label at_k in
-    let passes : AllByRecursion (λ m. is_at p.0 m ≡ true) (filter (is_at p.0) ms) = recursion_from_All (λ m. is_at p.0 m ≡ true) (filter (is_at p.0) ms) (filter_passes (is_at p.0) ms) in
-    let own : AllByRecursion (IsPlaced c) (filter (is_at p.0) ms) = recursion_from_All (IsPlaced c) (filter (is_at p.0) ms) (All-filter (is_at p.0) (IsPlaced c) ms placed) in
+    subst (λ (x : AnyKept). filter (is_at (place_of x)) ms ≡ map Act (history_of x)) (get_or_from_slice_get ks p.0 k k item.1)
+    (histories p.0 k there) in
+    let at_p : filter (is_at p.0) ms ≡ map Act (history_of k) = subst (λ (l : Label). filter (is_at l.place.0) ms ≡ map Act (history_of k))
+    label at_k in
+    let passes : AllByRecursion (λ m. is_at p.0 m ≡ true) (filter (is_at p.0) ms) = recursion_from_All (λ m. is_at p.0 m ≡ true)
+    (filter (is_at p.0) ms) (filter_passes (is_at p.0) ms) in
+    let own : AllByRecursion (IsPlaced c) (filter (is_at p.0) ms) = recursion_from_All (IsPlaced c) (filter (is_at p.0) ms)
+    (All-filter (is_at p.0) (IsPlaced c) ms placed) in
     let are : AreAt c p.0 (map Act (history_of k)) = subst (λ fs. AreAt c p.0 fs) at_p (passes, own) in
     subst (λ fs. RepliesAre (opening_parts c p) (events_of fs)) (sym at_p) (kept_replies c has p.0 k label (started.kinds p.0 k item.1) are)
 
 pub places_reply : PlacesReply
 places_reply c ks ms has started histories placed =
-    parts_make_replies c (opening_parts c) opening_store ms has (opening_whole c) (λ p low. place_replies c ks ms has started histories placed p low) (recursion_from_All (IsPlaced c) ms placed)
+    parts_make_replies c (opening_parts c) opening_store ms has (opening_whole c)
+    (λ p low. place_replies c ks ms has started histories placed p low) (recursion_from_All (IsPlaced c) ms placed)

@@ -38,7 +38,8 @@ pub part_store : (k : ℕ) (before : List Event) (past rest : List Moment) (sile
 part_store k before past rest silent quiet up e =
     let early : filter (is_early k) (past ++ rest) ≡ past ++ filter (is_early k) rest =
     filter-append (is_early k) past rest ∙ ap (λ (ms : List Moment). ms ++ filter (is_early k) rest) (early_all k past up) in
-    part_stores opening_store before past (filter (is_early k) rest) silent quiet e ∙ ap (λ (ms : List Moment). stored_after opening_store (events_of ms)) (sym early)
+    part_stores opening_store before past (filter (is_early k) rest) silent quiet e ∙ ap
+    (λ (ms : List Moment). stored_after opening_store (events_of ms)) (sym early)
 
 pub dumped_store : (k : ℕ) (before : List Event) (past rest : List Moment) (silent : List Event) → AllByRecursion IsSilent silent
     → stored_after opening_store before ≡ stored_after opening_store (events_of past)
@@ -53,7 +54,8 @@ dumped_store k before past rest silent quiet e =
 pub all_moments_stay : (k : ℕ) (past rest : List Moment) → StampsRise rest
     → (past ++ filter (is_early k) rest) ++ filter (is_late k) rest ≡ past ++ rest
 all_moments_stay k past rest rise =
-    append_assoc past (filter (is_early k) rest) (filter (is_late k) rest) ∙ ap (λ (ms : List Moment). past ++ ms) (stamps_split k rest rise)
+    append_assoc past (filter (is_early k) rest) (filter (is_late k) rest) ∙ ap (λ (ms : List Moment). past ++ ms)
+    (stamps_split k rest rise)
 
 pub past_up_to : (k : ℕ) (past rest : List Moment) → AllUpTo k past → AllUpTo k (past ++ filter (is_early k) rest)
 past_up_to k past rest up = every-append (λ m. stamp_of m ≤ k) past (filter (is_early k) rest) up (early_up_to k rest)

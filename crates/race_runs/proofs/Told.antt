@@ -34,15 +34,18 @@ shown_now : (counts : Counts) (names : List (List ℕ)) (low k : ℕ) (ks : List
 shown_now counts names low k ks before part ms s g own_is =
     let a : Answers counts names s.actor (own s.actor before) (part_of s ∷ (rest_of s).ended) s.last =
     subst (λ (ps : List Part). Answers counts names s.actor (own s.actor before) ps s.last) (ended_is low k ks s g.timely) g.answers in
-    sym (own_lines_own counts names s.actor before part) ∙ ap (λ (es : List Event). own_lines counts names s.actor (own s.actor before) es) own_is ∙ sym a.0
+    sym (own_lines_own counts names s.actor before part) ∙ ap (λ (es : List Event). own_lines counts names s.actor (own s.actor before) es)
+    own_is ∙ sym a.0
 
 shown_last : (counts : Counts) (names : List (List ℕ)) (low : ℕ) (before part : List Event) (ms : List Moment) (s : Story)
     → GoesOn counts names low [] before ms s
     → own s.actor part ≡ part_events s.last → own_lines counts names s.actor before part ≡ s.last.answers
 shown_last counts names low before part ms s g own_is =
     let a : Answers counts names s.actor (own s.actor before) [] s.last =
-    subst (λ (ps : List Part). Answers counts names s.actor (own s.actor before) ps s.last) (none_ended low s.ended s.last g.timely) g.answers in
-    sym (own_lines_own counts names s.actor before part) ∙ ap (λ (es : List Event). own_lines counts names s.actor (own s.actor before) es) own_is ∙ sym a
+    subst (λ (ps : List Part). Answers counts names s.actor (own s.actor before) ps s.last) (none_ended low s.ended s.last g.timely)
+    g.answers in
+    sym (own_lines_own counts names s.actor before part) ∙ ap (λ (es : List Event). own_lines counts names s.actor (own s.actor before) es)
+    own_is ∙ sym a
 
 lines_now : (counts : Counts) (names : List (List ℕ)) (low k : ℕ) (ks : List ℕ) (before : List Event) (ms : List Moment) (ss : List Story)
     → length ss ≡ length names → AllGoOn counts names low (k ∷ ks) before ms ss → AllByRecursion IsOwnNote ms
@@ -50,7 +53,8 @@ lines_now : (counts : Counts) (names : List (List ℕ)) (low k : ℕ) (ks : List
 lines_now counts names low k ks before ms ss number go notes =
     lines_by_client counts names names 1 before (part_now k ms ss) (λ s. (part_of s).answers) ss number
     (λ i s e. ap (λ n. own_lines counts names n before (part_now k ms ss)) (sym (go i s e).0)
-    ∙ shown_now counts names low k ks before (part_now k ms ss) ms s (go i s e).1 (own_now counts names low k ks before ms ss go notes i s e))
+    ∙ shown_now counts names low k ks before (part_now k ms ss) ms s (go i s e).1
+    (own_now counts names low k ks before ms ss go notes i s e))
 
 lines_last : (counts : Counts) (names : List (List ℕ)) (low : ℕ) (before : List Event) (ms : List Moment) (ss : List Story)
     → length ss ≡ length names → AllGoOn counts names low [] before ms ss → AllByRecursion IsOwnNote ms
@@ -68,20 +72,24 @@ pub report_is_told : (counts : Counts) (names : List (List ℕ)) (low : ℕ) (cl
     → stored_after opening_store before ≡ stored_after opening_store (events_of past)
     → race_report_after counts names before [] (history_of_race clocks ss ms) ≡ told clocks ss (past ++ ms)
 report_is_told counts names low [] before past ms ss number go notes rise clocks_rise up store =
-    report_end counts names before (part_last ms ss) (plain_last counts names low [] before ms ss go) ∙ lines_last counts names low before ms ss number go notes
+    report_end counts names before (part_last ms ss) (plain_last counts names low [] before ms ss go) ∙ lines_last counts names low before
+    ms ss number go notes
 report_is_told counts names low (k ∷ ks) before past ms ss number go notes rise clocks_rise up store =
     let part : List Event = part_now k ms ss in
     let late : List Moment = filter (is_late k) ms in
     let gone : List Moment = past ++ filter (is_early k) ms in
-    let next : AllGoOn counts names k ks ((before ++ part) ++ Dumped ∷ []) late (map rest_of ss) = all_go_on counts names low k ks before ms ss go notes in
+    let next : AllGoOn counts names k ks ((before ++ part) ++ Dumped ∷ []) late (map rest_of ss) = all_go_on counts names low k ks before ms
+    ss go notes in
     let up_to : AllUpTo k past = next_up_to low k past ms clocks_rise.0 up in
     let quiet : AllByRecursion IsSilent (silent_now ss) = quiet_now counts names low k ks before ms ss go in
     let stays : gone ++ late ≡ past ++ ms = all_moments_stay k past ms rise in
     let stored : (moment counts (before ++ part)).store ≡ store_at k (past ++ ms) =
     (states_are_their_own counts (before ++ part)).1 ∙ part_store k before past ms (silent_now ss) quiet up_to store in
-    let rest : race_report_after counts names ((before ++ part) ++ Dumped ∷ []) [] (history_of_race ks (map rest_of ss) late) ≡ told ks (map rest_of ss) (past ++ ms) =
+    let rest : race_report_after counts names ((before ++ part) ++ Dumped ∷ []) [] (history_of_race ks (map rest_of ss) late) ≡ told ks
+    (map rest_of ss) (past ++ ms) =
     report_is_told counts names k ks ((before ++ part) ++ Dumped ∷ []) gone late (map rest_of ss) (length-map ss rest_of ∙ number) next
-    (every-filter IsOwnNote (is_late k) ms notes) (stamps_rise-filter (is_late k) ms rise) (subst (λ (ns : List Moment). ClocksRise ns k ks) (sym stays) clocks_rise.1)
+    (every-filter IsOwnNote (is_late k) ms notes) (stamps_rise-filter (is_late k) ms rise)
+    (subst (λ (ns : List Moment). ClocksRise ns k ks) (sym stays) clocks_rise.1)
     (past_up_to k past ms up_to) (dumped_store k before past ms (silent_now ss) quiet store)
     ∙ ap (λ (ns : List Moment). told ks (map rest_of ss) ns) stays in
     ap (λ (es : List Event). race_report_after counts names before [] es) (history_next k ks ss ms)

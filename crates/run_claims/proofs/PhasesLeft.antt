@@ -183,29 +183,40 @@ by_last c (n ∷ ns) f next looks others is l = by_other c (f (last_name (n ∷ 
 -- a command's first own request
 first_falls : (place : Place) (op : OpId) (number : ℕ) (d : DirId) (c : Command) (x : AnyReply)
     → Falls c (first_ask op number d c) (first_hear place number d c x) (own_looks c) 4
-first_falls place op number d (commands.Look []) x = at_most _ _ _ 1 0 _ _ (omega arith) (omega arith) (by_look _ _ _ 0 0 refl (checked_leaves _ place d x _))
-first_falls place op number d (commands.Look (n ∷ ns)) x = at_most _ _ _ 1 0 _ _ (omega arith) (omega arith) (by_look _ _ _ 0 0 refl (looked_leaves _ place _ x (as_found x)))
-first_falls place op number d (commands.List p) x = at_most _ _ _ 0 1 _ _ (omega arith) (omega arith) (by_other _ _ _ 0 0 refl (entries_leaves _ place x (as_listing x)))
+first_falls place op number d (commands.Look []) x = at_most _ _ _ 1 0 _ _ (omega arith) (omega arith)
+    (by_look _ _ _ 0 0 refl (checked_leaves _ place d x _))
+first_falls place op number d (commands.Look (n ∷ ns)) x = at_most _ _ _ 1 0 _ _ (omega arith) (omega arith)
+    (by_look _ _ _ 0 0 refl (looked_leaves _ place _ x (as_found x)))
+first_falls place op number d (commands.List p) x = at_most _ _ _ 0 1 _ _ (omega arith) (omega arith)
+    (by_other _ _ _ 0 0 refl (entries_leaves _ place x (as_listing x)))
 first_falls place op number d (commands.Create []) x = by_none _ _ _ _
 first_falls place op number d (commands.Create (n ∷ ns)) x = by_other _ _ _ 0 3 refl (made_leaves _ place _ _ over.File x)
 first_falls place op number d (commands.Mkdir []) x = by_none _ _ _ _
 first_falls place op number d (commands.Mkdir (n ∷ ns)) x = by_other _ _ _ 0 3 refl (made_leaves _ place _ _ over.Absent x)
 first_falls place op number d (commands.Delete []) x = by_none _ _ _ _
-first_falls place op number d (commands.Delete (n ∷ ns)) x = at_most _ _ _ 0 2 _ _ (omega arith) (omega arith) (by_other _ _ _ 0 1 refl (unbound_leaves _ place _ x (as_unbound x)))
+first_falls place op number d (commands.Delete (n ∷ ns)) x = at_most _ _ _ 0 2 _ _ (omega arith) (omega arith)
+    (by_other _ _ _ 0 1 refl (unbound_leaves _ place _ x (as_unbound x)))
 first_falls place op number d (commands.Rename [] to) x = by_none _ _ _ _
-first_falls place op number d (commands.Rename (n ∷ ns) to) x = by_look _ _ _ 0 4 refl (source_leaves _ place _ (last_name to) x (as_found x))
+first_falls place op number d (commands.Rename (n ∷ ns) to) x = by_look _ _ _ 0 4 refl
+    (source_leaves _ place _ (last_name to) x (as_found x))
 first_falls place op number d c x = by_none _ _ _ _
 
 -- a transaction in a phase
 pub phase_falls : (place : Place) (op : OpId) (number : ℕ) (c : Command) (at : Phase) (x : AnyReply)
     → Falls c (phase_ask op number c at) (phase_hear place op number c at x) (looks_left c at) (others_left at)
-phase_falls place op number c (Walk d (n ∷ ns)) x = at_most _ _ _ (length ns + own_looks c + 1) 4 _ _ (omega arith) (omega arith) (by_look _ _ _ _ 4 refl (walked_leaves c place _ ns x (as_found x)))
-phase_falls place op number c (Walk d []) x = at_most _ _ _ (own_looks c) 4 _ _ (omega arith) (omega arith) (first_falls place op number d c x)
-phase_falls place op number c (Grant k n) x = by_last c (new_path c) _ _ 0 3 (λ to. grant_is_no_look n _ _) (granted_leaves c place k n x (is_granted x))
-phase_falls place op number c (Bind k n o) x = at_most _ _ _ 0 2 _ _ (omega arith) (omega arith) (by_other _ _ _ 0 1 refl (bound_leaves c place op k n x (as_bound x)))
+phase_falls place op number c (Walk d (n ∷ ns)) x = at_most _ _ _ (length ns + own_looks c + 1) 4 _ _ (omega arith) (omega arith)
+    (by_look _ _ _ _ 4 refl (walked_leaves c place _ ns x (as_found x)))
+phase_falls place op number c (Walk d []) x = at_most _ _ _ (own_looks c) 4 _ _ (omega arith) (omega arith)
+    (first_falls place op number d c x)
+phase_falls place op number c (Grant k n) x = by_last c (new_path c) _ _ 0 3 (λ to. grant_is_no_look n _ _)
+    (granted_leaves c place k n x (is_granted x))
+phase_falls place op number c (Bind k n o) x = at_most _ _ _ 0 2 _ _ (omega arith) (omega arith)
+    (by_other _ _ _ 0 1 refl (bound_leaves c place op k n x (as_bound x)))
 phase_falls place op number c (Swap k n) x = by_last c (new_path c) _ _ 0 2 (λ to. refl) (swapped_leaves c place op k n x (as_swapped x))
-phase_falls place op number c (Release n h (Some old) a) x = by_other _ _ _ 0 1 (release_is_no_look n h) (release_leaves c place (Some old) a)
-phase_falls place op number c (Release n h None a) x = by_other _ _ _ 0 0 (release_is_no_look n h) record { looks = omega arith; others = omega arith }
+phase_falls place op number c (Release n h (Some old) a) x = by_other _ _ _ 0 1 (release_is_no_look n h)
+    (release_leaves c place (Some old) a)
+phase_falls place op number c (Release n h None a) x = by_other _ _ _ 0 0 (release_is_no_look n h) record
+    { looks = omega arith; others = omega arith }
 phase_falls place op number c (End a) x = by_none _ _ _ _
 
 -- ---- where a command begins

@@ -9,7 +9,7 @@ use Rattle.tect_ids.specs.Keys.{op_eq}
 use Rattle.program_rules.specs.declared.program.Program.{Program}
 use Rattle.program_rules.specs.Programs.{started, first_phase}
 use Rattle.world_runs.specs.declared.event.Event.{Event}
-use Rattle.world_runs.specs.declared.event.Event.TheVariants.{Began, Refused, Acted, Ended, Stopped, Failed, Dumped}
+use Rattle.world_runs.specs.declared.event.Event.TheVariants.{Began, NotBegun, Acted, Ended, Stopped, Failed, Dumped}
 use Rattle.world_runs.specs.Moments.{WorldState, RunFrom, IsWorldRun, opening, after}
 use Rattle.claim_words.specs.Headline.{or_later, command_of}
 use Rattle.world_runs.specs.Report.{is_act_of, transactions}
@@ -49,7 +49,10 @@ none_more : (op : OpId) (e : Event) (es : List Event) (looks others : ℕ) → I
 none_more op e es looks others none rest =
     let no_look : one_if (is_look_of op e) ≡ 0 = rw none.looks refl in
     let no_other : one_if (is_other_of op e) ≡ 0 = rw none.others refl in
-    record { looks = omega (arith, looks_more op e es, no_look, rest.looks); others = omega (arith, others_more op e es, no_other, rest.others) }
+    record {
+      looks = omega (arith, looks_more op e es, no_look, rest.looks);
+      others = omega (arith, others_more op e es, no_other, rest.others);
+    }
 
 -- an op that is past takes nothing more
 past_takes : (es : List Event) (m : WorldState) (op : OpId) → RunFrom m es → IsPast m op → Takes es op 0 0
@@ -67,8 +70,12 @@ running_takes [] m op p run r = nothing_takes op _ _
 running_takes (e ∷ es) m op p run r =
     elim (running_step m e run.0 op p r) [
       | inl s ↦
-          let rest : Takes es op (looks_left s.next.command s.next.phase) (others_left s.next.phase) = running_takes es (after m e) op s.next run.1 s.runs in
-          record { looks = omega (arith, looks_more op e es, s.looks, rest.looks); others = omega (arith, others_more op e es, s.others, rest.others) }
+          let rest : Takes es op (looks_left s.next.command s.next.phase) (others_left s.next.phase) = running_takes es (after m e) op
+          s.next run.1 s.runs in
+          record {
+            looks = omega (arith, looks_more op e es, s.looks, rest.looks);
+            others = omega (arith, others_more op e es, s.others, rest.others);
+          }
       | inr s ↦
           let rest : Takes (e ∷ es) op 0 0 = none_more op e es 0 0 s.none (past_takes es (after m e) op run.1 s.past) in
           record { looks = omega (arith, rest.looks); others = omega (arith, rest.others) }
@@ -87,7 +94,8 @@ begun_takes es op c t =
 declined_takes : (es : List Event) (m : WorldState) (e : Event) (op : OpId) → RunFrom (after m e) es → Declines m e op
     → Takes (e ∷ es) op 0 0
 declined_takes es m e op run d =
-    let rest : Takes es op (looks_left d.program.command d.program.phase) (others_left d.program.phase) = running_takes es (after m e) op d.program run d.runs in
+    let rest : Takes es op (looks_left d.program.command d.program.phase) (others_left d.program.phase) = running_takes es (after m e) op
+    d.program run d.runs in
     none_more op e es 0 0 d.none record { looks = omega (arith, rest.looks, d.looks); others = omega (arith, rest.others, d.others) }
 
 -- an op that has not begun takes at most the most of the command that it will begin
@@ -100,7 +108,8 @@ ahead_takes (e ∷ es) m op c run ahead began =
           let began2 : Some s.command ≡ Some c = subst (λ (o : Option Command). or_later o (command_of es op) ≡ Some c) s.begins began in
           let same : s.command ≡ c = cc in
           subst (λ (d : Command). Takes (e ∷ es) op (most_looks d) 4) same
-          (none_more op e es (most_looks s.command) 4 s.none (begun_takes es op s.command (running_takes es (after m e) op (started op s.command) run.1 s.runs)))
+          (none_more op e es (most_looks s.command) 4 s.none
+          (begun_takes es op s.command (running_takes es (after m e) op (started op s.command) run.1 s.runs)))
       | inl (inr s) ↦
           let t : Takes (e ∷ es) op 0 0 = declined_takes es m e op run.1 s in
           record { looks = omega (arith, t.looks); others = omega (arith, t.others) }
@@ -115,7 +124,8 @@ idle_takes [] m op run ahead idle = nothing_takes op 0 0
 idle_takes (e ∷ es) m op run ahead idle =
     elim (ahead_step m e run.0 op ahead) [
       | inl (inl s) ↦
-          let began : Some s.command ≡ None = subst (λ (o : Option Command). or_later o (command_of es op) ≡ None) s.begins idle in absurd (cc)
+          let began : Some s.command ≡ None = subst (λ (o : Option Command). or_later o (command_of es op) ≡ None) s.begins idle
+          in absurd (cc)
       | inl (inr s) ↦ declined_takes es m e op run.1 s
       | inr s ↦
           let later : command_of es op ≡ None = subst (λ (o : Option Command). or_later o (command_of es op) ≡ None) s.begins idle in
@@ -133,7 +143,7 @@ one_of_both false b = refl
 -- the same of an event
 pub event_splits : (e : Event) (op : OpId) → one_if (is_act_of op e) ≡ one_if (is_look_of op e) + one_if (is_other_of op e)
 event_splits (Began other c) op = refl
-event_splits (Refused other c) op = refl
+event_splits (NotBegun other c) op = refl
 event_splits (Acted other q x) op = one_of_both (op_eq other op) (is_look q)
 event_splits (Ended other a) op = refl
 event_splits (Stopped other) op = refl
@@ -143,7 +153,8 @@ event_splits Dumped op = refl
 -- the same of a history
 transactions_split : (es : List Event) (op : OpId) → transactions es op ≡ looks_of es op + others_of es op
 transactions_split [] op = refl
-transactions_split (e ∷ es) op = omega (arith, transactions_more op e es, looks_more op e es, others_more op e es, event_splits e op, transactions_split es op)
+transactions_split (e ∷ es) op = omega
+    (arith, transactions_more op e es, looks_more op e es, others_more op e es, event_splits e op, transactions_split es op)
 
 -- an op of number 0 never begins; any other is ahead when a run opens
 zero_or_more : (n : ℕ) → (n ≤ 0) ⊎ (0 < n)

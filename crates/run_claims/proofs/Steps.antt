@@ -14,9 +14,9 @@ use Rattle.program_rules.specs.declared.program.Phase.TheVariants.{End}
 use Rattle.program_rules.specs.declared.program.Program.{Program}
 use Rattle.program_rules.specs.Programs.{object_number, phase_ask, phase_hear, started}
 use Rattle.world_runs.specs.declared.event.Event.{Event}
-use Rattle.world_runs.specs.declared.event.Event.TheVariants.{Began, Refused, Acted, Ended, Stopped, Failed, Dumped}
+use Rattle.world_runs.specs.declared.event.Event.TheVariants.{Began, NotBegun, Acted, Ended, Stopped, Failed, Dumped}
 use Rattle.program_rules.specs.Lacks.{no_room}
-use Rattle.world_runs.specs.Moments.{WorldState, Actor, May, after, program_of, running, program_ask, program_answer, begun, refused}
+use Rattle.world_runs.specs.Moments.{WorldState, Actor, May, after, program_of, running, program_ask, program_answer, begun, not_begun}
 use Rattle.world_runs.specs.Moments.{went_on, heard}
 use Rattle.claim_words.specs.Headline.{begun_by}
 use Rattle.world_runs.proofs.Actors.{changed}
@@ -52,7 +52,7 @@ HasOp _ = Unit {0}
 -- whose event it is, where it has an op
 abbrev pub event_op : Event → OpId
 event_op (Began op c) = op
-event_op (Refused op c) = op
+event_op (NotBegun op c) = op
 event_op (Acted op q x) = op
 event_op (Ended op a) = op
 event_op (Stopped op) = op
@@ -67,7 +67,7 @@ pub record IsNone (op : OpId) (e : Event) : Type 0 where
 -- no event of another op is one
 other_none : (op : OpId) (e : Event) → op_eq (event_op e) op ≡ false → IsNone op e
 other_none op (Began other c) t = record { looks = refl; others = refl }
-other_none op (Refused other c) t = record { looks = refl; others = refl }
+other_none op (NotBegun other c) t = record { looks = refl; others = refl }
 other_none op (Acted other q x) t = record { looks = rw t refl; others = rw t refl }
 other_none op (Ended other a) t = record { looks = refl; others = refl }
 other_none op (Stopped other) t = record { looks = refl; others = refl }
@@ -111,19 +111,21 @@ other_keeps : (m : WorldState) (e : Event) → May m e → (op : OpId) → op_eq
 other_keeps m (Began other c) may op t =
     changed (λ st. program_of st.running op ≡ running m op) m.actors other.actor (begun (m.actors other.actor) other c) op.actor
     (λ same. let idle : (m.actors op.actor).running ≡ None = rw same (may.0).idle in rw (t, idle) refl) (λ d. refl)
-other_keeps m (Refused other c) may op t =
-    changed (λ st. program_of st.running op ≡ running m op) m.actors other.actor (refused (m.actors other.actor) other c) op.actor
+other_keeps m (NotBegun other c) may op t =
+    changed (λ st. program_of st.running op ≡ running m op) m.actors other.actor (not_begun (m.actors other.actor) other c) op.actor
     (λ same. let idle : (m.actors op.actor).running ≡ None = rw same (may.0).idle in rw (t, idle) refl) (λ d. refl)
 other_keeps m (Acted other q x) may op t =
     let r : (p : Program) × (running m other ≡ Some p) = asks_runs (m.actors other.actor).serial (running m other) q may.0 in
     changed (λ st. program_of st.running op ≡ running m op) m.actors other.actor (went_on m.counts (m.actors other.actor) q x) op.actor
-    (λ same. heard_alone m.counts (m.actors other.actor).serial q x (m.actors other.actor).running other op r.0 r.1 t ∙ sym (runs_alone m other op r.0 r.1 t same)) (λ d. refl)
+    (λ same. heard_alone m.counts (m.actors other.actor).serial q x (m.actors other.actor).running other op r.0 r.1 t ∙ sym
+    (runs_alone m other op r.0 r.1 t same)) (λ d. refl)
 other_keeps m (Ended other a) may op t =
     let r : (p : Program) × (running m other ≡ Some p) = answers_runs (running m other) a may in
     changed (λ st. program_of st.running op ≡ running m op) m.actors other.actor (record (m.actors other.actor) { running = None }) op.actor
     (λ same. sym (runs_alone m other op r.0 r.1 t same)) (λ d. refl)
 other_keeps m (Stopped other) may op t =
-    changed (λ st. program_of st.running op ≡ running m op) m.actors other.actor (record (m.actors other.actor) { running = None; stopped = true }) op.actor
+    changed (λ st. program_of st.running op ≡ running m op) m.actors other.actor
+    (record (m.actors other.actor) { running = None; stopped = true }) op.actor
     (λ same. sym (runs_alone m other op may.0 may.1 t same)) (λ d. refl)
 other_keeps m (Failed other a) may op t =
     changed (λ st. program_of st.running op ≡ running m op) m.actors other.actor (record (m.actors other.actor) { running = None }) op.actor
@@ -139,7 +141,7 @@ own_actor P actors a state h = changed P actors a state a (λ e. h) (λ d. absur
 -- an op that is past has no event of its own
 own_not_past : (m : WorldState) (e : Event) → HasOp e → May m e → IsPast m (event_op e) → ⊥
 own_not_past m (Began op c) has may past = omega (arith, (may.0).next, past.old)
-own_not_past m (Refused op c) has may past = omega (arith, (may.0).next, past.old)
+own_not_past m (NotBegun op c) has may past = omega (arith, (may.0).next, past.old)
 own_not_past m (Acted op q x) has may past =
     let r : (p : Program) × (running m op ≡ Some p) = asks_runs (m.actors op.actor).serial (running m op) q may.0 in
     let k : None ≡ Some r.0 = sym past.idle ∙ r.1 in cc
@@ -186,7 +188,8 @@ Steps m e op p = GoesOn m e op p ⊎ Rests m e op
 
 -- the program after a reply
 abbrev hears : WorldState → OpId → AnyReq → AnyReply → Program → Program
-hears m op q x p = record p { phase = phase_hear (request_place m.counts q) p.op (object_number p.op.actor (m.actors op.actor).serial) p.command p.phase x }
+hears m op q x p = record p
+    { phase = phase_hear (request_place m.counts q) p.op (object_number p.op.actor (m.actors op.actor).serial) p.command p.phase x }
 
 -- the op runs on when its program heard a reply
 heard_runs : (counts : Counts) (serial : ℕ) (q : AnyReq) (x : AnyReply) (o : Option Program) (op : OpId) (p : Program)
@@ -204,18 +207,24 @@ pub own_acts : (m : WorldState) (op : OpId) (q : AnyReq) (x : AnyReply) → May 
     → GoesOn m (Acted op q x) op p
 own_acts m op q x may p r =
     let serial : ℕ = (m.actors op.actor).serial in
-    let f : Falls p.command (phase_ask p.op (object_number p.op.actor serial) p.command p.phase) (hears m op q x p).phase (looks_left p.command p.phase) (others_left p.phase) =
+    let f : Falls p.command (phase_ask p.op (object_number p.op.actor serial) p.command p.phase) (hears m op q x p).phase
+    (looks_left p.command p.phase) (others_left p.phase) =
     phase_falls (request_place m.counts q) p.op (object_number p.op.actor serial) p.command p.phase x in
-    let asks : phase_ask p.op (object_number p.op.actor serial) p.command p.phase ≡ Some q = subst (λ (o : Option Program). program_ask serial o ≡ Some q) r.is may.0 in
+    let asks : phase_ask p.op (object_number p.op.actor serial) p.command p.phase ≡ Some q = subst
+    (λ (o : Option Program). program_ask serial o ≡ Some q) r.is may.0 in
     let own : op_eq op op ≡ true = same_op op op refl in
     record {
       next = hears m op q x p;
       runs = record {
         old = own_actor (λ st. op.number ≤ st.number) m.actors op.actor (went_on m.counts (m.actors op.actor) q x) r.old;
-        is = own_actor (λ st. program_of st.running op ≡ Some (hears m op q x p)) m.actors op.actor (went_on m.counts (m.actors op.actor) q x) (heard_runs m.counts serial q x (m.actors op.actor).running op p r.is);
+        is = own_actor (λ st. program_of st.running op ≡ Some (hears m op q x p)) m.actors op.actor
+            (went_on m.counts (m.actors op.actor) q x) (heard_runs m.counts serial q x (m.actors op.actor).running op p r.is);
       };
-      looks = rw own (subst (λ (o : Option AnyReq). looks_asked o + looks_left p.command (hears m op q x p).phase ≤ looks_left p.command p.phase) asks f.looks);
-      others = rw own (subst (λ (o : Option AnyReq). others_asked o + others_left (hears m op q x p).phase ≤ others_left p.phase) asks f.others);
+      looks = rw own (subst
+          (λ (o : Option AnyReq). looks_asked o + looks_left p.command (hears m op q x p).phase ≤ looks_left p.command p.phase) asks
+          f.looks);
+      others = rw own
+          (subst (λ (o : Option AnyReq). others_asked o + others_left (hears m op q x p).phase ≤ others_left p.phase) asks f.others);
     }
 
 -- the op's own event
@@ -223,7 +232,7 @@ own_step : (m : WorldState) (e : Event) → HasOp e → May m e → (p : Program
 own_step m (Began op c) has may p r =
     let none : running m op ≡ None = rw (may.0).idle refl in
     let k : None ≡ Some p = sym none ∙ r.is in absurd (cc)
-own_step m (Refused op c) has may p r =
+own_step m (NotBegun op c) has may p r =
     let none : running m op ≡ None = rw (may.0).idle refl in
     let k : None ≡ Some p = sym none ∙ r.is in absurd (cc)
 own_step m (Acted op q x) has may p r = inl (own_acts m op q x may p r)
@@ -237,7 +246,8 @@ own_step m (Ended op a) has may p r = inr record {
 own_step m (Stopped op) has may p r = inr record {
   past = record {
     old = own_actor (λ st. op.number ≤ st.number) m.actors op.actor (record (m.actors op.actor) { running = None; stopped = true }) r.old;
-    idle = own_actor (λ st. program_of st.running op ≡ None) m.actors op.actor (record (m.actors op.actor) { running = None; stopped = true }) refl;
+    idle = own_actor (λ st. program_of st.running op ≡ None) m.actors op.actor
+        (record (m.actors op.actor) { running = None; stopped = true }) refl;
   };
   none = record { looks = refl; others = refl };
 }
@@ -279,7 +289,7 @@ pub record Begins (m : WorldState) (e : Event) (op : OpId) : Type 0 where
   pub runs : Runs (after m e) op (started op command)
   pub none : IsNone op e
 
--- it is refused: it runs with nothing left to do
+-- it is not_begun: it runs with nothing left to do
 pub record Declines (m : WorldState) (e : Event) (op : OpId) : Type 0 where
   pub program : Program
   pub runs : Runs (after m e) op program
@@ -291,7 +301,7 @@ pub record Declines (m : WorldState) (e : Event) (op : OpId) : Type 0 where
 abbrev pub Starts : WorldState → Event → OpId → Type 0
 Starts m e op = Begins m e op ⊎ Declines m e op
 
--- the program of an op that was refused
+-- the program of an op that was not_begun
 abbrev declined : OpId → Command → Program
 declined op c = record { op = op; command = c; phase = End no_room }
 
@@ -310,17 +320,19 @@ own_starts m (Began op c) has may ahead =
       begins = rw own refl;
       runs = record {
         old = own_actor (λ st. op.number ≤ st.number) m.actors op.actor (begun (m.actors op.actor) op c) (omega arith);
-        is = own_actor (λ st. program_of st.running op ≡ Some (started op c)) m.actors op.actor (begun (m.actors op.actor) op c) (rw own refl);
+        is = own_actor (λ st. program_of st.running op ≡ Some (started op c)) m.actors op.actor (begun (m.actors op.actor) op c)
+            (rw own refl);
       };
       none = record { looks = refl; others = refl };
     }
-own_starts m (Refused op c) has may ahead =
+own_starts m (NotBegun op c) has may ahead =
     let own : op_eq op op ≡ true = same_op op op refl in
     inr record {
       program = declined op c;
       runs = record {
-        old = own_actor (λ st. op.number ≤ st.number) m.actors op.actor (refused (m.actors op.actor) op c) (omega arith);
-        is = own_actor (λ st. program_of st.running op ≡ Some (declined op c)) m.actors op.actor (refused (m.actors op.actor) op c) (rw own refl);
+        old = own_actor (λ st. op.number ≤ st.number) m.actors op.actor (not_begun (m.actors op.actor) op c) (omega arith);
+        is = own_actor (λ st. program_of st.running op ≡ Some (declined op c)) m.actors op.actor (not_begun (m.actors op.actor) op c)
+            (rw own refl);
       };
       looks = refl;
       others = refl;
@@ -350,26 +362,30 @@ still_new m (Began other c) may op t new =
     let next : other.number ≡ (m.actors op.actor).number + 1 = rw same (may.0).next in
     let differ : other.number ≢ op.number = numbers_differ other op t (sym same) in
     omega (arith, next, differ, new)) (λ d. new)
-still_new m (Refused other c) may op t new =
-    changed (λ st. st.number < op.number) m.actors other.actor (refused (m.actors other.actor) other c) op.actor
+still_new m (NotBegun other c) may op t new =
+    changed (λ st. st.number < op.number) m.actors other.actor (not_begun (m.actors other.actor) other c) op.actor
     (λ same.
     let next : other.number ≡ (m.actors op.actor).number + 1 = rw same (may.0).next in
     let differ : other.number ≢ op.number = numbers_differ other op t (sym same) in
     omega (arith, next, differ, new)) (λ d. new)
 still_new m (Acted other q x) may op t new =
-    changed (λ st. st.number < op.number) m.actors other.actor (went_on m.counts (m.actors other.actor) q x) op.actor (λ same. rw (sym same) new) (λ d. new)
+    changed (λ st. st.number < op.number) m.actors other.actor (went_on m.counts (m.actors other.actor) q x) op.actor
+    (λ same. rw (sym same) new) (λ d. new)
 still_new m (Ended other a) may op t new =
-    changed (λ st. st.number < op.number) m.actors other.actor (record (m.actors other.actor) { running = None }) op.actor (λ same. rw (sym same) new) (λ d. new)
+    changed (λ st. st.number < op.number) m.actors other.actor (record (m.actors other.actor) { running = None }) op.actor
+    (λ same. rw (sym same) new) (λ d. new)
 still_new m (Stopped other) may op t new =
-    changed (λ st. st.number < op.number) m.actors other.actor (record (m.actors other.actor) { running = None; stopped = true }) op.actor (λ same. rw (sym same) new) (λ d. new)
+    changed (λ st. st.number < op.number) m.actors other.actor (record (m.actors other.actor) { running = None; stopped = true }) op.actor
+    (λ same. rw (sym same) new) (λ d. new)
 still_new m (Failed other a) may op t new =
-    changed (λ st. st.number < op.number) m.actors other.actor (record (m.actors other.actor) { running = None }) op.actor (λ same. rw (sym same) new) (λ d. new)
+    changed (λ st. st.number < op.number) m.actors other.actor (record (m.actors other.actor) { running = None }) op.actor
+    (λ same. rw (sym same) new) (λ d. new)
 still_new m Dumped may op t new = new
 
 -- another op's event is not its begin
 other_begins : (op : OpId) (e : Event) → op_eq (event_op e) op ≡ false → begun_by e op ≡ None
 other_begins op (Began other c) t = rw t refl
-other_begins op (Refused other c) t = refl
+other_begins op (NotBegun other c) t = refl
 other_begins op (Acted other q x) t = refl
 other_begins op (Ended other a) t = refl
 other_begins op (Stopped other) t = refl
@@ -380,7 +396,8 @@ other_begins op Dumped t = refl
 op_ahead_step : (m : WorldState) (e : Event) → HasOp e → May m e → (op : OpId) → IsAhead m op → Starts m e op ⊎ Waits m e op
 op_ahead_step m e has may op ahead =
     elim (op_eq_cases (event_op e) op) [
-      | inl (t, same) ↦ inl (subst (λ (o : OpId). Starts m e o) same (own_starts m e has may (subst (λ (o : OpId). IsAhead m o) (sym same) ahead)))
+      | inl (t, same) ↦ inl
+          (subst (λ (o : OpId). Starts m e o) same (own_starts m e has may (subst (λ (o : OpId). IsAhead m o) (sym same) ahead)))
       | inr (t, differs) ↦ inr record {
         begins = other_begins op e t;
         ahead = record { new = still_new m e may op t ahead.new; idle = other_keeps m e may op t ∙ ahead.idle };

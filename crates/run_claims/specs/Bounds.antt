@@ -8,7 +8,7 @@ use Rattle.store_rules.specs.declared.any.AnyReq.{AnyReq}
 use Rattle.store_rules.specs.declared.any.AnyReq.TheVariants as any
 use Rattle.program_rules.specs.Programs.{first_path}
 use Rattle.world_runs.specs.declared.event.Event.{Event}
-use Rattle.world_runs.specs.declared.event.Event.TheVariants.{Began, Refused, Acted, Ended, Stopped, Failed, Dumped}
+use Rattle.world_runs.specs.declared.event.Event.TheVariants.{Began, NotBegun, Acted, Ended, Stopped, Failed, Dumped}
 use Rattle.world_runs.specs.Report.{transactions}
 
 -- whether the request looks up a name, or checks the directory that a path without names is
@@ -21,7 +21,7 @@ is_look _ = false
 abbrev pub is_look_of : OpId → Event → Bool
 is_look_of op (Acted other q x) = op_eq other op && is_look q
 is_look_of op (Began other c) = false
-is_look_of op (Refused other c) = false
+is_look_of op (NotBegun other c) = false
 is_look_of op (Ended other a) = false
 is_look_of op (Stopped other) = false
 is_look_of op (Failed other a) = false
@@ -31,7 +31,7 @@ is_look_of op Dumped = false
 abbrev pub is_other_of : OpId → Event → Bool
 is_other_of op (Acted other q x) = op_eq other op && not (is_look q)
 is_other_of op (Began other c) = false
-is_other_of op (Refused other c) = false
+is_other_of op (NotBegun other c) = false
 is_other_of op (Ended other a) = false
 is_other_of op (Stopped other) = false
 is_other_of op (Failed other a) = false

@@ -4,18 +4,8 @@ use Rattle.std.specs.Str.{bytes_eq}
 use Rattle.script_words.specs.declared.limits.Limit.TheVariants as limits
 use Rattle.script_words.specs.declared.limits.Fit.{Fit}
 use Rattle.script_words.specs.declared.limits.Fit.TheVariants.{Fits, Unfit}
-use Rattle.script_words.specs.WordForm.{
-  path_names,
-  path_fit,
-  sibling_fit,
-  hex_bytes,
-  hex_fit,
-  number_of,
-  number_fit,
-  count_fit,
-  layer_of,
-  is_client_name,
-}
+use Rattle.script_words.specs.WordForm.{path_names, path_fit, sibling_fit, hex_bytes, hex_fit, number_of, number_fit, count_fit, layer_of}
+use Rattle.script_words.specs.WordForm.{is_client_name}
 use Rattle.tect_ids.specs.declared.ids.Counts.{Counts}
 use Rattle.tect_ids.specs.declared.ids.Layer.{Layer}
 use Rattle.tect_ids.specs.declared.ids.Layer.TheVariants.{Names, Files, Blocks, Disks}

@@ -1,52 +1,14 @@
 -- Commands: what is read is spelled, and what is spelled is read.
-use Rattle.std.proofs.Common.{
-  ◌≡◌,
-  ℕ,
-  ◌+◌,
-  ◌-◌,
-  ◌<◌,
-  ◌≤◌,
-  ◌^◌,
-  Bool,
-  true,
-  false,
-  List,
-  [],
-  ◌∷◌,
-  ◌++◌,
-  length,
-  refl,
-  sym,
-  ap,
-  subst,
-  ◌∙◌,
-  arith,
-  inl,
-  inr,
-  Option,
-  Some,
-  is_some,
-  nat_le,
-  nat_lt,
-}
+use Rattle.std.proofs.Common.{◌≡◌, ℕ, ◌+◌, ◌-◌, ◌<◌, ◌≤◌, ◌^◌, Bool, true, false, List, [], ◌∷◌, ◌++◌, length, refl, sym, ap, subst, ◌∙◌}
+use Rattle.std.proofs.Common.{arith, inl, inr, Option, Some, is_some, nat_le, nat_lt}
 use Rattle.std.specs.Prelude.{codes, unwrap_or}
 use Rattle.std.specs.Fmt.{decimal}
 use Rattle.std.proofs.lemmas.Bool.{cases_Bool}
 use Rattle.script_words.specs.declared.limits.Fit.{Fit}
 use Rattle.script_words.specs.declared.limits.Fit.TheVariants.{Fits, Over, Unfit}
 use Rattle.script_words.specs.WordText.{path_text, hex_text, layer_word}
-use Rattle.script_words.specs.WordForm.{
-  path_names,
-  path_fit,
-  folder_text,
-  sibling_fit,
-  hex_bytes,
-  hex_fit,
-  number_of,
-  number_fit,
-  layer_of,
-  names_fit,
-}
+use Rattle.script_words.specs.WordForm.{path_names, path_fit, folder_text, sibling_fit, hex_bytes, hex_fit, number_of, number_fit, layer_of}
+use Rattle.script_words.specs.WordForm.{names_fit}
 use Rattle.script_words.proofs.PathWords.{names_of_text}
 use Rattle.script_words.proofs.HexWords.{bytes_of_text}
 use Rattle.script_words.proofs.NumberWords.{number_of_text}
@@ -66,19 +28,8 @@ use Rattle.script_forms.specs.LineText.{command_words}
 use Rattle.script_forms.specs.Grammar.{places_of, the_disk, the_layer, layer_fit, fits_if, command_form}
 use Rattle.script_forms.specs.LineForms.{IsPath, IsOnPath, IsCommand, path_limit, block_limit, first_limit, command_limit, AreCounts}
 use Rattle.script_laws.proofs.FormLaws.{got_same, one_word, pass_word, fits_pass}
-use Rattle.script_laws.proofs.WordLaws.{
-  passes_same,
-  if_passes,
-  path_word,
-  path_fit_of_text,
-  sibling_word,
-  sibling_fit_of,
-  hex_word,
-  hex_fit_of_text,
-  number_word,
-  number_text,
-  number_fit_of_text,
-}
+use Rattle.script_laws.proofs.WordLaws.{passes_same, if_passes, path_word, path_fit_of_text, sibling_word, sibling_fit_of, hex_word}
+use Rattle.script_laws.proofs.WordLaws.{hex_fit_of_text, number_word, number_text, number_fit_of_text}
 use Rattle.script_laws.proofs.VerbLaws.{some_is, pick_case, none_some}
 
 -- ---- the commands of one path

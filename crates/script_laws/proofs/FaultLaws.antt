@@ -1,36 +1,6 @@
 -- The fault that reading gives is the script's first.
-use Rattle.std.proofs.Common.{
-  ◌≡◌,
-  ℕ,
-  ◌+◌,
-  ◌<◌,
-  ◌≤◌,
-  true,
-  false,
-  List,
-  [],
-  ◌∷◌,
-  ◌++◌,
-  length,
-  map,
-  filter,
-  refl,
-  sym,
-  ap,
-  subst,
-  ◌∙◌,
-  arith,
-  inl,
-  inr,
-  ◌⊎◌,
-  Option,
-  Some,
-  None,
-  Result,
-  Ok,
-  Err,
-  nat_lt,
-}
+use Rattle.std.proofs.Common.{◌≡◌, ℕ, ◌+◌, ◌<◌, ◌≤◌, true, false, List, [], ◌∷◌, ◌++◌, length, map, filter, refl, sym, ap, subst, ◌∙◌}
+use Rattle.std.proofs.Common.{arith, inl, inr, ◌⊎◌, Option, Some, None, Result, Ok, Err, nat_lt}
 use Rattle.std.specs.Prelude.{if◌then◌else◌}
 use Rattle.std.specs.List.{AllByRecursion}
 use Rattle.std.proofs.lemmas.Bool.{cases_Bool, ltb-false, ltb-true}
@@ -49,25 +19,8 @@ use Rattle.script_forms.specs.LineText.{line_text}
 use Rattle.script_forms.specs.Grammar.{store_form}
 use Rattle.script_forms.specs.LineForms.{AreCounts}
 use Rattle.script_forms.specs.Clients.{Seen, seen_after}
-use Rattle.script_forms.specs.Reading.{
-  line_read,
-  at_line,
-  measured,
-  is_comment,
-  some_line,
-  text_read,
-  store_text_read,
-  go_on,
-  ended_by,
-  add_line,
-  seen_behind,
-  lines_read,
-  behind_store,
-  plan_of,
-  store_read,
-  script_read,
-  too_large,
-}
+use Rattle.script_forms.specs.Reading.{line_read, at_line, measured, is_comment, some_line, text_read, store_text_read, go_on, ended_by}
+use Rattle.script_forms.specs.Reading.{add_line, seen_behind, lines_read, behind_store, plan_of, store_read, script_read, too_large}
 use Rattle.script_forms.specs.Spelling.{is_told, AreLines, MayStand, seen_of}
 use Rattle.script_forms.specs.FirstWrong.{IsWrongLine, IsLargeLine}
 use Rattle.script_forms.specs.FirstFault.{column_of, IsTextFault, IsStoreFault, IsMeasuredFault, IsFaultBehind, IsFaultAt}

@@ -1,29 +1,6 @@
 -- Whole lines: what is read is spelled, and what is spelled is read.
-use Rattle.std.proofs.Common.{
-  ◌≡◌,
-  ℕ,
-  ◌-◌,
-  ◌<◌,
-  ◌≤◌,
-  ◌^◌,
-  Bool,
-  true,
-  false,
-  List,
-  ◌∷◌,
-  ◌++◌,
-  refl,
-  sym,
-  ap,
-  subst,
-  ◌∙◌,
-  arith,
-  inl,
-  inr,
-  is_some,
-  nat_le,
-  ◌&&◌,
-}
+use Rattle.std.proofs.Common.{◌≡◌, ℕ, ◌-◌, ◌<◌, ◌≤◌, ◌^◌, Bool, true, false, List, ◌∷◌, ◌++◌, refl, sym, ap, subst, ◌∙◌, arith, inl, inr}
+use Rattle.std.proofs.Common.{is_some, nat_le, ◌&&◌}
 use Rattle.std.specs.Prelude.{codes, unwrap_or}
 use Rattle.std.specs.Str.{bytes_eq}
 use Rattle.std.specs.Fmt.{decimal}
@@ -48,20 +25,8 @@ use Rattle.script_forms.specs.Form.{Form, done, word, Got, read, passes, IsAlive
 use Rattle.script_forms.specs.Served.{serves_world}
 use Rattle.script_forms.specs.Verbs.{world_word, served_world}
 use Rattle.script_forms.specs.LineText.{act_words, counts_words, line_words}
-use Rattle.script_forms.specs.Grammar.{
-  text_fit,
-  the_disk,
-  the_counts,
-  act_form,
-  world_behind,
-  shards_fit,
-  counts_form,
-  store_form,
-  first_fit,
-  client_form,
-  behind_first,
-  line_form,
-}
+use Rattle.script_forms.specs.Grammar.{text_fit, the_disk, the_counts, act_form, world_behind, shards_fit, counts_form, store_form}
+use Rattle.script_forms.specs.Grammar.{first_fit, client_form, behind_first, line_form}
 use Rattle.script_forms.specs.LineForms.{IsLine, path_limit, block_limit, command_limit, act_limit, line_limit, AreCounts}
 use Rattle.script_laws.proofs.FormLaws.{got_same, one_word, pass_word, fits_pass}
 use Rattle.script_laws.proofs.WordLaws.{unfit_stops, passes_same, if_passes, passes_if}

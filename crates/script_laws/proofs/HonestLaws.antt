@@ -1,27 +1,6 @@
 -- A word that is over a limit passes that very limit.
-use Rattle.std.proofs.Common.{
-  ◌≡◌,
-  ℕ,
-  ◌-◌,
-  Bool,
-  true,
-  false,
-  ◌&&◌,
-  nat_lt,
-  nat_le,
-  List,
-  [],
-  ◌∷◌,
-  length,
-  refl,
-  sym,
-  ap,
-  subst,
-  ◌∙◌,
-  inl,
-  inr,
-  is_some,
-}
+use Rattle.std.proofs.Common.{◌≡◌, ℕ, ◌-◌, Bool, true, false, ◌&&◌, nat_lt, nat_le, List, [], ◌∷◌, length, refl, sym, ap, subst, ◌∙◌, inl}
+use Rattle.std.proofs.Common.{inr, is_some}
 use Rattle.std.specs.Prelude.{codes, unwrap_or}
 use Rattle.std.specs.Str.{bytes_eq}
 use Rattle.std.proofs.lemmas.Bool.{cases_Bool, ltb-true}
@@ -29,18 +8,8 @@ use Rattle.script_words.specs.declared.limits.Limit.{Limit}
 use Rattle.script_words.specs.declared.limits.Limit.TheVariants as limits
 use Rattle.script_words.specs.declared.limits.Fit.{Fit}
 use Rattle.script_words.specs.declared.limits.Fit.TheVariants.{Fits, Over, Unfit}
-use Rattle.script_words.specs.WordForm.{
-  is_path_form,
-  path_fit,
-  folder_text,
-  sibling_fit,
-  are_hex_pairs,
-  hex_fit,
-  is_numeral,
-  number_of,
-  number_fit,
-  is_client_name,
-}
+use Rattle.script_words.specs.WordForm.{is_path_form, path_fit, folder_text, sibling_fit, are_hex_pairs, hex_fit, is_numeral, number_of}
+use Rattle.script_words.specs.WordForm.{number_fit, is_client_name}
 use Rattle.script_words.proofs.Apart.{both}
 use Rattle.tect_ids.specs.declared.ids.Counts.{Counts}
 use Rattle.tect_ids.specs.declared.script.Act.TheVariants.{Do, Begin}
@@ -54,21 +23,8 @@ use Rattle.script_forms.specs.declared.verbs.WorldVerb.{WorldVerb}
 use Rattle.script_forms.specs.declared.verbs.WorldVerb.TheVariants as worlds
 use Rattle.script_forms.specs.Form.{Form, done, word, Large, by_fit, read, and_then}
 use Rattle.script_forms.specs.Verbs.{served_verb, act_word_of, served_world}
-use Rattle.script_forms.specs.Grammar.{
-  fits_if,
-  the_layer,
-  places_of,
-  command_form,
-  the_verb,
-  any_command,
-  act_behind,
-  the_act_word,
-  act_form,
-  world_behind,
-  client_form,
-  behind_first,
-  line_form,
-}
+use Rattle.script_forms.specs.Grammar.{fits_if, the_layer, places_of, command_form, the_verb, any_command, act_behind, the_act_word}
+use Rattle.script_forms.specs.Grammar.{act_form, world_behind, client_form, behind_first, line_form}
 use Rattle.script_forms.specs.FirstWrong.{PassesLimit}
 use Rattle.script_laws.proofs.FormLaws.{got_large, large_same, wrong_large}
 

@@ -2,18 +2,8 @@
 use Rattle.std.proofs.Common.{◌≡◌, ℕ, ◌+◌, List, [], ◌∷◌, refl}
 use Rattle.tect_ids.specs.declared.ids.Counts.{Counts}
 use Rattle.script_forms.specs.Clients.{Seen}
-use Rattle.script_forms.specs.Reading.{
-  add_line,
-  go_on,
-  ended_by,
-  text_read,
-  store_text_read,
-  seen_behind,
-  lines_read,
-  plan_of,
-  behind_store,
-  store_read,
-}
+use Rattle.script_forms.specs.Reading.{add_line, go_on, ended_by, text_read, store_text_read, seen_behind, lines_read, plan_of}
+use Rattle.script_forms.specs.Reading.{behind_store, store_read}
 
 -- the last part is not empty, or there is another one behind it
 abbrev pub IsLine : List ℕ → List (List ℕ) → Type 0

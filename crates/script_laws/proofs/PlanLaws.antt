@@ -1,35 +1,6 @@
 -- Whole scripts: what is read is spelled, and what is spelled is read.
-use Rattle.std.proofs.Common.{
-  ◌≡◌,
-  ℕ,
-  ◌+◌,
-  ◌-◌,
-  ◌≤◌,
-  true,
-  false,
-  List,
-  [],
-  ◌∷◌,
-  ◌++◌,
-  length,
-  map,
-  filter,
-  refl,
-  sym,
-  ap,
-  subst,
-  ◌∙◌,
-  arith,
-  inl,
-  inr,
-  Option,
-  Some,
-  None,
-  Result,
-  Ok,
-  Err,
-  nat_lt,
-}
+use Rattle.std.proofs.Common.{◌≡◌, ℕ, ◌+◌, ◌-◌, ◌≤◌, true, false, List, [], ◌∷◌, ◌++◌, length, map, filter, refl, sym, ap, subst, ◌∙◌}
+use Rattle.std.proofs.Common.{arith, inl, inr, Option, Some, None, Result, Ok, Err, nat_lt}
 use Rattle.std.specs.Prelude.{if◌then◌else◌}
 use Rattle.std.specs.List.{AllByRecursion}
 use Rattle.std.specs.Map.{keys_of}
@@ -47,39 +18,14 @@ use Rattle.script_forms.specs.LineText.{spaced, line_text}
 use Rattle.script_forms.specs.Grammar.{store_form}
 use Rattle.script_forms.specs.LineForms.{AreCounts}
 use Rattle.script_forms.specs.Clients.{Seen, seen_after}
-use Rattle.script_forms.specs.Reading.{
-  at_line,
-  is_comment,
-  text_read,
-  store_text_read,
-  go_on,
-  add_line,
-  seen_behind,
-  lines_read,
-  behind_store,
-  plan_of,
-  the_plan,
-  store_read,
-  script_read,
-  too_large,
-}
+use Rattle.script_forms.specs.Reading.{at_line, is_comment, text_read, store_text_read, go_on, add_line, seen_behind, lines_read}
+use Rattle.script_forms.specs.Reading.{behind_store, plan_of, the_plan, store_read, script_read, too_large}
 use Rattle.script_forms.specs.Spelling.{AreLines, seen_of, is_told, plan_lines, IsPlan, Spells}
 use Rattle.script_laws.proofs.GrammarLaws.{store_words, store_sound, store_complete}
 use Rattle.script_laws.proofs.Visible.{parts_spaced, spaced_parts, store_visible}
 use Rattle.script_laws.proofs.LineSteps.{IsLine as IsText, lines_step, store_step}
-use Rattle.script_laws.proofs.ScriptLaws.{
-  right_same,
-  faulty_right,
-  ended_got,
-  append_nil,
-  measured_right,
-  measures,
-  at_line_right,
-  text_told,
-  go_on_right,
-  outcome,
-  lines_right,
-}
+use Rattle.script_laws.proofs.ScriptLaws.{right_same, faulty_right, ended_got, append_nil, measured_right, measures, at_line_right}
+use Rattle.script_laws.proofs.ScriptLaws.{text_told, go_on_right, outcome, lines_right}
 
 -- the empty text behind the last line feed
 abbrev closed : List (List ℕ) → List (List ℕ)

@@ -1,35 +1,6 @@
 -- What is read is spelled, and what is spelled is read.
-use Rattle.std.proofs.Common.{
-  ◌≡◌,
-  ℕ,
-  ◌+◌,
-  ◌-◌,
-  ◌≤◌,
-  true,
-  false,
-  List,
-  [],
-  ◌∷◌,
-  ◌++◌,
-  length,
-  map,
-  filter,
-  refl,
-  sym,
-  ap,
-  subst,
-  ◌∙◌,
-  arith,
-  inl,
-  inr,
-  Option,
-  Some,
-  None,
-  Result,
-  Ok,
-  Err,
-  nat_lt,
-}
+use Rattle.std.proofs.Common.{◌≡◌, ℕ, ◌+◌, ◌-◌, ◌≤◌, true, false, List, [], ◌∷◌, ◌++◌, length, map, filter, refl, sym, ap, subst, ◌∙◌}
+use Rattle.std.proofs.Common.{arith, inl, inr, Option, Some, None, Result, Ok, Err, nat_lt}
 use Rattle.std.specs.Prelude.{if◌then◌else◌}
 use Rattle.std.specs.List.{AllByRecursion}
 use Rattle.std.proofs.lemmas.Bool.{cases_Bool, ltb-false, le-ltb}
@@ -52,23 +23,8 @@ use Rattle.script_forms.specs.LineText.{spaced, act_words, line_words, line_text
 use Rattle.script_forms.specs.Grammar.{act_form, world_behind, line_form}
 use Rattle.script_forms.specs.LineForms.{IsLine, line_limit, act_limit, AreCounts}
 use Rattle.script_forms.specs.Clients.{Seen, client_number, is_one_too_many}
-use Rattle.script_forms.specs.Reading.{
-  out_of_state,
-  of_client,
-  client_read,
-  world_read,
-  line_read,
-  at_line,
-  measured,
-  is_comment,
-  some_line,
-  text_read,
-  go_on,
-  add_line,
-  seen_behind,
-  lines_read,
-  too_large,
-}
+use Rattle.script_forms.specs.Reading.{out_of_state, of_client, client_read, world_read, line_read, at_line, measured, is_comment}
+use Rattle.script_forms.specs.Reading.{some_line, text_read, go_on, add_line, seen_behind, lines_read, too_large}
 use Rattle.script_forms.specs.Spelling.{IsInOrder, MayStand, AreLines, seen_of, is_told}
 use Rattle.script_laws.proofs.FormLaws.{got_same, got_wrong, got_large, fits_pass}
 use Rattle.script_laws.proofs.VerbLaws.{world_spelled, world_read_word, world_no_client}

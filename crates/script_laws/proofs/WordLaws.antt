@@ -1,28 +1,6 @@
 -- What a word that passes says.
-use Rattle.std.proofs.Common.{
-  ◌≡◌,
-  ℕ,
-  ◌*◌,
-  ◌<◌,
-  ◌≤◌,
-  ◌^◌,
-  Bool,
-  true,
-  false,
-  ◌&&◌,
-  nat_le,
-  nat_lt,
-  List,
-  length,
-  refl,
-  sym,
-  ap,
-  subst,
-  ◌∙◌,
-  arith,
-  inl,
-  inr,
-}
+use Rattle.std.proofs.Common.{◌≡◌, ℕ, ◌*◌, ◌<◌, ◌≤◌, ◌^◌, Bool, true, false, ◌&&◌, nat_le, nat_lt, List, length, refl, sym, ap, subst, ◌∙◌}
+use Rattle.std.proofs.Common.{arith, inl, inr}
 use Rattle.std.specs.List.{AllByRecursion}
 use Rattle.std.specs.Str.{bytes_eq}
 use Rattle.std.specs.Fmt.{decimal}
@@ -31,19 +9,8 @@ use Rattle.std.proofs.lemmas.Slice.Eq.{bytes_eq-Decides}
 use Rattle.script_words.specs.declared.limits.Fit.{Fit}
 use Rattle.script_words.specs.declared.limits.Fit.TheVariants.{Fits, Over, Unfit}
 use Rattle.script_words.specs.WordText.{path_text, hex_text}
-use Rattle.script_words.specs.WordForm.{
-  is_path_form,
-  path_names,
-  path_fit,
-  folder_text,
-  sibling_fit,
-  are_hex_pairs,
-  hex_bytes,
-  hex_fit,
-  is_numeral,
-  number_of,
-  number_fit,
-}
+use Rattle.script_words.specs.WordForm.{is_path_form, path_names, path_fit, folder_text, sibling_fit, are_hex_pairs, hex_bytes, hex_fit}
+use Rattle.script_words.specs.WordForm.{is_numeral, number_of, number_fit}
 use Rattle.script_words.proofs.Apart.{both}
 use Rattle.script_words.proofs.PathWords.{path_spelled, path_names_are, names_of_text, path_text_form}
 use Rattle.script_words.proofs.HexWords.{hex_spelled, hex_bytes_small, bytes_of_text, length-hex_text}

@@ -1,25 +1,6 @@
 -- The place that reading a line gives is that of its first wrong word, or of its first word that is too large.
-use Rattle.std.proofs.Common.{
-  ◌≡◌,
-  ℕ,
-  true,
-  false,
-  List,
-  [],
-  ◌∷◌,
-  ◌++◌,
-  refl,
-  sym,
-  ap,
-  subst,
-  ◌∙◌,
-  append_assoc,
-  inl,
-  inr,
-  Option,
-  Some,
-  None,
-}
+use Rattle.std.proofs.Common.{◌≡◌, ℕ, true, false, List, [], ◌∷◌, ◌++◌, refl, sym, ap, subst, ◌∙◌, append_assoc, inl, inr, Option, Some}
+use Rattle.std.proofs.Common.{None}
 use Rattle.std.proofs.lemmas.Bool.{cases_Bool}
 use Rattle.script_words.specs.declared.limits.Limit.{Limit}
 use Rattle.script_words.specs.declared.limits.Limit.TheVariants as limits
@@ -39,18 +20,8 @@ use Rattle.script_forms.specs.Clients.{Seen, client_number, is_one_too_many}
 use Rattle.script_forms.specs.Reading.{out_of_state, of_client, world_read, line_read}
 use Rattle.script_forms.specs.FirstWrong.{Begins, IsDead, IsWrongWords, PassesLimit, IsLargeWords, IsInState, IsWrongLine, IsLargeLine}
 use Rattle.script_forms.proofs.FormReads.{map_outcome, read-map}
-use Rattle.script_laws.proofs.FormLaws.{
-  got,
-  got_wrong,
-  got_large,
-  wrong_same,
-  wrong_large,
-  large_same,
-  taken,
-  first_wrong,
-  first_large,
-  IsDeadEnd,
-}
+use Rattle.script_laws.proofs.FormLaws.{got, got_wrong, got_large, wrong_same, wrong_large, large_same, taken, first_wrong, first_large}
+use Rattle.script_laws.proofs.FormLaws.{IsDeadEnd}
 use Rattle.script_laws.proofs.VerbLaws.{world_spelled}
 use Rattle.script_laws.proofs.GrammarLaws.{IsNumbered, loose_limit, line_sound, line_complete, line_alive, client_first, world_first}
 use Rattle.script_laws.proofs.HonestLaws.{line_honest, honest_large}

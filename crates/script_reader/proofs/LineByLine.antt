@@ -1,30 +1,6 @@
 -- Reading line after line.
-use Rattle.std.proofs.Common.{
-  ◌≡◌,
-  ℕ,
-  ◌+◌,
-  ◌≤◌,
-  subst,
-  true,
-  false,
-  List,
-  [],
-  ◌∷◌,
-  ◌++◌,
-  Option,
-  Some,
-  None,
-  Result,
-  Ok,
-  Err,
-  length,
-  refl,
-  sym,
-  ap,
-  ◌∙◌,
-  append_assoc,
-  arith,
-}
+use Rattle.std.proofs.Common.{◌≡◌, ℕ, ◌+◌, ◌≤◌, subst, true, false, List, [], ◌∷◌, ◌++◌, Option, Some, None, Result, Ok, Err, length, refl}
+use Rattle.std.proofs.Common.{sym, ap, ◌∙◌, append_assoc, arith}
 use Rattle.std.proofs.lemmas.List.{append-nil}
 use Rattle.std.specs.Borrow.{Bor}
 use Rattle.std.proofs.lemmas.Bool.{le-ltb}
@@ -37,20 +13,8 @@ use Rattle.tect_ids.specs.declared.script.Plan.{Plan}
 use Rattle.script_forms.specs.declared.faults.ScriptFault.{ScriptFault}
 use Rattle.script_forms.specs.declared.faults.ScriptFault.TheVariants as faults
 use Rattle.script_forms.specs.Clients.{Seen}
-use Rattle.script_forms.specs.Reading.{
-  add_line,
-  go_on,
-  ended_by,
-  text_read,
-  store_text_read,
-  seen_behind,
-  lines_read,
-  plan_of,
-  the_plan,
-  behind_store,
-  store_read,
-  script_read,
-}
+use Rattle.script_forms.specs.Reading.{add_line, go_on, ended_by, text_read, store_text_read, seen_behind, lines_read, plan_of, the_plan}
+use Rattle.script_forms.specs.Reading.{behind_store, store_read, script_read}
 use Rattle.script_reader.specs.GivesPlan.{GivesRead, EndsLine, ends_script}
 use Rattle.script_laws.proofs.LineSteps.{IsLine, lines_step, store_step}
 

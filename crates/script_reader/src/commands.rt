@@ -1,17 +1,8 @@
 ghost use Rattle.std.specs.Prelude.{◌≡◌, true};
 ghost use Rattle.script_words.specs.WordList.{words_left};
 ghost use Rattle.script_forms.specs.Form.{read};
-ghost use Rattle.script_forms.specs.Grammar.{
-  places_of as places,
-  path_form,
-  rename_form,
-  move_form,
-  append_form,
-  sweep_form,
-  repair_form,
-  command_form,
-  any_command,
-};
+ghost use Rattle.script_forms.specs.Grammar.{places_of as places, path_form, rename_form, move_form, append_form, sweep_form, repair_form};
+ghost use Rattle.script_forms.specs.Grammar.{command_form, any_command};
 ghost use Rattle.script_reader.specs.Taken.{Gives};
 
 use crate::faults::LineFault;

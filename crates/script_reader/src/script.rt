@@ -2,17 +2,8 @@ ghost use Rattle.std.specs.Prelude.{◌≡◌, ◌∷◌, [], ◌+◌, ◌-◌, 
 ghost use Rattle.script_words.specs.Splitting.{parts, parts_behind};
 ghost use Rattle.script_words.specs.WordList.{spaced_length};
 ghost use Rattle.script_forms.specs.Clients.{seen_after};
-ghost use Rattle.script_forms.specs.Reading.{
-  too_large as fault_of,
-  is_comment as comment,
-  text_read,
-  store_text_read,
-  seen_behind,
-  plan_of,
-  lines_read,
-  store_read,
-  script_read,
-};
+ghost use Rattle.script_forms.specs.Reading.{too_large as fault_of, is_comment as comment, text_read, store_text_read, seen_behind};
+ghost use Rattle.script_forms.specs.Reading.{plan_of, lines_read, store_read, script_read};
 ghost use Rattle.script_reader.specs.GivesPlan.{GivesRead, IsUnlessMemory, IsFaultAt, EndsLine, IsMeasured, ends_script};
 ghost use Rattle.script_forms.specs.Spelling.{Spells, IsPlan, IsSmall, script_text};
 ghost use Rattle.script_forms.specs.FirstFault.{IsFirstFault};

@@ -9,7 +9,7 @@ use Rattle.program_rules.specs.declared.program.Phase.TheVariants.{Walk, Bind, G
 use Rattle.program_rules.specs.declared.program.Program.{Program}
 use Rattle.program_rules.specs.Programs.{object_number, phase_ask, phase_answer}
 use Rattle.world_runs.specs.declared.event.Event.{Event}
-use Rattle.world_runs.specs.declared.event.Event.TheVariants.{Began, Refused, Acted, Ended, Stopped, Failed, Dumped}
+use Rattle.world_runs.specs.declared.event.Event.TheVariants.{Began, NotBegun, Acted, Ended, Stopped, Failed, Dumped}
 use Rattle.world_runs.specs.Moments.{WorldState, after, after_all, RunFrom, running, asked, answered, program_ask, program_answer}
 use Rattle.world_runs.specs.Follows.{Acts, IsEndOf}
 use Rattle.world_runs.specs.Smooth.{EndIsNext, IsPrompt, EndsAtOnce}
@@ -39,7 +39,7 @@ pub acts_unanswered : (m : WorldState) (op : OpId) (n : ℕ) (es more : List Eve
 acts_unanswered m op n [] more a some acts run says = omega (arith, some, acts)
 acts_unanswered m op n (Acted o q x ∷ es) more a some acts run says = not_both m op q a (rw acts.0 at (run.0).0) says
 acts_unanswered m op n (Began o c ∷ es) more a some acts run says = acts
-acts_unanswered m op n (Refused o c ∷ es) more a some acts run says = acts
+acts_unanswered m op n (NotBegun o c ∷ es) more a some acts run says = acts
 acts_unanswered m op n (Ended o b ∷ es) more a some acts run says = acts
 acts_unanswered m op n (Stopped o ∷ es) more a some acts run says = acts
 acts_unanswered m op n (Failed o b ∷ es) more a some acts run says = acts
@@ -54,7 +54,7 @@ end_still_next op (e ∷ es) fs next = next
 prompt_still : (m : WorldState) (e : Event) (es fs : List Event) → IsPrompt m e es → IsPrompt m e (es ++ fs)
 prompt_still m (Acted op q x) es fs prompt = λ a says. end_still_next op es fs (prompt a says)
 prompt_still m (Began op c) es fs prompt = tt
-prompt_still m (Refused op c) es fs prompt = tt
+prompt_still m (NotBegun op c) es fs prompt = tt
 prompt_still m (Ended op a) es fs prompt = tt
 prompt_still m (Stopped op) es fs prompt = tt
 prompt_still m (Failed op a) es fs prompt = tt
@@ -77,7 +77,7 @@ prompt_same : (m : WorldState) (e : Event) (es : List Event) (d : Event) (fs gs 
     → IsPrompt m e (es ++ d ∷ gs)
 prompt_same m (Acted op q x) es d fs gs prompt = λ a says. next_same op es d fs gs (prompt a says)
 prompt_same m (Began op c) es d fs gs prompt = tt
-prompt_same m (Refused op c) es d fs gs prompt = tt
+prompt_same m (NotBegun op c) es d fs gs prompt = tt
 prompt_same m (Ended op a) es d fs gs prompt = tt
 prompt_same m (Stopped op) es d fs gs prompt = tt
 prompt_same m (Failed op a) es d fs gs prompt = tt
@@ -97,7 +97,7 @@ module _ (op : OpId) where
   ends_next m n [] end b ends acts run says = ends
   ends_next m n (Acted o q x ∷ es) end b ends acts run says = absurd (not_both m op q b (rw acts.0 at (run.0).0) says)
   ends_next m n (Began o c ∷ es) end b ends acts run says = absurd acts
-  ends_next m n (Refused o c ∷ es) end b ends acts run says = absurd acts
+  ends_next m n (NotBegun o c ∷ es) end b ends acts run says = absurd acts
   ends_next m n (Ended o d ∷ es) end b ends acts run says = absurd acts
   ends_next m n (Stopped o ∷ es) end b ends acts run says = absurd acts
   ends_next m n (Failed o d ∷ es) end b ends acts run says = absurd acts
@@ -107,7 +107,7 @@ module _ (op : OpId) where
   end_alone m (Ended o a) ends = (tt, tt)
   end_alone m (Failed o a) ends = (tt, tt)
   end_alone m (Began o c) ends = absurd ends
-  end_alone m (Refused o c) ends = absurd ends
+  end_alone m (NotBegun o c) ends = absurd ends
   end_alone m (Acted o q x) ends = absurd ends
   end_alone m (Stopped o) ends = absurd ends
   end_alone m Dumped ends = absurd ends
@@ -122,7 +122,7 @@ module _ (op : OpId) where
         end_at_once n (acts.1).0 es end ends (acts.1).2 run.1,
       )
   end_at_once m n (Began o c ∷ es) end ends acts run = absurd acts
-  end_at_once m n (Refused o c ∷ es) end ends acts run = absurd acts
+  end_at_once m n (NotBegun o c ∷ es) end ends acts run = absurd acts
   end_at_once m n (Ended o d ∷ es) end ends acts run = absurd acts
   end_at_once m n (Stopped o ∷ es) end ends acts run = absurd acts
   end_at_once m n (Failed o d ∷ es) end ends acts run = absurd acts
@@ -136,10 +136,14 @@ module _ (op : OpId) where
   take_at_once m (suc k) count (Acted o q x ∷ es) more few acts run =
       let rest : ℕ = (acts.1).0 in
       let later : k + 1 ≤ rest = omega (arith, few, (acts.1).1) in
-      let n : WorldState = after m (Acted o q x) in
-      (λ a says. absurd (acts_unanswered n op rest es more a (omega (arith, later)) (acts.1).2 run.1 (subst (λ (z : OpId). answered n z ≡ Some a) acts.0 says)), take_at_once n k rest es more later (acts.1).2 run.1)
+      let n : WorldState = after m (Acted o q x) in (
+        λ a says. absurd
+            (acts_unanswered n op rest es more a (omega (arith, later)) (acts.1).2 run.1
+            (subst (λ (z : OpId). answered n z ≡ Some a) acts.0 says)),
+        take_at_once n k rest es more later (acts.1).2 run.1,
+      )
   take_at_once m (suc k) n (Began o c ∷ es) more few acts run = absurd acts
-  take_at_once m (suc k) n (Refused o c ∷ es) more few acts run = absurd acts
+  take_at_once m (suc k) n (NotBegun o c ∷ es) more few acts run = absurd acts
   take_at_once m (suc k) n (Ended o d ∷ es) more few acts run = absurd acts
   take_at_once m (suc k) n (Stopped o ∷ es) more few acts run = absurd acts
   take_at_once m (suc k) n (Failed o d ∷ es) more few acts run = absurd acts

@@ -9,10 +9,10 @@ use Rattle.tect_ids.specs.declared.script.Act.TheVariants as acts
 use Rattle.tect_ids.specs.declared.script.Line.{Line}
 use Rattle.tect_ids.specs.declared.script.Line.TheVariants as lines
 use Rattle.world_runs.specs.declared.event.Event.{Event}
-use Rattle.world_runs.specs.declared.event.Event.TheVariants.{Began, Refused, Acted, Ended, Stopped, Failed, Dumped}
+use Rattle.world_runs.specs.declared.event.Event.TheVariants.{Began, NotBegun, Acted, Ended, Stopped, Failed, Dumped}
 use Rattle.world_runs.specs.Moments.{WorldState, opening, after, after_all, RunFrom}
 use Rattle.world_runs.specs.Follows.{Acts, IsEndOf, EndsAfter, IsBeginOf, DoesLine, Busy, with_busy, FollowsFrom}
-use Rattle.world_runs.specs.Turns.{Turns, all_idle, with_turn, turn_after, InTurnFrom}
+use Rattle.world_runs.specs.ClientStates.{ClientStates, all_idle, with_state, state_left_at, FitStatesFrom}
 use Rattle.script_runs.proofs.Histories.{run-front, run-rest, run-append}
 use Rattle.world_runs.specs.Standing.{busy_at}
 use Rattle.world_runs.specs.Smooth.{EndsAtOnce}
@@ -68,7 +68,7 @@ acts_front op n (Acted o q x ∷ h) tail acts =
     let rest : ActsSome op (acts.1).0 h = acts_front op (acts.1).0 h tail (acts.1).2 in
     record { count = rest.count + 1; few = omega (arith, rest.few, (acts.1).1); acts = (acts.0, (rest.count, refl, rest.acts)) }
 acts_front op n (Began o c ∷ h) tail acts = absurd acts
-acts_front op n (Refused o c ∷ h) tail acts = absurd acts
+acts_front op n (NotBegun o c ∷ h) tail acts = absurd acts
 acts_front op n (Ended o a ∷ h) tail acts = absurd acts
 acts_front op n (Stopped o ∷ h) tail acts = absurd acts
 acts_front op n (Failed o a ∷ h) tail acts = absurd acts
@@ -93,7 +93,7 @@ ends_once m op n es e run = rw e.2 (end_at_once op m n e.0 e.1 e.4 e.3 (rw e.2 a
 begin_once : (m : WorldState) (op : OpId) (c : Command) (begin : Event) (es : List Event) → IsBeginOf op c begin
     → EndsAtOnce (after m begin) es → EndsAtOnce m (begin ∷ es)
 begin_once m op c (Began o d) es is then = (tt, then)
-begin_once m op c (Refused o d) es is then = (tt, then)
+begin_once m op c (NotBegun o d) es is then = (tt, then)
 begin_once m op c (Acted o q x) es is then = absurd is
 begin_once m op c (Ended o a) es is then = absurd is
 begin_once m op c (Stopped o) es is then = absurd is
@@ -143,11 +143,13 @@ module _ (full : List Event → ℕ → Bool) where
     -- a command that began
     module _ (c : Command) (op : OpId) (begin : Event) (own : op.actor ≡ a) (is : IsBeginOf op c begin) where
       does_whole : (n : ℕ) (h : List Event) → RunFrom m (begin ∷ h) → EndsAfter op n h → Completes m a None (acts.Do c) (begin ∷ h)
-      does_whole n h run ends = whole m a None (acts.Do c) (begin ∷ h) None run ((op, begin, h, own, refl, is, (n, ends)), refl) (begin_once m op c begin h is (ends_once (after m begin) op n h ends run.1))
+      does_whole n h run ends = whole m a None (acts.Do c) (begin ∷ h) None run ((op, begin, h, own, refl, is, (n, ends)), refl)
+          (begin_once m op c begin h is (ends_once (after m begin) op n h ends run.1))
 
       does_rest : (n : ℕ) (h : List Event) → RunFrom m (begin ∷ h) → Acts op n h → Completes m a None (acts.Do c) (begin ∷ h)
       does_rest n h run acts =
-          let e : ToEnd (after m begin) op n h = to_end (after m begin) (event_well m begin s run.0) op n h (begin_moves m op c begin is run.0).busy run.1 acts in
+          let e : ToEnd (after m begin) op n h = to_end (after m begin) (event_well m begin s run.0) op n h
+          (begin_moves m op c begin is run.0).busy run.1 acts in
           record {
             tail = e.end ∷ [];
             next = None;
@@ -173,7 +175,14 @@ module _ (full : List Event → ℕ → Bool) where
       steps_rest : (n k : ℕ) (h : List Event) → RunFrom m h → k ≤ n → Acts op k h → Completes m a (Some op) (acts.Step n) h
       steps_rest n k h run few acts =
           let e : ToEnd m op k h = to_end m s op k h own_busy run acts in
-          record { tail = e.end ∷ []; next = None; run = e.run; does = inr (k, few, e.ends, refl); at_once = ends_once m op k (h ++ e.end ∷ []) e.ends e.run; refuses = e.refuses }
+          record {
+            tail = e.end ∷ [];
+            next = None;
+            run = e.run;
+            does = inr (k, few, e.ends, refl);
+            at_once = ends_once m op k (h ++ e.end ∷ []) e.ends e.run;
+            refuses = e.refuses;
+          }
 
       steps_on : (n k : ℕ) (h tail : List Event) → RunFrom m h → k ≤ n → EndsAfter op k (h ++ tail)
           → Completes m a (Some op) (acts.Step n) h
@@ -189,7 +198,14 @@ module _ (full : List Event → ℕ → Bool) where
             | inl all ↦ whole m a (Some op) acts.Run h None run ((n, all), refl) (ends_once m op n h all run)
             | inr some ↦
                 let e : ToEnd m op some.count h = to_end m s op some.count h own_busy run some.acts in
-                record { tail = e.end ∷ []; next = None; run = e.run; does = ((some.count, e.ends), refl); at_once = ends_once m op some.count (h ++ e.end ∷ []) e.ends e.run; refuses = e.refuses }
+                record {
+                  tail = e.end ∷ [];
+                  next = None;
+                  run = e.run;
+                  does = ((some.count, e.ends), refl);
+                  at_once = ends_once m op some.count (h ++ e.end ∷ []) e.ends e.run;
+                  refuses = e.refuses;
+                }
           ]
 
     -- any line
@@ -205,7 +221,8 @@ module _ (full : List Event → ℕ → Bool) where
       do_on c op begin rest n own is begins ends =
           let same : d ≡ begin = cc in
           let others : h ++ tail ≡ rest = cc in
-          does_on c op d own (subst (λ (e : Event). IsBeginOf op c e) (sym same) begins) n h tail run (subst (λ (l : List Event). EndsAfter op n l) (sym others) ends)
+          does_on c op d own (subst (λ (e : Event). IsBeginOf op c e) (sym same) begins) n h tail run
+          (subst (λ (l : List Event). EndsAfter op n l) (sym others) ends)
 
       begin_on : (c : Command) (op : OpId) (begin : Event) → op.actor ≡ a → d ∷ h ++ tail ≡ begin ∷ [] → IsBeginOf op c begin
           → Completes m a None (acts.Begin c) (d ∷ h)
@@ -250,10 +267,17 @@ module _ (full : List Event → ℕ → Bool) where
 
   -- none of the lines began
   from_here : (before : List Event) (m : WorldState) (ls : List Line) → CanRunOut full before m ls → CanFinish before [] m ls
-  from_here before m ls c = record { events = c.events; run = c.run; follows = c.follows; at_once = refuses_at_once full before m c.events c.refuses; refuses = c.refuses }
+  from_here before m ls c = record {
+    events = c.events;
+    run = c.run;
+    follows = c.follows;
+    at_once = refuses_at_once full before m c.events c.refuses;
+    refuses = c.refuses;
+  }
 
-  module _ (client : List ℕ) (a : ℕ) (act : Act) (ls : List Line) (before : List Event) (m : WorldState) (turns : Turns) (k : ℕ) (s : AllWell m)
-      (in_turn : InTurnFrom turns (lines.Client client a act ∷ ls)) (all : AllStand m turns k) where
+  module _ (client : List ℕ) (a : ℕ) (act : Act) (ls : List Line) (before : List Event) (m : WorldState) (turns : ClientStates) (k : ℕ)
+      (s : AllWell m)
+      (in_turn : FitStatesFrom turns (lines.Client client a act ∷ ls)) (all : AllStand m turns k) where
     -- the first line began, and the others did not
     line_then : (h : List Event) → k + 1 + length ls < 2 ^ 31 → Completes m a (busy_at m a) act h
         → CanFinish before h m (lines.Client client a act ∷ ls)
@@ -262,14 +286,23 @@ module _ (full : List Event → ℕ → Bool) where
         let n : WorldState = after_all m part in
         let done : IsDone m n a act c.next = line_does m s a act part c.next c.run c.does in
         let rest : CanRunOut full (before ++ c.tail) n ls =
-        lines_run_out full ls (before ++ c.tail) n (with_turn turns a (turn_after act)) (k + 1) (run_well part m s c.run) in_turn.3
+        lines_run_out full ls (before ++ c.tail) n (with_state turns a (state_left_at act)) (k + 1) (run_well part m s c.run) in_turn.3
         (stand_after m n turns k a act part c.next done c.does in_turn.2 all) few in
         let one : part ++ rest.events ≡ h ++ (c.tail ++ rest.events) = append_assoc h c.tail rest.events in
         record {
           events = c.tail ++ rest.events;
           run = subst (λ (l : List Event). RunFrom m l) one (run-append m part rest.events c.run rest.run);
-          follows = (part, rest.events, c.next, sym one, c.does, subst (λ (b : Busy). FollowsFrom b ls rest.events) (sym (busy_after m n a act c.next done)) rest.follows);
-          at_once = subst (λ (l : List Event). EndsAtOnce m l) one (at_once-append m part rest.events c.at_once (refuses_at_once full (before ++ c.tail) n rest.events rest.refuses));
+          follows = (
+            part,
+            rest.events,
+            c.next,
+            sym one,
+            c.does,
+            subst (λ (b : Busy). FollowsFrom b ls rest.events)
+                (sym (busy_after m n a act c.next done)) rest.follows,
+          );
+          at_once = subst (λ (l : List Event). EndsAtOnce m l) one
+              (at_once-append m part rest.events c.at_once (refuses_at_once full (before ++ c.tail) n rest.events rest.refuses));
           refuses = refuses-append full before c.tail rest.events (c.refuses before) rest.refuses;
         }
 
@@ -281,27 +314,39 @@ module _ (full : List Event → ℕ → Bool) where
     line_done_then h rest part next d tail parts mine does at_once f =
         let n : WorldState = after_all m part in
         let done : IsDone m n a act next = line_does m s a act part next mine does in
-        let behind : (es : List Event) → h ++ es ≡ part ++ (d ∷ tail ++ es) = λ es. ap (λ (l : List Event). l ++ es) parts ∙ append_assoc part (d ∷ tail) es in
+        let behind : (es : List Event)
+        → h ++ es ≡ part ++ (d ∷ tail ++ es) = λ es. ap (λ (l : List Event). l ++ es) parts ∙ append_assoc part (d ∷ tail) es in
         let so_far : EndsAtOnce m (part ++ (d ∷ tail ++ rest)) = subst (λ (l : List Event). EndsAtOnce m l) (behind rest) at_once in
         record {
           events = f.events;
           run = subst (λ (l : List Event). RunFrom m l) (sym (behind f.events)) (run-append m part (d ∷ tail ++ f.events) mine f.run);
-          follows = (part, d ∷ tail ++ f.events, next, behind f.events, does, subst (λ (b : Busy). FollowsFrom b ls (d ∷ tail ++ f.events)) (sym (busy_after m n a act next done)) f.follows);
-          at_once = subst (λ (l : List Event). EndsAtOnce m l) (sym (behind f.events)) (at_once-swap m part d (tail ++ rest) (tail ++ f.events) so_far f.at_once);
+          follows = (
+            part,
+            d ∷ tail ++ f.events,
+            next,
+            behind f.events,
+            does,
+            subst (λ (b : Busy). FollowsFrom b ls (d ∷ tail ++ f.events))
+                (sym (busy_after m n a act next done)) f.follows,
+          );
+          at_once = subst (λ (l : List Event). EndsAtOnce m l) (sym (behind f.events))
+              (at_once-swap m part d (tail ++ rest) (tail ++ f.events) so_far f.at_once);
           refuses = f.refuses;
         }
 
-  cut_run_out : (front back : List Line) (before h rest : List Event) (m : WorldState) (turns : Turns) (k : ℕ) → AllWell m
-      → InTurnFrom turns (front ++ back) → AllStand m turns k
+  cut_run_out : (front back : List Line) (before h rest : List Event) (m : WorldState) (turns : ClientStates) (k : ℕ) → AllWell m
+      → FitStatesFrom turns (front ++ back) → AllStand m turns k
       → k + length (front ++ back) < 2 ^ 31 → RunFrom m h → FollowsFrom (busy_at m) front (h ++ rest) → EndsAtOnce m (h ++ rest)
       → CanFinish before h m (front ++ back)
-  cut_run_out front back before [] rest m turns k s in_turn all few run f at_once = from_here before m (front ++ back) (lines_run_out full (front ++ back) before m turns k s in_turn all few)
+  cut_run_out front back before [] rest m turns k s in_turn all few run f at_once = from_here before m (front ++ back)
+      (lines_run_out full (front ++ back) before m turns k s in_turn all few)
   cut_run_out [] back before (d ∷ h) rest m turns k s in_turn all few run f at_once = absurd (let z : d ∷ h ++ rest ≡ [] = f in cc)
   cut_run_out (lines.Client client a act ∷ ls) back before (d ∷ h) rest m turns k s in_turn all few run f at_once =
       elim (fronts (d ∷ h) rest f.0 f.1 f.3) [
         | inl w ↦
             line_then client a act (ls ++ back) before m turns k s in_turn all (d ∷ h) (omega (arith, few))
-            (line_on m s a d h w.tail run (busy_at m a) act f.2 refl (λ op is. (busy_is m s a op is).own) (subst (λ (l : List Event). DoesLine a (busy_at m a) act l f.2) w.parts f.4))
+            (line_on m s a d h w.tail run (busy_at m a) act f.2 refl (λ op is. (busy_is m s a op is).own)
+            (subst (λ (l : List Event). DoesLine a (busy_at m a) act l f.2) w.parts f.4))
         | inr b ↦
             let part : List Event = f.0 in
             let n : WorldState = after_all m part in
@@ -309,19 +354,26 @@ module _ (full : List Event → ℕ → Bool) where
             let mine : RunFrom m part = run-front m part (b.first ∷ b.tail) both in
             let done : IsDone m n a act f.2 = line_does m s a act part f.2 mine f.4 in
             let on : FollowsFrom (busy_at n) ls (b.first ∷ b.tail ++ rest) =
-            subst (λ (z : Busy). FollowsFrom z ls (b.first ∷ b.tail ++ rest)) (busy_after m n a act f.2 done) (subst (λ (l : List Event). FollowsFrom (with_busy (busy_at m) a f.2) ls l) b.laters f.5) in
-            let parts : d ∷ h ++ rest ≡ part ++ (b.first ∷ b.tail ++ rest) = ap (λ (l : List Event). l ++ rest) b.parts ∙ append_assoc part (b.first ∷ b.tail) rest in
-            let later : EndsAtOnce n (b.first ∷ b.tail ++ rest) = at_once-rest m part (b.first ∷ b.tail ++ rest) (subst (λ (l : List Event). EndsAtOnce m l) parts at_once) in
-            line_done_then client a act (ls ++ back) before m turns k s in_turn all (d ∷ h) rest part f.2 b.first b.tail b.parts mine f.4 at_once
-            (cut_run_out ls back before (b.first ∷ b.tail) rest n (with_turn turns a (turn_after act)) (k + 1) (run_well part m s mine) in_turn.3
-            (stand_after m n turns k a act part f.2 done f.4 in_turn.2 all) (omega (arith, few)) (run-rest m part (b.first ∷ b.tail) both) on later)
+            subst (λ (z : Busy). FollowsFrom z ls (b.first ∷ b.tail ++ rest)) (busy_after m n a act f.2 done)
+            (subst (λ (l : List Event). FollowsFrom (with_busy (busy_at m) a f.2) ls l) b.laters f.5) in
+            let parts : d ∷ h ++ rest ≡ part ++ (b.first ∷ b.tail ++ rest) = ap (λ (l : List Event). l ++ rest) b.parts ∙ append_assoc part
+            (b.first ∷ b.tail) rest in
+            let later : EndsAtOnce n (b.first ∷ b.tail ++ rest) = at_once-rest m part (b.first ∷ b.tail ++ rest)
+            (subst (λ (l : List Event). EndsAtOnce m l) parts at_once) in
+            line_done_then client a act (ls ++ back) before m turns k s in_turn all (d ∷ h) rest part f.2 b.first b.tail b.parts mine f.4
+            at_once
+            (cut_run_out ls back before (b.first ∷ b.tail) rest n (with_state turns a (state_left_at act)) (k + 1) (run_well part m s mine)
+            in_turn.3
+            (stand_after m n turns k a act part f.2 done f.4 in_turn.2 all) (omega (arith, few)) (run-rest m part (b.first ∷ b.tail) both)
+            on later)
       ]
   cut_run_out (lines.Dump ∷ ls) back before (d ∷ h) rest m turns k s in_turn all few run f at_once =
       let same : d ≡ Dumped = (let z : d ∷ h ++ rest ≡ Dumped ∷ f.0 = f.1 in cc) in
       let others : f.0 ≡ h ++ rest = (let z : d ∷ h ++ rest ≡ Dumped ∷ f.0 = f.1 in cc) in
       let ran : RunFrom m (Dumped ∷ h) = subst (λ (e : Event). RunFrom m (e ∷ h)) same run in
       let once : EndsAtOnce m (Dumped ∷ h ++ rest) = subst (λ (e : Event). EndsAtOnce m (e ∷ h ++ rest)) same at_once in
-      let c : CanFinish before h m (ls ++ back) = cut_run_out ls back before h rest m turns k s in_turn all (omega (arith, few)) ran.1 (subst (λ (l : List Event). FollowsFrom (busy_at m) ls l) others f.2) once.1 in
+      let c : CanFinish before h m (ls ++ back) = cut_run_out ls back before h rest m turns k s in_turn all (omega (arith, few)) ran.1
+      (subst (λ (l : List Event). FollowsFrom (busy_at m) ls l) others f.2) once.1 in
       record {
         events = c.events;
         run = subst (λ (e : Event). RunFrom m (e ∷ h ++ c.events)) (sym same) (tt, c.run);
@@ -336,5 +388,6 @@ module _ (full : List Event → ℕ → Bool) where
 pub each_cut_line_can_be_run_out : EachCutLineCanBeRunOut
 each_cut_line_can_be_run_out full counts front back history rest in_turn few run f at_once =
     let c : CanFinish full history history (opening counts) (front ++ back) =
-    cut_run_out full front back history history rest (opening counts) all_idle 0 (opening_well counts) in_turn (opening_stand counts) (omega (arith, few)) run f at_once in
+    cut_run_out full front back history history rest (opening counts) all_idle 0 (opening_well counts) in_turn (opening_stand counts)
+    (omega (arith, few)) run f at_once in
     (c.events, c.run, c.follows, c.at_once, c.refuses)

@@ -9,12 +9,12 @@ use Rattle.world_runs.specs.declared.event.Event.{Event}
 use Rattle.world_runs.specs.declared.event.Event.TheVariants.{Dumped}
 use Rattle.world_runs.specs.Moments.{WorldState, opening, after_all, RunFrom, moment}
 use Rattle.world_runs.specs.Follows.{DoesLine, Busy, with_busy, FollowsFrom}
-use Rattle.world_runs.specs.Turns.{Turns, all_idle, with_turn, turn_after, turns_after, TakesAct, InTurnFrom}
+use Rattle.world_runs.specs.ClientStates.{ClientStates, all_idle, with_state, state_left_at, states_after, TakesAct, FitStatesFrom}
 use Rattle.script_runs.proofs.Histories.{run-front, run-rest}
 use Rattle.world_runs.proofs.Actors.{after_all-append}
 use Rattle.world_runs.specs.Standing.{busy_at}
 use Rattle.script_runs.proofs.Running.{AllWell, opening_well, run_well}
-use Rattle.script_runs.specs.Laws.{RunFollowsOn, Stands, StandsByTurn}
+use Rattle.script_runs.specs.Laws.{RunFollowsOn, Stands, StandsByState}
 use Rattle.world_runs.proofs.Actors.{changed}
 use Rattle.script_runs.proofs.Lines.{IsDone, line_does, busy_after, turn_stands}
 
@@ -24,7 +24,8 @@ use Rattle.script_runs.proofs.Lines.{IsDone, line_does, busy_after, turn_stands}
 none_first : (m : WorldState) (back : List Line) (history more : List Event) → history ≡ []
     → FollowsFrom (busy_at (after_all m history)) back more → FollowsFrom (busy_at m) back (history ++ more)
 none_first m back history more none =
-    subst (λ (h : List Event). FollowsFrom (busy_at (after_all m h)) back more → FollowsFrom (busy_at m) back (h ++ more)) (sym none) (λ f. f)
+    subst (λ (h : List Event). FollowsFrom (busy_at (after_all m h)) back more → FollowsFrom (busy_at m) back (h ++ more)) (sym none)
+    (λ f. f)
 
 -- the moment after the events of a line and of further lines
 moment_by : (m : WorldState) (history part rest : List Event) → history ≡ part ++ rest
@@ -45,14 +46,23 @@ follows_on (lines.Client client a act ∷ ls) back m history more s run f then =
     let done : IsDone m n a act f.2 = line_does m s a act part f.2 mine f.4 in
     let busy : with_busy (busy_at m) a f.2 ≡ busy_at n = busy_after m n a act f.2 done in
     let on : FollowsFrom (busy_at n) ls rest = subst (λ (b : Busy). FollowsFrom b ls rest) busy f.5 in
-    let last : FollowsFrom (busy_at (after_all n rest)) back more = subst (λ (z : WorldState). FollowsFrom (busy_at z) back more) (moment_by m history part rest f.3) then in
+    let last : FollowsFrom (busy_at (after_all n rest)) back more = subst (λ (z : WorldState). FollowsFrom (busy_at z) back more)
+    (moment_by m history part rest f.3) then in
     let more_lines : FollowsFrom (busy_at n) (ls ++ back) (rest ++ more) =
-    follows_on ls back n rest more (run_well part m s mine) (run-rest m part rest whole) on last in
-    (part, rest ++ more, f.2, ap (λ h. h ++ more) f.3 ∙ append_assoc part rest more, f.4, subst (λ (b : Busy). FollowsFrom b (ls ++ back) (rest ++ more)) (sym busy) more_lines)
+    follows_on ls back n rest more (run_well part m s mine) (run-rest m part rest whole) on last in (
+      part,
+      rest ++ more,
+      f.2,
+      ap (λ h. h ++ more) f.3 ∙ append_assoc part rest more,
+      f.4,
+      subst
+          (λ (b : Busy). FollowsFrom b (ls ++ back) (rest ++ more)) (sym busy) more_lines,
+    )
 follows_on (lines.Dump ∷ ls) back m history more s run f then =
     let rest : List Event = f.0 in
     let whole : RunFrom m (Dumped ∷ rest) = rw f.1 at run in
-    let last : FollowsFrom (busy_at (after_all m rest)) back more = subst (λ (h : List Event). FollowsFrom (busy_at (after_all m h)) back more) f.1 then in
+    let last : FollowsFrom (busy_at (after_all m rest)) back more = subst
+    (λ (h : List Event). FollowsFrom (busy_at (after_all m h)) back more) f.1 then in
     (rest ++ more, ap (λ h. h ++ more) f.1, follows_on ls back m rest more s whole.1 f.2 last)
 follows_on (lines.Store counts ∷ ls) back m history more s run f then = absurd f
 follows_on (lines.Sweep ∷ ls) back m history more s run f then = absurd f
@@ -64,34 +74,36 @@ run_follows_on counts front back history more run f then =
 
 -- ---- turns
 
-pub turn_front : (front back : List Line) (turns : Turns) → InTurnFrom turns (front ++ back) → InTurnFrom turns front
+pub turn_front : (front back : List Line) (turns : ClientStates) → FitStatesFrom turns (front ++ back) → FitStatesFrom turns front
 turn_front [] back turns t = tt
-turn_front (lines.Client client a act ∷ ls) back turns t = (t.0, t.1, t.2, turn_front ls back (with_turn turns a (turn_after act)) t.3)
+turn_front (lines.Client client a act ∷ ls) back turns t = (t.0, t.1, t.2, turn_front ls back (with_state turns a (state_left_at act)) t.3)
 turn_front (lines.Dump ∷ ls) back turns t = turn_front ls back turns t
 turn_front (lines.Store counts ∷ ls) back turns t = absurd t
 turn_front (lines.Sweep ∷ ls) back turns t = absurd t
 turn_front (lines.Lose disk ∷ ls) back turns t = absurd t
 
-pub turn_back : (front back : List Line) (turns : Turns) → InTurnFrom turns (front ++ back) → InTurnFrom (turns_after turns front) back
+pub turn_back : (front back : List Line) (turns : ClientStates) → FitStatesFrom turns (front ++ back)
+    → FitStatesFrom (states_after turns front) back
 turn_back [] back turns t = t
-turn_back (lines.Client client a act ∷ ls) back turns t = turn_back ls back (with_turn turns a (turn_after act)) t.3
+turn_back (lines.Client client a act ∷ ls) back turns t = turn_back ls back (with_state turns a (state_left_at act)) t.3
 turn_back (lines.Dump ∷ ls) back turns t = turn_back ls back turns t
 turn_back (lines.Store counts ∷ ls) back turns t = absurd t
 turn_back (lines.Sweep ∷ ls) back turns t = absurd t
 turn_back (lines.Lose disk ∷ ls) back turns t = absurd t
 
 -- each actor stands so, and began at most that many commands
-abbrev pub AllStand : WorldState → Turns → ℕ → Type 0
+abbrev pub AllStand : WorldState → ClientStates → ℕ → Type 0
 AllStand m turns n = (a : ℕ) → Stands (turns a) n (m.actors a)
 
 -- they stand by the turns after a line
-pub stand_after : (m n : WorldState) (turns : Turns) (k a : ℕ) (act : Act) (part : List Event) (next : Option OpId) → IsDone m n a act next
+pub stand_after : (m n : WorldState) (turns : ClientStates) (k a : ℕ) (act : Act) (part : List Event) (next : Option OpId)
+    → IsDone m n a act next
     → DoesLine a (busy_at m a) act part next
-    → TakesAct (turns a) act → AllStand m turns k → AllStand n (with_turn turns a (turn_after act)) (k + 1)
+    → TakesAct (turns a) act → AllStand m turns k → AllStand n (with_state turns a (state_left_at act)) (k + 1)
 stand_after m n turns k a act part next done does takes all b =
-    changed (λ t. Stands t (k + 1) (n.actors b)) turns a (turn_after act) b (λ e. rw e own) other
+    changed (λ t. Stands t (k + 1) (n.actors b)) turns a (state_left_at act) b (λ e. rw e own) other
   where
-    own : Stands (turn_after act) (k + 1) (n.actors a)
+    own : Stands (state_left_at act) (k + 1) (n.actors a)
     own = record {
       stands = turn_stands m n a (busy_at m a) (turns a) act part next done does takes (all a).stands;
       began = omega (arith, done.number, (all a).began);
@@ -101,10 +113,12 @@ stand_after m n turns k a act part next done does takes all b =
     other d = rw (done.others b d) record { stands = (all b).stands; began = omega (arith, (all b).began) }
 
 -- so they do after all lines
-pub stand_by_turn : (ls : List Line) (m : WorldState) (turns : Turns) (k : ℕ) (history : List Event) → AllWell m → InTurnFrom turns ls
+pub stand_by_turn : (ls : List Line) (m : WorldState) (turns : ClientStates) (k : ℕ) (history : List Event) → AllWell m
+    → FitStatesFrom turns ls
     → RunFrom m history → FollowsFrom (busy_at m) ls history
-    → AllStand m turns k → AllStand (after_all m history) (turns_after turns ls) (k + length ls)
-stand_by_turn [] m turns k history s in_turn run f all = rw f (λ a. record { stands = (all a).stands; began = omega (arith, (all a).began) })
+    → AllStand m turns k → AllStand (after_all m history) (states_after turns ls) (k + length ls)
+stand_by_turn [] m turns k history s in_turn run f all = rw f
+    (λ a. record { stands = (all a).stands; began = omega (arith, (all a).began) })
 stand_by_turn (lines.Client client a act ∷ ls) m turns k history s in_turn run f all =
     let part : List Event = f.0 in
     let rest : List Event = f.1 in
@@ -113,14 +127,16 @@ stand_by_turn (lines.Client client a act ∷ ls) m turns k history s in_turn run
     let n : WorldState = after_all m part in
     let done : IsDone m n a act f.2 = line_does m s a act part f.2 mine f.4 in
     let on : FollowsFrom (busy_at n) ls rest = subst (λ (b : Busy). FollowsFrom b ls rest) (busy_after m n a act f.2 done) f.5 in
-    let now : AllStand n (with_turn turns a (turn_after act)) (k + 1) = stand_after m n turns k a act part f.2 done f.4 in_turn.2 all in
-    let last : AllStand (after_all n rest) (turns_after (with_turn turns a (turn_after act)) ls) (k + 1 + length ls) =
-    stand_by_turn ls n (with_turn turns a (turn_after act)) (k + 1) rest (run_well part m s mine) in_turn.3 (run-rest m part rest whole) on now in
+    let now : AllStand n (with_state turns a (state_left_at act)) (k + 1) = stand_after m n turns k a act part f.2 done f.4 in_turn.2 all in
+    let last : AllStand (after_all n rest) (states_after (with_state turns a (state_left_at act)) ls) (k + 1 + length ls) =
+    stand_by_turn ls n (with_state turns a (state_left_at act)) (k + 1) rest (run_well part m s mine) in_turn.3 (run-rest m part rest whole)
+    on now in
     rw (moment_by m history part rest f.3) (λ b. record { stands = (last b).stands; began = omega (arith, (last b).began) })
 stand_by_turn (lines.Dump ∷ ls) m turns k history s in_turn run f all =
     let rest : List Event = f.0 in
     let whole : RunFrom m (Dumped ∷ rest) = rw f.1 at run in
-    let last : AllStand (after_all m rest) (turns_after turns ls) (k + length ls) = stand_by_turn ls m turns k rest s in_turn whole.1 f.2 all in
+    let last : AllStand (after_all m rest) (states_after turns ls) (k + length ls) = stand_by_turn ls m turns k rest s in_turn whole.1 f.2
+    all in
     rw f.1 (λ b. record { stands = (last b).stands; began = omega (arith, (last b).began) })
 stand_by_turn (lines.Store counts ∷ ls) m turns k history s in_turn run f all = absurd f
 stand_by_turn (lines.Sweep ∷ ls) m turns k history s in_turn run f all = absurd f
@@ -130,8 +146,8 @@ stand_by_turn (lines.Lose disk ∷ ls) m turns k history s in_turn run f all = a
 pub opening_stand : (counts : Counts) → AllStand (opening counts) all_idle 0
 opening_stand counts a = record { stands = (refl, refl); began = omega arith }
 
-pub stands_by_turn : StandsByTurn
-stands_by_turn counts ls history in_turn run f a =
-    let last : Stands (turns_after all_idle ls a) (0 + length ls) ((moment counts history).actors a) =
+pub stands_by_state : StandsByState
+stands_by_state counts ls history in_turn run f a =
+    let last : Stands (states_after all_idle ls a) (0 + length ls) ((moment counts history).actors a) =
     stand_by_turn ls (opening counts) all_idle 0 history (opening_well counts) in_turn run f (opening_stand counts) a in
     record { stands = last.stands; began = omega (arith, last.began) }

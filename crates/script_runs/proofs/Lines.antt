@@ -11,9 +11,9 @@ use Rattle.world_runs.specs.declared.event.Event.{Event}
 use Rattle.world_runs.specs.declared.event.Event.TheVariants.{Stopped}
 use Rattle.world_runs.specs.Moments.{running, program_of, Actor, WorldState, after, after_all, RunFrom}
 use Rattle.world_runs.specs.Follows.{Acts, EndsAfter, IsBeginOf, BeginsAndEnds, DoesLine, with_busy}
-use Rattle.world_runs.specs.Turns.{ClientTurn, TakesAct, turn_after}
-use Rattle.world_runs.specs.Turns as turns
-use Rattle.world_runs.specs.Standing.{op_of, busy_at, AtTurn}
+use Rattle.world_runs.specs.ClientStates.{ClientState, TakesAct, state_left_at}
+use Rattle.world_runs.specs.ClientStates as turns
+use Rattle.world_runs.specs.Standing.{op_of, busy_at, IsInState}
 use Rattle.script_runs.proofs.Running.{AllWell}
 use Rattle.world_runs.proofs.Actors.{changed}
 use Rattle.script_runs.proofs.Moves.{Moves, Keeps, none_moves, moves_on, acts_move, ends_move, begin_moves, stopped_moves}
@@ -89,7 +89,8 @@ module _ (m : WorldState) (a : ℕ) (act : Act) where
   -- the op ran to its end
   ends_done : (op : OpId) (n : ℕ) (part : List Event) (next : Option OpId) → op.actor ≡ a → EndsAfter op n part → next ≡ None
       → Done next part
-  ends_done op n part next own e last = rw last (keeps_done m _ a act None (subst (λ (i : ℕ). Keeps m (after_all m part) i None) own (ends_move m op n part e)))
+  ends_done op n part next own e last = rw last
+      (keeps_done m _ a act None (subst (λ (i : ℕ). Keeps m (after_all m part) i None) own (ends_move m op n part e)))
 
   -- the op did transactions
   acts_done : (op : OpId) (n : ℕ) (part : List Event) (next : Option OpId) → op.actor ≡ a → busy_at m a ≡ Some op → Acts op n part
@@ -102,7 +103,8 @@ module _ (m : WorldState) (a : ℕ) (act : Act) where
   begins_done : (op : OpId) (c : Command) (begin : Event) (part : List Event) (next : Option OpId) → op.actor ≡ a → part ≡ begin ∷ []
       → IsBeginOf op c begin → RunFrom m part → next ≡ Some op → Done next part
   begins_done op c begin part next own is begins run last =
-      rw (is, last) (begun_done m _ a act (Some op) (subst (λ (i : ℕ). Moves m (after m begin) i ((m.actors i).number + 1) (m.actors i).stopped (Some op)) own
+      rw (is, last) (begun_done m _ a act (Some op)
+      (subst (λ (i : ℕ). Moves m (after m begin) i ((m.actors i).number + 1) (m.actors i).stopped (Some op)) own
       (begin_moves m op c begin begins (rw is at run).0)))
 
   -- the op began and ran to its end
@@ -111,10 +113,12 @@ module _ (m : WorldState) (a : ℕ) (act : Act) where
   does_done c part next b run last =
       let op : OpId = b.0 in
       let mid : WorldState = after m b.1 in
-      let first : Moves m mid op.actor ((m.actors op.actor).number + 1) (m.actors op.actor).stopped (Some op) = begin_moves m op c b.1 b.5 (rw b.4 at run).0 in
+      let first : Moves m mid op.actor ((m.actors op.actor).number + 1) (m.actors op.actor).stopped (Some op) = begin_moves m op c b.1 b.5
+      (rw b.4 at run).0 in
       let whole : Moves m (after_all mid b.2) op.actor ((m.actors op.actor).number + 1) (m.actors op.actor).stopped None =
       moves_on m mid (after_all mid b.2) op.actor _ _ _ _ first (ends_move mid op (b.6).0 b.2 (b.6).1) in
-      rw (b.4, last) (begun_done m _ a act None (subst (λ (i : ℕ). Moves m (after_all mid b.2) i ((m.actors i).number + 1) (m.actors i).stopped None) b.3 whole))
+      rw (b.4, last) (begun_done m _ a act None
+      (subst (λ (i : ℕ). Moves m (after_all mid b.2) i ((m.actors i).number + 1) (m.actors i).stopped None) b.3 whole))
 
 -- the events of a line
 pub line_done : (m : WorldState) (a : ℕ) (act : Act) (part : List Event) (busy next : Option OpId) → busy_at m a ≡ busy
@@ -131,7 +135,8 @@ line_done m a (acts.Step n) part (Some op) next is own run (inl d) = acts_done m
 line_done m a (acts.Step n) part (Some op) next is own run (inr d) = ends_done m a (acts.Step n) op d.0 part next (own op refl) d.2 d.3
 line_done m a acts.Run part (Some op) next is own run d = ends_done m a acts.Run op (d.0).0 part next (own op refl) (d.0).1 d.1
 line_done m a acts.Stop part (Some op) next is own run d =
-    rw (d.0, d.1) (stopped_done m _ a None (subst (λ (i : ℕ). Moves m (after m (Stopped op)) i (m.actors i).number true None) (own op refl) (stopped_moves m op)))
+    rw (d.0, d.1) (stopped_done m _ a None
+    (subst (λ (i : ℕ). Moves m (after m (Stopped op)) i (m.actors i).number true None) (own op refl) (stopped_moves m op)))
 
 -- the same of a moment of a run
 pub line_does : (m : WorldState) → AllWell m → (a : ℕ) (act : Act) (part : List Event) (next : Option OpId) → RunFrom m part
@@ -143,7 +148,8 @@ line_does m s a act part next run d = line_done m a act part (busy_at m a) next 
 busy_so : (m n : WorldState) (a : ℕ) (act : Act) (next : Option OpId) → IsDone m n a act next → (b : ℕ)
     → with_busy (busy_at m) a next b ≡ busy_at n b
 busy_so m n a act next d b =
-    changed (λ o. o ≡ busy_at n b) (busy_at m) a next b (λ e. rw e (sym d.busy)) (λ e. ap (λ (st : Actor). op_of st.running) (sym (d.others b e)))
+    changed (λ o. o ≡ busy_at n b) (busy_at m) a next b (λ e. rw e (sym d.busy))
+    (λ e. ap (λ (st : Actor). op_of st.running) (sym (d.others b e)))
 
 pub busy_after : (m n : WorldState) (a : ℕ) (act : Act) (next : Option OpId) → IsDone m n a act next
     → with_busy (busy_at m) a next ≡ busy_at n
@@ -159,7 +165,8 @@ LeavesNone (acts.Step n) = ⊥
 LeavesNone acts.Run = Unit {0}
 LeavesNone acts.Stop = Unit {0}
 
-rests_next : (a : ℕ) (busy : Option OpId) (act : Act) (part : List Event) (next : Option OpId) → LeavesNone act → DoesLine a busy act part next
+rests_next : (a : ℕ) (busy : Option OpId) (act : Act) (part : List Event) (next : Option OpId) → LeavesNone act
+    → DoesLine a busy act part next
     → next ≡ None
 rests_next a None (acts.Do c) part next r d = d.1
 rests_next a None (acts.Begin c) part next r d = absurd r
@@ -172,15 +179,17 @@ rests_next a (Some op) (acts.Step n) part next r d = absurd r
 rests_next a (Some op) acts.Run part next r d = d.1
 rests_next a (Some op) acts.Stop part next r d = d.1
 
-module _ (m n : WorldState) (a : ℕ) (busy : Option OpId) (act : Act) (part : List Event) (next : Option OpId) (done : IsDone m n a act next) (does : DoesLine a busy act part next) where
+module _ (m n : WorldState) (a : ℕ) (busy : Option OpId) (act : Act) (part : List Event) (next : Option OpId) (done : IsDone m n a act next)
+    (does : DoesLine a busy act part next) where
   rests : LeavesNone act → (n.actors a).running ≡ None
   rests r = idle_is (n.actors a).running (done.busy ∙ rests_next a busy act part next r does)
 
 -- the actor stands as its turn after the line tells
-pub turn_stands : (m n : WorldState) (a : ℕ) (busy : Option OpId) (turn : ClientTurn) (act : Act) (part : List Event) (next : Option OpId)
+pub turn_stands : (m n : WorldState) (a : ℕ) (busy : Option OpId) (turn : ClientState) (act : Act) (part : List Event) (next : Option OpId)
     → IsDone m n a act next → DoesLine a busy act part next
-    → TakesAct turn act → AtTurn turn (m.actors a) → AtTurn (turn_after act) (n.actors a)
-turn_stands m n a busy turns.Idle (acts.Do c) part next done does takes stood = (rests m n a busy (acts.Do c) part next done does tt, done.goes_on tt ∙ stood.1)
+    → TakesAct turn act → IsInState turn (m.actors a) → IsInState (state_left_at act) (n.actors a)
+turn_stands m n a busy turns.Idle (acts.Do c) part next done does takes stood =
+    (rests m n a busy (acts.Do c) part next done does tt, done.goes_on tt ∙ stood.1)
 turn_stands m n a busy turns.Idle (acts.Begin c) part next done does takes stood = done.goes_on tt ∙ stood.1
 turn_stands m n a busy turns.Idle (acts.Step k) part next done does takes stood = absurd takes
 turn_stands m n a busy turns.Idle acts.Run part next done does takes stood = absurd takes
@@ -188,6 +197,7 @@ turn_stands m n a busy turns.Idle acts.Stop part next done does takes stood = ab
 turn_stands m n a busy turns.Busy (acts.Do c) part next done does takes stood = absurd takes
 turn_stands m n a busy turns.Busy (acts.Begin c) part next done does takes stood = absurd takes
 turn_stands m n a busy turns.Busy (acts.Step k) part next done does takes stood = done.goes_on tt ∙ stood
-turn_stands m n a busy turns.Busy acts.Run part next done does takes stood = (rests m n a busy acts.Run part next done does tt, done.goes_on tt ∙ stood)
+turn_stands m n a busy turns.Busy acts.Run part next done does takes stood =
+    (rests m n a busy acts.Run part next done does tt, done.goes_on tt ∙ stood)
 turn_stands m n a busy turns.Busy acts.Stop part next done does takes stood = rests m n a busy acts.Stop part next done does tt
 turn_stands m n a busy turns.Gone act part next done does takes stood = absurd takes

@@ -8,8 +8,8 @@ use Rattle.store_rules.specs.declared.any.AnyReply.{AnyReply}
 use Rattle.store_rules.specs.Store.{Store, store_step}
 use Rattle.program_rules.specs.declared.program.Program.{Program}
 use Rattle.world_runs.specs.declared.event.Event.{Event}
-use Rattle.world_runs.specs.declared.event.Event.TheVariants.{Began, Refused, Acted, Ended, Stopped, Failed, Dumped}
-use Rattle.world_runs.specs.Moments.{Actor, WorldState, May, after, after_all, with_actor, heard, went_on, begun, refused}
+use Rattle.world_runs.specs.declared.event.Event.TheVariants.{Began, NotBegun, Acted, Ended, Stopped, Failed, Dumped}
+use Rattle.world_runs.specs.Moments.{Actor, WorldState, May, after, after_all, with_actor, heard, went_on, begun, not_begun}
 use Rattle.world_runs.specs.Follows.{Acts, IsEndOf, IsBeginOf, EndsAfter}
 use Rattle.world_runs.proofs.Actors.{after_all-append, changed, changed_there}
 use Rattle.world_runs.specs.Standing.{op_of, busy_at}
@@ -54,7 +54,8 @@ heard_op counts serial q x (Some p) = refl
 
 pub acted_moves : (m : WorldState) (op : OpId) (q : AnyReq) (x : AnyReply) → Keeps m (after m (Acted op q x)) op.actor (busy_at m op.actor)
 acted_moves m op q x =
-    subst (λ (o : Option OpId). Keeps m (after m (Acted op q x)) op.actor o) (heard_op m.counts (m.actors op.actor).serial q x (m.actors op.actor).running)
+    subst (λ (o : Option OpId). Keeps m (after m (Acted op q x)) op.actor o)
+    (heard_op m.counts (m.actors op.actor).serial q x (m.actors op.actor).running)
     (put_moves m (store_step m.store q) op.actor (went_on m.counts (m.actors op.actor) q x))
 
 -- transactions
@@ -63,11 +64,14 @@ pub acts_move : (m : WorldState) (op : OpId) (n : ℕ) (es : List Event) → Act
 acts_move m op n [] acts = none_moves m op.actor
 acts_move m op n (Acted o q x ∷ es) acts =
     let e : Event = Acted o q x in
-    let first : Keeps m (after m e) op.actor (busy_at m op.actor) = subst (λ (z : OpId). Keeps m (after m e) z.actor (busy_at m z.actor)) acts.0 (acted_moves m o q x) in
-    let rest : Keeps (after m e) (after_all (after m e) es) op.actor (busy_at (after m e) op.actor) = acts_move (after m e) op (acts.1).0 es (acts.1).2 in
-    subst (λ (z : Option OpId). Keeps m (after_all (after m e) es) op.actor z) first.busy (moves_on m (after m e) (after_all (after m e) es) op.actor _ _ _ _ first rest)
+    let first : Keeps m (after m e) op.actor (busy_at m op.actor) = subst (λ (z : OpId). Keeps m (after m e) z.actor (busy_at m z.actor))
+    acts.0 (acted_moves m o q x) in
+    let rest : Keeps (after m e) (after_all (after m e) es) op.actor (busy_at (after m e) op.actor) = acts_move (after m e) op (acts.1).0 es
+    (acts.1).2 in
+    subst (λ (z : Option OpId). Keeps m (after_all (after m e) es) op.actor z) first.busy
+    (moves_on m (after m e) (after_all (after m e) es) op.actor _ _ _ _ first rest)
 acts_move m op n (Began o c ∷ es) acts = absurd acts
-acts_move m op n (Refused o c ∷ es) acts = absurd acts
+acts_move m op n (NotBegun o c ∷ es) acts = absurd acts
 acts_move m op n (Ended o a ∷ es) acts = absurd acts
 acts_move m op n (Stopped o ∷ es) acts = absurd acts
 acts_move m op n (Failed o a ∷ es) acts = absurd acts
@@ -78,7 +82,7 @@ pub end_moves : (m : WorldState) (op : OpId) (e : Event) → IsEndOf op e → Ke
 end_moves m op (Ended o a) is = subst (λ (z : OpId). Keeps m (after m (Ended o a)) z.actor None) is (put_moves m m.store o.actor _)
 end_moves m op (Failed o a) is = subst (λ (z : OpId). Keeps m (after m (Failed o a)) z.actor None) is (put_moves m m.store o.actor _)
 end_moves m op (Began o c) is = absurd is
-end_moves m op (Refused o c) is = absurd is
+end_moves m op (NotBegun o c) is = absurd is
 end_moves m op (Acted o q x) is = absurd is
 end_moves m op (Stopped o) is = absurd is
 end_moves m op Dumped is = absurd is
@@ -88,7 +92,8 @@ pub ends_move : (m : WorldState) (op : OpId) (n : ℕ) (es : List Event) → End
 ends_move m op n es e =
     let mid : WorldState = after_all m e.0 in
     let whole : after_all m es ≡ after mid e.1 = ap (after_all m) e.2 ∙ after_all-append m e.0 (e.1 ∷ []) in
-    subst (λ (z : WorldState). Keeps m z op.actor None) (sym whole) (moves_on m mid (after mid e.1) op.actor _ _ _ _ (acts_move m op n e.0 e.3) (end_moves mid op e.1 e.4))
+    subst (λ (z : WorldState). Keeps m z op.actor None) (sym whole)
+    (moves_on m mid (after mid e.1) op.actor _ _ _ _ (acts_move m op n e.0 e.3) (end_moves mid op e.1 e.4))
 
 -- its begin
 begun_moves : (m : WorldState) (op : OpId) (c : Command) → May m (Began op c)
@@ -97,19 +102,21 @@ begun_moves m op c may =
     subst (λ (i : ℕ). Moves m (after m (Began op c)) op.actor i (m.actors op.actor).stopped (Some op)) (may.0).next
     (put_moves m m.store op.actor (begun (m.actors op.actor) op c))
 
-refused_moves : (m : WorldState) (op : OpId) (c : Command) → May m (Refused op c)
-    → Moves m (after m (Refused op c)) op.actor ((m.actors op.actor).number + 1) (m.actors op.actor).stopped (Some op)
+refused_moves : (m : WorldState) (op : OpId) (c : Command) → May m (NotBegun op c)
+    → Moves m (after m (NotBegun op c)) op.actor ((m.actors op.actor).number + 1) (m.actors op.actor).stopped (Some op)
 refused_moves m op c may =
-    subst (λ (i : ℕ). Moves m (after m (Refused op c)) op.actor i (m.actors op.actor).stopped (Some op)) (may.0).next
-    (put_moves m m.store op.actor (refused (m.actors op.actor) op c))
+    subst (λ (i : ℕ). Moves m (after m (NotBegun op c)) op.actor i (m.actors op.actor).stopped (Some op)) (may.0).next
+    (put_moves m m.store op.actor (not_begun (m.actors op.actor) op c))
 
 -- its begin or its refusal
 pub begin_moves : (m : WorldState) (op : OpId) (c : Command) (e : Event) → IsBeginOf op c e → May m e
     → Moves m (after m e) op.actor ((m.actors op.actor).number + 1) (m.actors op.actor).stopped (Some op)
 begin_moves m op c (Began o d) is may =
-    subst (λ (z : OpId). Moves m (after m (Began o d)) z.actor ((m.actors z.actor).number + 1) (m.actors z.actor).stopped (Some z)) is.0 (begun_moves m o d may)
-begin_moves m op c (Refused o d) is may =
-    subst (λ (z : OpId). Moves m (after m (Refused o d)) z.actor ((m.actors z.actor).number + 1) (m.actors z.actor).stopped (Some z)) is.0 (refused_moves m o d may)
+    subst (λ (z : OpId). Moves m (after m (Began o d)) z.actor ((m.actors z.actor).number + 1) (m.actors z.actor).stopped (Some z)) is.0
+    (begun_moves m o d may)
+begin_moves m op c (NotBegun o d) is may =
+    subst (λ (z : OpId). Moves m (after m (NotBegun o d)) z.actor ((m.actors z.actor).number + 1) (m.actors z.actor).stopped (Some z)) is.0
+    (refused_moves m o d may)
 begin_moves m op c (Acted o q x) is may = absurd is
 begin_moves m op c (Ended o a) is may = absurd is
 begin_moves m op c (Stopped o) is may = absurd is

@@ -14,16 +14,17 @@ use Rattle.program_rules.specs.declared.program.Phase.TheVariants.{End}
 use Rattle.program_rules.specs.declared.program.Program.{Program}
 use Rattle.program_rules.specs.Programs.{started}
 use Rattle.world_runs.specs.declared.event.Event.{Event}
-use Rattle.world_runs.specs.declared.event.Event.TheVariants.{Began, Refused, Acted, Ended, Stopped, Failed, Dumped}
+use Rattle.world_runs.specs.declared.event.Event.TheVariants.{Began, NotBegun, Acted, Ended, Stopped, Failed, Dumped}
 use Rattle.world_runs.specs.Served.{IsServed}
 use Rattle.program_rules.specs.Lacks.{no_room}
 use Rattle.world_runs.specs.Moments.{WorldState, May, CanBegin, opening, after, after_all, RunFrom, IsWorldRun, moment, running, answered}
-use Rattle.world_runs.specs.Moments.{program_of, begun, refused}
+use Rattle.world_runs.specs.Moments.{program_of, begun, not_begun}
 use Rattle.world_runs.specs.Follows.{IsEndOf, IsBeginOf, DoesLine, Busy, FollowsFrom}
-use Rattle.world_runs.specs.Turns.{ClientTurn, Turns, all_idle, with_turn, turn_after, turns_after, TakesAct, InTurnFrom}
-use Rattle.world_runs.specs.Turns as turns
+use Rattle.world_runs.specs.ClientStates.{ClientState, ClientStates, all_idle, with_state, state_left_at, states_after, TakesAct}
+use Rattle.world_runs.specs.ClientStates.{FitStatesFrom}
+use Rattle.world_runs.specs.ClientStates as turns
 use Rattle.script_runs.proofs.Histories.{run-append}
-use Rattle.world_runs.specs.Standing.{op_of, busy_at, AtTurn}
+use Rattle.world_runs.specs.Standing.{op_of, busy_at, IsInState}
 use Rattle.world_runs.specs.Smooth.{EndsAtOnce}
 use Rattle.script_runs.proofs.Running.{AllWell, opening_well, run_well, all_well}
 use Rattle.script_runs.specs.RunningOut.{RefusesAsFull}
@@ -42,19 +43,25 @@ module _ (full : List Event → ℕ → Bool) where
   pub refuses-append : (before es fs : List Event) → RefusesAsFull full before es → RefusesAsFull full (before ++ es) fs
       → RefusesAsFull full before (es ++ fs)
   refuses-append before [] fs first then = rw append-nil at then
-  refuses-append before (Began op c ∷ es) fs first then = (first.0, refuses-append (before ++ Began op c ∷ []) es fs first.1 (refuses_on before (Began op c) es fs then))
-  refuses-append before (Refused op c ∷ es) fs first then = (first.0, refuses-append (before ++ Refused op c ∷ []) es fs first.1 (refuses_on before (Refused op c) es fs then))
+  refuses-append before (Began op c ∷ es) fs first then =
+      (first.0, refuses-append (before ++ Began op c ∷ []) es fs first.1 (refuses_on before (Began op c) es fs then))
+  refuses-append before (NotBegun op c ∷ es) fs first then =
+      (first.0, refuses-append (before ++ NotBegun op c ∷ []) es fs first.1 (refuses_on before (NotBegun op c) es fs then))
   refuses-append before (Acted op q x ∷ es) fs first then = absurd first
-  refuses-append before (Ended op a ∷ es) fs first then = refuses-append (before ++ Ended op a ∷ []) es fs first (refuses_on before (Ended op a) es fs then)
-  refuses-append before (Stopped op ∷ es) fs first then = refuses-append (before ++ Stopped op ∷ []) es fs first (refuses_on before (Stopped op) es fs then)
-  refuses-append before (Failed op a ∷ es) fs first then = (first.0, refuses-append (before ++ Failed op a ∷ []) es fs first.1 (refuses_on before (Failed op a) es fs then))
-  refuses-append before (Dumped ∷ es) fs first then = refuses-append (before ++ Dumped ∷ []) es fs first (refuses_on before Dumped es fs then)
+  refuses-append before (Ended op a ∷ es) fs first then = refuses-append (before ++ Ended op a ∷ []) es fs first
+      (refuses_on before (Ended op a) es fs then)
+  refuses-append before (Stopped op ∷ es) fs first then = refuses-append (before ++ Stopped op ∷ []) es fs first
+      (refuses_on before (Stopped op) es fs then)
+  refuses-append before (Failed op a ∷ es) fs first then =
+      (first.0, refuses-append (before ++ Failed op a ∷ []) es fs first.1 (refuses_on before (Failed op a) es fs then))
+  refuses-append before (Dumped ∷ es) fs first then = refuses-append (before ++ Dumped ∷ []) es fs first
+      (refuses_on before Dumped es fs then)
 
   -- none of them is a transaction
   pub refuses_at_once : (before : List Event) (m : WorldState) (es : List Event) → RefusesAsFull full before es → EndsAtOnce m es
   refuses_at_once before m [] r = tt
   refuses_at_once before m (Began op c ∷ es) r = (tt, refuses_at_once (before ++ Began op c ∷ []) (after m (Began op c)) es r.1)
-  refuses_at_once before m (Refused op c ∷ es) r = (tt, refuses_at_once (before ++ Refused op c ∷ []) (after m (Refused op c)) es r.1)
+  refuses_at_once before m (NotBegun op c ∷ es) r = (tt, refuses_at_once (before ++ NotBegun op c ∷ []) (after m (NotBegun op c)) es r.1)
   refuses_at_once before m (Acted op q x ∷ es) r = absurd r
   refuses_at_once before m (Ended op a ∷ es) r = (tt, refuses_at_once (before ++ Ended op a ∷ []) (after m (Ended op a)) es r)
   refuses_at_once before m (Stopped op ∷ es) r = (tt, refuses_at_once (before ++ Stopped op ∷ []) (after m (Stopped op)) es r)
@@ -96,7 +103,8 @@ module _ (full : List Event → ℕ → Bool) where
   nothing before m a busy next act does = record { events = []; next = next; run = tt; does = does; refuses = tt }
 
   -- an idle actor
-  module _ (before : List Event) (m : WorldState) (a : ℕ) (c : Command) (from : 1 ≤ a) (upto : a ≤ 64) (served : IsServed c) (stood : AtTurn turns.Idle (m.actors a))
+  module _ (before : List Event) (m : WorldState) (a : ℕ) (c : Command) (from : 1 ≤ a) (upto : a ≤ 64) (served : IsServed c)
+      (stood : IsInState turns.Idle (m.actors a))
       (few : (m.actors a).number + 1 < 2 ^ 31) where
     -- its next op
     abbrev op : OpId
@@ -105,7 +113,7 @@ module _ (full : List Event → ℕ → Bool) where
     can_begin : CanBegin (m.actors a) op
     can_begin = record { idle = stood.0; goes_on = stood.1; next = refl; few = few; is_actor = (from, omega (arith, upto)) }
 
-    -- it begins the command, or is refused
+    -- it begins the command, or is not_begun
     record Begins : Type 0 where
       begin : Event
       may : May m begin
@@ -114,7 +122,7 @@ module _ (full : List Event → ℕ → Bool) where
       runs : running (after m begin) op ≡ Some program
       refuses : RefusesAsFull full before (begin ∷ [])
 
-    -- the program of a refused op
+    -- the program of a not_begun op
     abbrev declined : Program
     declined = record { op = op; command = c; phase = End no_room }
 
@@ -124,15 +132,17 @@ module _ (full : List Event → ℕ → Bool) where
       may = (can_begin, served);
       is = (refl, refl);
       program = started op c;
-      runs = changed_there (λ st. program_of st.running op ≡ Some (started op c)) m.actors a (begun (m.actors a) op c) (runs_as_its_op (Some (started op c)) (started op c) op refl refl);
+      runs = changed_there (λ st. program_of st.running op ≡ Some (started op c)) m.actors a (begun (m.actors a) op c)
+          (runs_as_its_op (Some (started op c)) (started op c) op refl refl);
       refuses = (is, tt);
     }
     begins_as true is = record {
-      begin = Refused op c;
+      begin = NotBegun op c;
       may = (can_begin, served);
       is = (refl, refl);
       program = declined;
-      runs = changed_there (λ st. program_of st.running op ≡ Some declined) m.actors a (refused (m.actors a) op c) (runs_as_its_op (Some declined) declined op refl refl);
+      runs = changed_there (λ st. program_of st.running op ≡ Some declined) m.actors a (not_begun (m.actors a) op c)
+          (runs_as_its_op (Some declined) declined op refl refl);
       refuses = (is, tt);
     }
 
@@ -140,7 +150,13 @@ module _ (full : List Event → ℕ → Bool) where
     begins = begins_as (full before a) refl
 
     begin_can : CanDo before m a None (acts.Begin c)
-    begin_can = record { events = begins.begin ∷ []; next = Some op; run = (begins.may, tt); does = (op, begins.begin, refl, refl, begins.is, refl); refuses = begins.refuses }
+    begin_can = record {
+      events = begins.begin ∷ [];
+      next = Some op;
+      run = (begins.may, tt);
+      does = (op, begins.begin, refl, refl, begins.is, refl);
+      refuses = begins.refuses;
+    }
 
     ends : EndsNow (after m begins.begin) op
     ends = ends_now (after m begins.begin) op begins.program begins.runs
@@ -159,27 +175,46 @@ module _ (full : List Event → ℕ → Bool) where
     step_can n None is = nothing before m a None None (acts.Step n) (refl, refl)
     step_can n (Some op) is =
         let e : EndsNow m op = busy_ends m s a op is in
-        record { events = e.end ∷ []; next = None; run = (e.may, tt); does = inr (0, omega arith, ([], e.end, refl, refl, e.ends), refl); refuses = e.refuses before }
+        record {
+          events = e.end ∷ [];
+          next = None;
+          run = (e.may, tt);
+          does = inr (0, omega arith, ([], e.end, refl, refl, e.ends), refl);
+          refuses = e.refuses before;
+        }
 
     run_can : (busy : Option OpId) → busy_at m a ≡ busy → CanDo before m a busy acts.Run
     run_can None is = nothing before m a None None acts.Run (refl, refl)
     run_can (Some op) is =
         let e : EndsNow m op = busy_ends m s a op is in
-        record { events = e.end ∷ []; next = None; run = (e.may, tt); does = ((0, ([], e.end, refl, refl, e.ends)), refl); refuses = e.refuses before }
+        record {
+          events = e.end ∷ [];
+          next = None;
+          run = (e.may, tt);
+          does = ((0, ([], e.end, refl, refl, e.ends)), refl);
+          refuses = e.refuses before;
+        }
 
     stop_can : (busy : Option OpId) → busy_at m a ≡ busy → CanDo before m a busy acts.Stop
     stop_can None is = nothing before m a None None acts.Stop (refl, refl)
     stop_can (Some op) is =
         let busy : IsBusy m a op = busy_is m s a op is in
-        record { events = Stopped op ∷ []; next = None; run = ((busy.program, busy_runs m a op busy), tt); does = (refl, refl); refuses = tt }
+        record {
+          events = Stopped op ∷ [];
+          next = None;
+          run = ((busy.program, busy_runs m a op busy), tt);
+          does = (refl, refl);
+          refuses = tt;
+        }
 
     -- any line in turn
-    line_can : (turn : ClientTurn) (act : Act) → 1 ≤ a → a ≤ 64 → TakesAct turn act → AtTurn turn (m.actors a)
+    line_can : (turn : ClientState) (act : Act) → 1 ≤ a → a ≤ 64 → TakesAct turn act → IsInState turn (m.actors a)
         → (m.actors a).number + 1 < 2 ^ 31 → CanDo before m a (busy_at m a) act
     line_can turns.Idle (acts.Do c) from upto takes stood few =
         subst (λ (o : Option OpId). CanDo before m a o (acts.Do c)) (sym (ap op_of stood.0)) (do_can before m a c from upto takes stood few)
     line_can turns.Idle (acts.Begin c) from upto takes stood few =
-        subst (λ (o : Option OpId). CanDo before m a o (acts.Begin c)) (sym (ap op_of stood.0)) (begin_can before m a c from upto takes stood few)
+        subst (λ (o : Option OpId). CanDo before m a o (acts.Begin c)) (sym (ap op_of stood.0))
+        (begin_can before m a c from upto takes stood few)
     line_can turns.Idle (acts.Step n) from upto takes stood few = absurd takes
     line_can turns.Idle acts.Run from upto takes stood few = absurd takes
     line_can turns.Idle acts.Stop from upto takes stood few = absurd takes
@@ -199,25 +234,36 @@ module _ (full : List Event → ℕ → Bool) where
     pub follows : FollowsFrom (busy_at m) ls events
     pub refuses : RefusesAsFull full before events
 
-  pub lines_run_out : (ls : List Line) (before : List Event) (m : WorldState) (turns : Turns) (k : ℕ) → AllWell m → InTurnFrom turns ls
+  pub lines_run_out : (ls : List Line) (before : List Event) (m : WorldState) (turns : ClientStates) (k : ℕ) → AllWell m
+      → FitStatesFrom turns ls
       → AllStand m turns k → k + length ls < 2 ^ 31
       → CanRunOut before m ls
   lines_run_out [] before m turns k s in_turn all few = record { events = []; run = tt; follows = refl; refuses = tt }
   lines_run_out (lines.Client client a act ∷ ls) before m turns k s in_turn all few =
-      let d : CanDo before m a (busy_at m a) act = line_can before m s a (turns a) act in_turn.0 in_turn.1 in_turn.2 (all a).stands (omega (arith, (all a).began, few)) in
+      let d : CanDo before m a (busy_at m a) act = line_can before m s a (turns a) act in_turn.0 in_turn.1 in_turn.2 (all a).stands
+      (omega (arith, (all a).began, few)) in
       let n : WorldState = after_all m d.events in
       let done : IsDone m n a act d.next = line_does m s a act d.events d.next d.run d.does in
       let rest : CanRunOut (before ++ d.events) n ls =
-      lines_run_out ls (before ++ d.events) n (with_turn turns a (turn_after act)) (k + 1) (run_well d.events m s d.run) in_turn.3
+      lines_run_out ls (before ++ d.events) n (with_state turns a (state_left_at act)) (k + 1) (run_well d.events m s d.run) in_turn.3
       (stand_after m n turns k a act d.events d.next done d.does in_turn.2 all) (omega (arith, few)) in
       record {
         events = d.events ++ rest.events;
         run = run-append m d.events rest.events d.run rest.run;
-        follows = (d.events, rest.events, d.next, refl, d.does, subst (λ (b : Busy). FollowsFrom b ls rest.events) (sym (busy_after m n a act d.next done)) rest.follows);
+        follows = (
+          d.events,
+          rest.events,
+          d.next,
+          refl,
+          d.does,
+          subst (λ (b : Busy). FollowsFrom b ls rest.events)
+              (sym (busy_after m n a act d.next done)) rest.follows,
+        );
         refuses = refuses-append before d.events rest.events d.refuses rest.refuses;
       }
   lines_run_out (lines.Dump ∷ ls) before m turns k s in_turn all few =
-      let rest : CanRunOut (before ++ Dumped ∷ []) m ls = lines_run_out ls (before ++ Dumped ∷ []) m turns k s in_turn all (omega (arith, few)) in
+      let rest : CanRunOut (before ++ Dumped ∷ []) m ls = lines_run_out ls (before ++ Dumped ∷ []) m turns k s in_turn all
+      (omega (arith, few)) in
       record { events = Dumped ∷ rest.events; run = (tt, rest.run); follows = (rest.events, refl, rest.follows); refuses = rest.refuses }
   lines_run_out (lines.Store counts ∷ ls) before m turns k s in_turn all few = absurd in_turn
   lines_run_out (lines.Sweep ∷ ls) before m turns k s in_turn all few = absurd in_turn
@@ -225,10 +271,18 @@ module _ (full : List Event → ℕ → Bool) where
 
 pub each_script_can_be_run_out : EachScriptCanBeRunOut
 each_script_can_be_run_out full counts front back history in_turn few run f =
-    let all : AllStand (moment counts history) (turns_after all_idle front) (0 + length front) =
-    stand_by_turn front (opening counts) all_idle 0 history (opening_well counts) (turn_front front back all_idle in_turn) run f (opening_stand counts) in
+    let all : AllStand (moment counts history) (states_after all_idle front) (0 + length front) =
+    stand_by_turn front (opening counts) all_idle 0 history (opening_well counts) (turn_front front back all_idle in_turn) run f
+    (opening_stand counts) in
     let rest : CanRunOut full history (moment counts history) back =
-    lines_run_out full back history (moment counts history) (turns_after all_idle front) (0 + length front) (all_well counts history run) (turn_back front back all_idle in_turn) all
+    lines_run_out full back history (moment counts history) (states_after all_idle front) (0 + length front) (all_well counts history run)
+    (turn_back front back all_idle in_turn) all
     (omega (arith, few, length-append front back)) in
-    let whole : IsWorldRun counts (history ++ rest.events) = run-append (opening counts) history rest.events run rest.run in
-    (rest.events, whole, run_follows_on counts front back history rest.events whole f rest.follows, refuses_at_once full history (moment counts history) rest.events rest.refuses, rest.refuses)
+    let whole : IsWorldRun counts (history ++ rest.events) = run-append (opening counts) history rest.events run rest.run in (
+      rest.events,
+      whole,
+      run_follows_on counts front back history rest.events whole f rest.follows,
+      refuses_at_once full history
+          (moment counts history) rest.events rest.refuses,
+      rest.refuses,
+    )

@@ -18,7 +18,7 @@ use Rattle.program_rules.specs.Lacks.{no_room}
 use Rattle.program_rules.specs.Asking.{IsSmooth}
 use Rattle.program_rules.proofs.Phases.{smooth_begins, smooth_goes, smooth_hears}
 use Rattle.world_runs.specs.declared.event.Event.{Event}
-use Rattle.world_runs.specs.declared.event.Event.TheVariants.{Began, Refused, Acted, Ended, Stopped, Failed, Dumped}
+use Rattle.world_runs.specs.declared.event.Event.TheVariants.{Began, NotBegun, Acted, Ended, Stopped, Failed, Dumped}
 use Rattle.world_runs.specs.Moments.{Actor, WorldState, CanBegin, May, RunFrom, IsWorldRun, opening, after, after_all, moment, running}
 use Rattle.world_runs.specs.Moments.{asked, answered, program_of, program_ask, heard, went_on}
 use Rattle.world_runs.specs.Served.{IsServed}
@@ -61,7 +61,8 @@ asks_as m op q (Some p) e asks =
       record {
         same = r.same;
         is = subst (λ (o : OpId). (m.actors o.actor).running ≡ Some p) (sym r.same) r.is;
-        ask = subst (λ (o : OpId). phase_ask p.op (object_number p.op.actor (m.actors o.actor).serial) p.command p.phase ≡ Some q) (sym r.same) asks;
+        ask = subst (λ (o : OpId). phase_ask p.op (object_number p.op.actor (m.actors o.actor).serial) p.command p.phase ≡ Some q)
+            (sym r.same) asks;
       },
     )
 
@@ -109,7 +110,8 @@ module _ (counts : Counts) (a : ℕ) (s : Actor) (q : AnyReq) (x : AnyReply) whe
       → RunsWell a (went_on counts s q x) p
   heard_well None well p is = absurd (let k : None ≡ Some p = is in cc)
   heard_well (Some r) well p is =
-      let next : Program = record r { phase = phase_hear (request_place counts q) r.op (object_number r.op.actor s.serial) r.command r.phase x } in
+      let next : Program = record r
+      { phase = phase_hear (request_place counts q) r.op (object_number r.op.actor s.serial) r.command r.phase x } in
       let same : next ≡ p = cc in
       let old : RunsWell a s r = well r refl in
       subst (λ (z : Program). RunsWell a (went_on counts s q x) z) same record {
@@ -122,7 +124,7 @@ none_well a s none p is = absurd (let k : None ≡ Some p = sym none ∙ is in c
 
 own_well : (counts : Counts) (s : Actor) (a : ℕ) (e : Event) → is_own a e ≡ true → OwnMay s e → IsWell a s → IsWell a (own_after counts s e)
 own_well counts s a (Began op c) own may well = started_well s a op c _ (one_number op.actor a own) may.0 may.1 (inl (smooth_begins c))
-own_well counts s a (Refused op c) own may well = started_well s a op c _ (one_number op.actor a own) may.0 may.1 (inr refl)
+own_well counts s a (NotBegun op c) own may well = started_well s a op c _ (one_number op.actor a own) may.0 may.1 (inr refl)
 own_well counts s a (Acted op q x) own may well = heard_well counts a s q x s.running well
 own_well counts s a (Ended op x) own may well = none_well a _ refl
 own_well counts s a (Stopped op) own may well = none_well a _ refl
@@ -136,7 +138,8 @@ event_well m e well may a =
     let next : Actor = own_after m.counts now e in
     subst (λ (s : Actor). IsWell a s) (sym (after_actors m e a))
     (elim (is_own a e) as (λ b. is_own a e ≡ b → IsWell a (if b then next else now)) [
-      | true ↦ λ own. own_well m.counts now a e own (subst (λ (k : ℕ). OwnMay (m.actors k) e) (actor_of_own a e own) (own_from m e may).0) (well a)
+      | true ↦ λ own. own_well m.counts now a e own (subst (λ (k : ℕ). OwnMay (m.actors k) e) (actor_of_own a e own) (own_from m e may).0)
+          (well a)
       | false ↦ λ other. well a
     ] refl)
 

@@ -6,7 +6,7 @@ use Rattle.store_rules.specs.declared.any.AnyReq.{AnyReq}
 use Rattle.store_rules.specs.declared.any.AnyReply.{AnyReply}
 use Rattle.store_rules.specs.Store.{store_reply}
 use Rattle.world_runs.specs.declared.event.Event.{Event}
-use Rattle.world_runs.specs.declared.event.Event.TheVariants.{Began, Refused, Acted, Ended, Stopped, Failed, Dumped}
+use Rattle.world_runs.specs.declared.event.Event.TheVariants.{Began, NotBegun, Acted, Ended, Stopped, Failed, Dumped}
 use Rattle.world_runs.specs.Moments.{WorldState, May, after, after_all, RunFrom, asked, answered}
 use Rattle.world_runs.specs.Follows.{Acts, IsEndOf, EndsAfter, NoneFails}
 use Rattle.script_runs.proofs.AtOnce.{not_both}
@@ -53,7 +53,7 @@ Answers op n [] = ⊥
 Answers op n (Acted o q x ∷ es) = (o ≡ op) × ((rest : ℕ) × (n ≡ rest + 1) × Answers op rest es)
 Answers op n (Ended o a ∷ es) = (o ≡ op) × (es ≡ [])
 Answers op n (Began o c ∷ es) = ⊥
-Answers op n (Refused o c ∷ es) = ⊥
+Answers op n (NotBegun o c ∷ es) = ⊥
 Answers op n (Stopped o ∷ es) = ⊥
 Answers op n (Failed o a ∷ es) = ⊥
 Answers op n (Dumped ∷ es) = ⊥
@@ -62,7 +62,7 @@ end_answers : (op : OpId) (n : ℕ) (end : Event) → IsEndOf op end → NoneFai
 end_answers op n (Ended o a) is none = (is, refl)
 end_answers op n (Failed o a) is none = absurd none.0
 end_answers op n (Began o c) is none = absurd is
-end_answers op n (Refused o c) is none = absurd is
+end_answers op n (NotBegun o c) is none = absurd is
 end_answers op n (Acted o q x) is none = absurd is
 end_answers op n (Stopped o) is none = absurd is
 end_answers op n Dumped is none = absurd is
@@ -70,9 +70,10 @@ end_answers op n Dumped is none = absurd is
 acts_answer : (op : OpId) (n : ℕ) (front : List Event) (end : Event) → Acts op n front → IsEndOf op end → NoneFails (front ++ end ∷ [])
     → Answers op n (front ++ end ∷ [])
 acts_answer op n [] end acts is none = end_answers op n end is none
-acts_answer op n (Acted o q x ∷ es) end acts is none = (acts.0, ((acts.1).0, (acts.1).1, acts_answer op (acts.1).0 es end (acts.1).2 is none.1))
+acts_answer op n (Acted o q x ∷ es) end acts is none =
+    (acts.0, ((acts.1).0, (acts.1).1, acts_answer op (acts.1).0 es end (acts.1).2 is none.1))
 acts_answer op n (Began o c ∷ es) end acts is none = absurd acts
-acts_answer op n (Refused o c ∷ es) end acts is none = absurd acts
+acts_answer op n (NotBegun o c ∷ es) end acts is none = absurd acts
 acts_answer op n (Ended o a ∷ es) end acts is none = absurd acts
 acts_answer op n (Stopped o ∷ es) end acts is none = absurd acts
 acts_answer op n (Failed o a ∷ es) end acts is none = absurd acts
@@ -91,17 +92,19 @@ answers_same op m n k (Ended o a ∷ ds) (Ended u b ∷ es) one other first seco
     let same : Ended o a ≡ Ended u b = ended_same m op o u a b one.0 other.0 first.0 second.0 in
     let rest : ds ≡ es = first.1 ∙ sym second.1 in
     λ i. same i ∷ rest i
-answers_same op m n k (Acted o q x ∷ ds) (Ended u b ∷ es) one other first second = absurd (acts_or_ends m op o u q x b one.0 other.0 first.0 second.0)
-answers_same op m n k (Ended o a ∷ ds) (Acted u r y ∷ es) one other first second = absurd (acts_or_ends m op u o r y a other.0 one.0 second.0 first.0)
+answers_same op m n k (Acted o q x ∷ ds) (Ended u b ∷ es) one other first second = absurd
+    (acts_or_ends m op o u q x b one.0 other.0 first.0 second.0)
+answers_same op m n k (Ended o a ∷ ds) (Acted u r y ∷ es) one other first second = absurd
+    (acts_or_ends m op u o r y a other.0 one.0 second.0 first.0)
 answers_same op m n k ds [] one other first second = absurd second
 answers_same op m n k [] es one other first second = absurd first
 answers_same op m n k (Began o c ∷ ds) es one other first second = absurd first
-answers_same op m n k (Refused o c ∷ ds) es one other first second = absurd first
+answers_same op m n k (NotBegun o c ∷ ds) es one other first second = absurd first
 answers_same op m n k (Stopped o ∷ ds) es one other first second = absurd first
 answers_same op m n k (Failed o a ∷ ds) es one other first second = absurd first
 answers_same op m n k (Dumped ∷ ds) es one other first second = absurd first
 answers_same op m n k ds (Began o c ∷ es) one other first second = absurd second
-answers_same op m n k ds (Refused o c ∷ es) one other first second = absurd second
+answers_same op m n k ds (NotBegun o c ∷ es) one other first second = absurd second
 answers_same op m n k ds (Stopped o ∷ es) one other first second = absurd second
 answers_same op m n k ds (Failed o a ∷ es) one other first second = absurd second
 answers_same op m n k ds (Dumped ∷ es) one other first second = absurd second
@@ -117,13 +120,13 @@ acts_same op m n (Acted o q x ∷ ds) (Acted u r y ∷ es) one other first secon
 acts_same op m n [] (Acted u r y ∷ es) one other first second = absurd (omega (arith, first, (second.1).1))
 acts_same op m n (Acted o q x ∷ ds) [] one other first second = absurd (omega (arith, second, (first.1).1))
 acts_same op m n (Began o c ∷ ds) es one other first second = absurd first
-acts_same op m n (Refused o c ∷ ds) es one other first second = absurd first
+acts_same op m n (NotBegun o c ∷ ds) es one other first second = absurd first
 acts_same op m n (Ended o a ∷ ds) es one other first second = absurd first
 acts_same op m n (Stopped o ∷ ds) es one other first second = absurd first
 acts_same op m n (Failed o a ∷ ds) es one other first second = absurd first
 acts_same op m n (Dumped ∷ ds) es one other first second = absurd first
 acts_same op m n ds (Began o c ∷ es) one other first second = absurd second
-acts_same op m n ds (Refused o c ∷ es) one other first second = absurd second
+acts_same op m n ds (NotBegun o c ∷ es) one other first second = absurd second
 acts_same op m n ds (Ended o a ∷ es) one other first second = absurd second
 acts_same op m n ds (Stopped o ∷ es) one other first second = absurd second
 acts_same op m n ds (Failed o a ∷ es) one other first second = absurd second
@@ -133,21 +136,24 @@ acts_same op m n ds (Dumped ∷ es) one other first second = absurd second
 pub acts_not_ends : (op : OpId) (m : WorldState) (n k : ℕ) (ds es : List Event) → RunFrom m ds → RunFrom m es → Acts op n ds
     → answered (after_all m ds) op ≡ None → k ≤ n → Answers op k es → ⊥
 acts_not_ends op m n k [] (Acted u r y ∷ es) one other first none few second = omega (arith, first, few, (second.1).1)
-acts_not_ends op m n k [] (Ended u a ∷ es) one other first none few second = let e : None ≡ Some a = sym none ∙ (rw second.0 at other.0) in cc
-acts_not_ends op m n k (Acted o q x ∷ ds) (Ended u a ∷ es) one other first none few second = acts_or_ends m op o u q x a one.0 other.0 first.0 second.0
+acts_not_ends op m n k [] (Ended u a ∷ es) one other first none few second = let e : None ≡ Some a = sym none ∙ (rw second.0 at other.0)
+    in cc
+acts_not_ends op m n k (Acted o q x ∷ ds) (Ended u a ∷ es) one other first none few second = acts_or_ends m op o u q x a one.0 other.0
+    first.0 second.0
 acts_not_ends op m n k (Acted o q x ∷ ds) (Acted u r y ∷ es) one other first none few second =
     let same : Acted o q x ≡ Acted u r y = acted_same m op o u q r x y one.0 other.0 first.0 second.0 in
-    acts_not_ends op (after m (Acted o q x)) (first.1).0 (second.1).0 ds es one.1 (subst (λ (z : Event). RunFrom (after m z) es) (sym same) other.1) (first.1).2 none
+    acts_not_ends op (after m (Acted o q x)) (first.1).0 (second.1).0 ds es one.1
+    (subst (λ (z : Event). RunFrom (after m z) es) (sym same) other.1) (first.1).2 none
     (omega (arith, few, (first.1).1, (second.1).1)) (second.1).2
 acts_not_ends op m n k ds [] one other first none few second = second
 acts_not_ends op m n k (Began o c ∷ ds) es one other first none few second = first
-acts_not_ends op m n k (Refused o c ∷ ds) es one other first none few second = first
+acts_not_ends op m n k (NotBegun o c ∷ ds) es one other first none few second = first
 acts_not_ends op m n k (Ended o a ∷ ds) es one other first none few second = first
 acts_not_ends op m n k (Stopped o ∷ ds) es one other first none few second = first
 acts_not_ends op m n k (Failed o a ∷ ds) es one other first none few second = first
 acts_not_ends op m n k (Dumped ∷ ds) es one other first none few second = first
 acts_not_ends op m n k ds (Began o c ∷ es) one other first none few second = second
-acts_not_ends op m n k ds (Refused o c ∷ es) one other first none few second = second
+acts_not_ends op m n k ds (NotBegun o c ∷ es) one other first none few second = second
 acts_not_ends op m n k ds (Stopped o ∷ es) one other first none few second = second
 acts_not_ends op m n k ds (Failed o a ∷ es) one other first none few second = second
 acts_not_ends op m n k ds (Dumped ∷ es) one other first none few second = second

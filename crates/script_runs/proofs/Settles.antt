@@ -10,7 +10,7 @@ use Rattle.tect_ids.specs.declared.script.Line.{Line}
 use Rattle.tect_ids.specs.declared.script.Line.TheVariants as lines
 use Rattle.tect_ids.proofs.KeyTests.{num_eq_cases}
 use Rattle.world_runs.specs.declared.event.Event.{Event}
-use Rattle.world_runs.specs.declared.event.Event.TheVariants.{Began, Refused, Acted, Ended, Stopped, Failed, Dumped}
+use Rattle.world_runs.specs.declared.event.Event.TheVariants.{Began, NotBegun, Acted, Ended, Stopped, Failed, Dumped}
 use Rattle.world_runs.specs.Moments.{WorldState, after, after_all, RunFrom, answered}
 use Rattle.world_runs.specs.Follows.{Acts, IsEndOf, IsBeginOf, EndsAfter, DoesLine, Busy, with_busy, FollowsFrom}
 use Rattle.script_runs.proofs.Histories.{run-front, run-rest}
@@ -29,10 +29,12 @@ use Rattle.script_runs.proofs.AtOnce.{at_once-rest}
 swap_at : (b : Busy) (a c : ℕ) (x y : Option OpId) → c ≢ a → (d : ℕ) → with_busy (with_busy b a x) c y d ≡ with_busy (with_busy b c y) a x d
 swap_at b a c x y apart d =
     changed (λ o. o ≡ with_busy (with_busy b c y) a x d) (with_busy b a x) c y d
-    (λ same. changed (λ o. y ≡ o) (with_busy b c y) a x d (λ e. absurd (apart (sym same ∙ e))) (λ e. changed (λ o. y ≡ o) b c y d (λ z. refl) (λ z. absurd (z same))))
+    (λ same. changed (λ o. y ≡ o) (with_busy b c y) a x d (λ e. absurd (apart (sym same ∙ e)))
+    (λ e. changed (λ o. y ≡ o) b c y d (λ z. refl) (λ z. absurd (z same))))
     (λ differs. changed (λ o. with_busy b a x d ≡ o) (with_busy b c y) a x d
     (λ e. changed (λ o. o ≡ x) b a x d (λ z. refl) (λ z. absurd (z e)))
-    (λ e. changed (λ o. with_busy b a x d ≡ o) b c y d (λ z. absurd (differs z)) (λ z. changed (λ o. o ≡ b d) b a x d (λ u. absurd (e u)) (λ u. refl))))
+    (λ e. changed (λ o. with_busy b a x d ≡ o) b c y d (λ z. absurd (differs z))
+    (λ z. changed (λ o. o ≡ b d) b a x d (λ u. absurd (e u)) (λ u. refl))))
 
 swap : (b : Busy) (a c : ℕ) (x y : Option OpId) → c ≢ a → with_busy (with_busy b a x) c y ≡ with_busy (with_busy b c y) a x
 swap b a c x y apart i d = swap_at b a c x y apart d i
@@ -42,7 +44,8 @@ twice_at : (b : Busy) (a : ℕ) (x y : Option OpId) (d : ℕ) → with_busy (wit
 twice_at b a x y d =
     changed (λ o. with_busy (with_busy b a x) a y d ≡ o) b a y d
     (λ e. changed (λ o. o ≡ y) (with_busy b a x) a y d (λ z. refl) (λ z. absurd (z e)))
-    (λ e. changed (λ o. o ≡ b d) (with_busy b a x) a y d (λ z. absurd (e z)) (λ z. changed (λ o. o ≡ b d) b a x d (λ u. absurd (e u)) (λ u. refl)))
+    (λ e. changed (λ o. o ≡ b d) (with_busy b a x) a y d (λ z. absurd (e z))
+    (λ z. changed (λ o. o ≡ b d) b a x d (λ u. absurd (e u)) (λ u. refl)))
 
 twice : (b : Busy) (a : ℕ) (x y : Option OpId) → with_busy (with_busy b a x) a y ≡ with_busy b a y
 twice b a x y i d = twice_at b a x y d i
@@ -53,7 +56,7 @@ twice b a x y i d = twice_at b a x y d i
 end_no_act : (op o : OpId) (n : ℕ) (e : Event) (es : List Event) → IsEndOf op e → Acts o n (e ∷ es) → ⊥
 end_no_act op o n (Acted u q x) es end acts = end
 end_no_act op o n (Began u c) es end acts = acts
-end_no_act op o n (Refused u c) es end acts = acts
+end_no_act op o n (NotBegun u c) es end acts = acts
 end_no_act op o n (Ended u a) es end acts = acts
 end_no_act op o n (Stopped u) es end acts = acts
 end_no_act op o n (Failed u a) es end acts = acts
@@ -62,7 +65,7 @@ end_no_act op o n Dumped es end acts = acts
 -- nor a begin
 end_no_begin : (op o : OpId) (c : Command) (e : Event) → IsEndOf op e → IsBeginOf o c e → ⊥
 end_no_begin op o c (Began u d) end begins = end
-end_no_begin op o c (Refused u d) end begins = end
+end_no_begin op o c (NotBegun u d) end begins = end
 end_no_begin op o c (Acted u q x) end begins = end
 end_no_begin op o c (Ended u a) end begins = begins
 end_no_begin op o c (Stopped u) end begins = end
@@ -74,7 +77,7 @@ end_of_one : (op o : OpId) (e : Event) → IsEndOf op e → IsEndOf o e → o �
 end_of_one op o (Ended u a) one other = sym other ∙ one
 end_of_one op o (Failed u a) one other = sym other ∙ one
 end_of_one op o (Began u c) one other = absurd one
-end_of_one op o (Refused u c) one other = absurd one
+end_of_one op o (NotBegun u c) one other = absurd one
 end_of_one op o (Acted u q x) one other = absurd one
 end_of_one op o (Stopped u) one other = absurd one
 end_of_one op o Dumped one other = absurd one
@@ -133,8 +136,10 @@ module _ (n : WorldState) (s : AllWell n) (a : ℕ) (op : OpId) (is : busy_at n 
       let none : part ≡ [] = acts_none op op k e rest part later end parts d.0 in
       let zero_steps : k ≡ 0 = subst (λ (l : List Event). Acts op k l) none d.0 in
       absurd (omega (arith, some, zero_steps))
-  own_over (acts.Step k) part later rest next some parts (inr d) = record { alone = (ends_alone op op d.0 e rest part later end parts d.2).alone; idle = d.3; does = (refl, refl) }
-  own_over acts.Run part later rest next some parts d = record { alone = (ends_alone op op (d.0).0 e rest part later end parts (d.0).1).alone; idle = d.1; does = (refl, refl) }
+  own_over (acts.Step k) part later rest next some parts (inr d) = record
+      { alone = (ends_alone op op d.0 e rest part later end parts d.2).alone; idle = d.3; does = (refl, refl) }
+  own_over acts.Run part later rest next some parts d = record
+      { alone = (ends_alone op op (d.0).0 e rest part later end parts (d.0).1).alone; idle = d.1; does = (refl, refl) }
   own_over acts.Stop part later rest next some parts d = absurd (not_first op e (Stopped op) rest part later [] end parts d.0)
 
   -- the end is of no other actor's op
@@ -147,17 +152,22 @@ module _ (n : WorldState) (s : AllWell n) (a : ℕ) (op : OpId) (is : busy_at n 
   other_none : (c : ℕ) (busy : Option OpId) (act : Act) (part later rest : List Event) (next : Option OpId) → c ≢ a
       → ((o : OpId) → busy ≡ Some o → o.actor ≡ c) → e ∷ rest ≡ part ++ later
       → DoesLine c busy act part next → part ≡ []
-  other_none c None (acts.Do x) part later rest next apart own parts d = absurd (end_no_begin op (d.0).0 x (d.0).1 (not_first op e (d.0).1 rest part later (d.0).2 end parts (d.0).4) (d.0).5)
-  other_none c None (acts.Begin x) part later rest next apart own parts d = absurd (end_no_begin op d.0 x d.1 (not_first op e d.1 rest part later [] end parts d.3) d.4)
+  other_none c None (acts.Do x) part later rest next apart own parts d = absurd
+      (end_no_begin op (d.0).0 x (d.0).1 (not_first op e (d.0).1 rest part later (d.0).2 end parts (d.0).4) (d.0).5)
+  other_none c None (acts.Begin x) part later rest next apart own parts d = absurd
+      (end_no_begin op d.0 x d.1 (not_first op e d.1 rest part later [] end parts d.3) d.4)
   other_none c None (acts.Step k) part later rest next apart own parts d = d.0
   other_none c None acts.Run part later rest next apart own parts d = d.0
   other_none c None acts.Stop part later rest next apart own parts d = d.0
   other_none c (Some o) (acts.Do x) part later rest next apart own parts d = absurd d
   other_none c (Some o) (acts.Begin x) part later rest next apart own parts d = absurd d
   other_none c (Some o) (acts.Step k) part later rest next apart own parts (inl d) = acts_none op o k e rest part later end parts d.0
-  other_none c (Some o) (acts.Step k) part later rest next apart own parts (inr d) = absurd (not_others c o apart (own o refl) (ends_alone op o d.0 e rest part later end parts d.2).end)
-  other_none c (Some o) acts.Run part later rest next apart own parts d = absurd (not_others c o apart (own o refl) (ends_alone op o (d.0).0 e rest part later end parts (d.0).1).end)
-  other_none c (Some o) acts.Stop part later rest next apart own parts d = absurd (not_first op e (Stopped o) rest part later [] end parts d.0)
+  other_none c (Some o) (acts.Step k) part later rest next apart own parts (inr d) = absurd
+      (not_others c o apart (own o refl) (ends_alone op o d.0 e rest part later end parts d.2).end)
+  other_none c (Some o) acts.Run part later rest next apart own parts d = absurd
+      (not_others c o apart (own o refl) (ends_alone op o (d.0).0 e rest part later end parts (d.0).1).end)
+  other_none c (Some o) acts.Stop part later rest next apart own parts d = absurd
+      (not_first op e (Stopped o) rest part later [] end parts d.0)
 
   -- without the end the lines are followed too, from where the op is busy no more
   abbrev WithoutEnd : List Line → Type 0
@@ -171,7 +181,8 @@ module _ (n : WorldState) (s : AllWell n) (a : ℕ) (op : OpId) (is : busy_at n 
       let over : IsOver act next rest later = own_over act part later rest next some parts (rw is at does) in
       let idle : with_busy (busy_at n) a None a ≡ None = changed (λ o. o ≡ None) (busy_at n) a None a (λ z. refl) (λ z. absurd (z refl)) in
       let lines_on : FollowsFrom (with_busy (busy_at n) a None) ls rest =
-      subst (λ (l : List Event). FollowsFrom (with_busy (busy_at n) a None) ls l) (sym over.alone) (subst (λ (o : Option OpId). FollowsFrom (with_busy (busy_at n) a o) ls later) over.idle more) in (
+      subst (λ (l : List Event). FollowsFrom (with_busy (busy_at n) a None) ls l) (sym over.alone)
+      (subst (λ (o : Option OpId). FollowsFrom (with_busy (busy_at n) a o) ls later) over.idle more) in (
         [],
         rest,
         None,
@@ -184,7 +195,8 @@ module _ (n : WorldState) (s : AllWell n) (a : ℕ) (op : OpId) (is : busy_at n 
       → FollowsFrom (busy_at n) (lines.Client client c act ∷ ls) (e ∷ rest)
       → FollowsFrom (with_busy (busy_at n) a None) (lines.Client client c act ∷ ls) rest
   own_so c act ls client same some rest f =
-      subst (λ (z : ℕ). StepsOn (lines.Client client z act) → FollowsFrom (busy_at n) (lines.Client client z act ∷ ls) (e ∷ rest) → FollowsFrom (with_busy (busy_at n) a None) (lines.Client client z act ∷ ls) rest) (sym same)
+      subst (λ (z : ℕ). StepsOn (lines.Client client z act) → FollowsFrom (busy_at n) (lines.Client client z act ∷ ls) (e ∷ rest)
+      → FollowsFrom (with_busy (busy_at n) a None) (lines.Client client z act ∷ ls) rest) (sym same)
       (λ some_here f_here. own_without client act ls f_here.0 f_here.1 rest f_here.2 some_here f_here.3 f_here.4 f_here.5) some f
 
   other_without : (client : List ℕ) (c : ℕ) (act : Act) (ls : List Line) (part later rest : List Event) (next : Option OpId) → c ≢ a
@@ -196,11 +208,20 @@ module _ (n : WorldState) (s : AllWell n) (a : ℕ) (op : OpId) (is : busy_at n 
       let idle : DoesLine c (busy_at n c) act [] next = subst (λ (l : List Event). DoesLine c (busy_at n c) act l next) none does in
       let all : e ∷ rest ≡ later = parts ∙ ap (λ l. l ++ later) none in
       let same : with_busy (busy_at n) c next ≡ busy_at n = busy_after n n c act next (line_does n s c act [] next tt idle) in
-      let here : FollowsFrom (busy_at n) ls (e ∷ rest) = subst (λ (b : Busy). FollowsFrom b ls (e ∷ rest)) same (subst (λ (l : List Event). FollowsFrom (with_busy (busy_at n) c next) ls l) (sym all) more) in
+      let here : FollowsFrom (busy_at n) ls (e ∷ rest) = subst (λ (b : Busy). FollowsFrom b ls (e ∷ rest)) same
+      (subst (λ (l : List Event). FollowsFrom (with_busy (busy_at n) c next) ls l) (sym all) more) in
       let both : with_busy (with_busy (busy_at n) a None) c next ≡ with_busy (busy_at n) a None =
       swap (busy_at n) a c None next apart ∙ ap (λ (b : Busy). with_busy b a None) same in
-      let still : with_busy (busy_at n) a None c ≡ busy_at n c = changed (λ o. o ≡ busy_at n c) (busy_at n) a None c (λ z. absurd (apart z)) (λ z. refl) in
-      ([], rest, next, refl, subst (λ (o : Option OpId). DoesLine c o act [] next) (sym still) idle, subst (λ (b : Busy). FollowsFrom b ls rest) (sym both) (others rest here))
+      let still : with_busy (busy_at n) a None c ≡ busy_at n c = changed (λ o. o ≡ busy_at n c) (busy_at n) a None c (λ z. absurd (apart z))
+      (λ z. refl) in (
+        [],
+        rest,
+        next,
+        refl,
+        subst (λ (o : Option OpId). DoesLine c o act [] next) (sym still) idle,
+        subst
+            (λ (b : Busy). FollowsFrom b ls rest) (sym both) (others rest here),
+      )
 
   pub without_end : (ls : List Line) → AllStepOn ls → WithoutEnd ls
   without_end [] some rest f = absurd (let k : e ∷ rest ≡ [] = f in cc)
@@ -226,7 +247,8 @@ IsSettled n _ _ = Unit {0}
 abbrev pub Settles : WorldState → List Line → List Event → Type 0
 Settles m [] es = es ≡ []
 Settles m (lines.Client client a act ∷ ls) es =
-    (part : List Event) × (rest : List Event) × (next : Option OpId) × (es ≡ part ++ rest) × DoesLine a (busy_at m a) act part next × IsSettled (after_all m part) act next
+    (part : List Event) × (rest : List Event) × (next : Option OpId) × (es ≡ part ++ rest) × DoesLine a (busy_at m a) act part next
+    × IsSettled (after_all m part) act next
     × Settles (after_all m part) ls rest
 Settles m (lines.Dump ∷ ls) es = (rest : List Event) × (es ≡ Dumped ∷ rest) × Settles m ls rest
 Settles m (lines.Store counts ∷ ls) es = ⊥
@@ -258,7 +280,7 @@ settled_or n acts.Stop next = inl tt
 some_acts : (op : OpId) (n : ℕ) (e : Event) (es : List Event) → Acts op n (e ∷ es) → 1 ≤ n
 some_acts op n (Acted o q x) es acts = omega (arith, (acts.1).1)
 some_acts op n (Began o c) es acts = absurd acts
-some_acts op n (Refused o c) es acts = absurd acts
+some_acts op n (NotBegun o c) es acts = absurd acts
 some_acts op n (Ended o a) es acts = absurd acts
 some_acts op n (Stopped o) es acts = absurd acts
 some_acts op n (Failed o a) es acts = absurd acts
@@ -269,11 +291,12 @@ end_follows_acts : (m : WorldState) (op : OpId) (n : ℕ) (es rest : List Event)
     → EndsAtOnce m (es ++ rest) → answered (after_all m es) op ≡ Some a → EndIsNext op rest
 end_follows_acts m op n [] rest a some acts all says = absurd (omega (arith, some, acts))
 end_follows_acts m op n (Acted o q x ∷ []) rest a some acts all says =
-    subst (λ (z : OpId). EndIsNext z rest) acts.0 (all.0 a (subst (λ (z : OpId). answered (after m (Acted o q x)) z ≡ Some a) (sym acts.0) says))
+    subst (λ (z : OpId). EndIsNext z rest) acts.0
+    (all.0 a (subst (λ (z : OpId). answered (after m (Acted o q x)) z ≡ Some a) (sym acts.0) says))
 end_follows_acts m op n (Acted o q x ∷ d ∷ ds) rest a some acts all says =
     end_follows_acts (after m (Acted o q x)) op (acts.1).0 (d ∷ ds) rest a (some_acts op (acts.1).0 d ds (acts.1).2) (acts.1).2 all.1 says
 end_follows_acts m op n (Began o c ∷ es) rest a some acts all says = absurd acts
-end_follows_acts m op n (Refused o c ∷ es) rest a some acts all says = absurd acts
+end_follows_acts m op n (NotBegun o c ∷ es) rest a some acts all says = absurd acts
 end_follows_acts m op n (Ended o b ∷ es) rest a some acts all says = absurd acts
 end_follows_acts m op n (Stopped o ∷ es) rest a some acts all says = absurd acts
 end_follows_acts m op n (Failed o b ∷ es) rest a some acts all says = absurd acts
@@ -291,9 +314,11 @@ step_acts a (Some o) k part op (inr d) = absurd (let z : Some op ≡ None = d.3 
 
 -- all lines of a list can be settled
 abbrev CanSettle : List Line → Type 0
-CanSettle ls = (m : WorldState) (es : List Event) → AllWell m → RunFrom m es → EndsAtOnce m es → FollowsFrom (busy_at m) ls es → Settles m ls es
+CanSettle ls = (m : WorldState) (es : List Event) → AllWell m → RunFrom m es → EndsAtOnce m es → FollowsFrom (busy_at m) ls es
+    → Settles m ls es
 
-module _ (client : List ℕ) (ls : List Line) (some : AllStepOn ls) (others : CanSettle ls) (m : WorldState) (s : AllWell m) (a k : ℕ) (steps : 1 ≤ k) where
+module _ (client : List ℕ) (ls : List Line) (some : AllStepOn ls) (others : CanSettle ls) (m : WorldState) (s : AllWell m) (a k : ℕ)
+    (steps : 1 ≤ k) where
   -- the end that comes next is the step's
   takes_end : (part rest : List Event) (op : OpId) (x : Answer) → RunFrom m (part ++ rest) → EndsAtOnce m (part ++ rest)
       → DoesLine a (busy_at m a) (acts.Step k) part (Some op)
@@ -316,18 +341,29 @@ module _ (client : List ℕ) (ls : List Line) (some : AllStepOn ls) (others : Ca
       let on : FollowsFrom (busy_at (after_all m whole)) ls rest =
       subst (λ (b : Busy). FollowsFrom b ls rest) idle (without_end n there a op busy e next ls some rest more) in
       let settled : Settles (after_all m whole) ls rest =
-      others (after_all m whole) rest (run_well whole m s (run-front m whole rest runs)) (run-rest m whole rest runs) (at_once-rest m whole rest at_once) on in
-      (whole, rest, None, parts, subst (λ (o : Option OpId). DoesLine a o (acts.Step k) whole None) (sym did.0) (inr (k, omega arith, (part, e, refl, did.1, next), refl)), tt, settled)
+      others (after_all m whole) rest (run_well whole m s (run-front m whole rest runs)) (run-rest m whole rest runs)
+      (at_once-rest m whole rest at_once) on in (
+        whole,
+        rest,
+        None,
+        parts,
+        subst (λ (o : Option OpId). DoesLine a o (acts.Step k) whole None) (sym did.0)
+            (inr (k, omega arith, (part, e, refl, did.1, next), refl)),
+        tt,
+        settled,
+      )
 
   leaves_end : (part rest : List Event) (op : OpId) (x : Answer) → RunFrom m (part ++ rest) → EndsAtOnce m (part ++ rest)
       → DoesLine a (busy_at m a) (acts.Step k) part (Some op)
       → answered (after_all m part) op ≡ Some x → FollowsFrom (busy_at (after_all m part)) ls rest → busy_at (after_all m part) a ≡ Some op
       → Settles m (lines.Client client a (acts.Step k) ∷ ls) (part ++ rest)
   leaves_end part rest op x run all does says more busy =
-      takes_end part rest op x run all does more busy (end_follows_acts m op k part rest x steps (step_acts a (busy_at m a) k part op does).1 all says)
+      takes_end part rest op x run all does more busy
+      (end_follows_acts m op k part rest x steps (step_acts a (busy_at m a) k part op does).1 all says)
 
 -- a line
-module _ (client : List ℕ) (a : ℕ) (act : Act) (ls : List Line) (some : AllStepOn (lines.Client client a act ∷ ls)) (others : CanSettle ls) (m : WorldState) (s : AllWell m) where
+module _ (client : List ℕ) (a : ℕ) (act : Act) (ls : List Line) (some : AllStepOn (lines.Client client a act ∷ ls)) (others : CanSettle ls)
+    (m : WorldState) (s : AllWell m) where
   line_settles : (part rest : List Event) (next : Option OpId) → RunFrom m (part ++ rest) → EndsAtOnce m (part ++ rest)
       → DoesLine a (busy_at m a) act part next
       → FollowsFrom (with_busy (busy_at m) a next) ls rest → Settles m (lines.Client client a act ∷ ls) (part ++ rest)
@@ -337,11 +373,21 @@ module _ (client : List ℕ) (a : ℕ) (act : Act) (ls : List Line) (some : AllS
       let done : IsDone m n a act next = line_does m s a act part next mine does in
       let on : FollowsFrom (busy_at n) ls rest = subst (λ (b : Busy). FollowsFrom b ls rest) (busy_after m n a act next done) more in
       elim (settled_or n act next) [
-        | inl settled ↦ (part, rest, next, refl, does, settled, others n rest (run_well part m s mine) (run-rest m part rest run) (at_once-rest m part rest all) on)
+        | inl settled ↦ (
+          part,
+          rest,
+          next,
+          refl,
+          does,
+          settled,
+          others n rest (run_well part m s mine) (run-rest m part rest run)
+              (at_once-rest m part rest all) on,
+        )
         | inr l ↦
             let steps : 1 ≤ l.count = subst (λ (z : Act). StepsOn (lines.Client client a z)) l.step some.0 in
             let step : DoesLine a (busy_at m a) (acts.Step l.count) part (Some l.op) =
-            subst (λ (z : Act). DoesLine a (busy_at m a) z part (Some l.op)) l.step (subst (λ (o : Option OpId). DoesLine a (busy_at m a) act part o) l.goes_on does) in
+            subst (λ (z : Act). DoesLine a (busy_at m a) z part (Some l.op)) l.step
+            (subst (λ (o : Option OpId). DoesLine a (busy_at m a) act part o) l.goes_on does) in
             subst (λ (z : Act). Settles m (lines.Client client a z ∷ ls) (part ++ rest)) (sym l.step)
             (leaves_end client ls some.1 others m s a l.count steps part rest l.op l.answer run all step l.says on (done.busy ∙ l.goes_on))
       ]

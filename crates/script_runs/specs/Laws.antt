@@ -5,8 +5,8 @@ use Rattle.tect_ids.specs.declared.script.Line.{Line}
 use Rattle.world_runs.specs.declared.event.Event.{Event}
 use Rattle.world_runs.specs.Moments.{Actor, opening, IsWorldRun, moment}
 use Rattle.world_runs.specs.Follows.{FollowsFrom, Follows, NoneFails}
-use Rattle.world_runs.specs.Turns.{ClientTurn, all_idle, turns_after, InTurn}
-use Rattle.world_runs.specs.Standing.{busy_at, AtTurn}
+use Rattle.world_runs.specs.ClientStates.{ClientState, all_idle, states_after, FitStates}
+use Rattle.world_runs.specs.Standing.{busy_at, IsInState}
 use Rattle.world_runs.specs.Smooth.{EndsAtOnce, IsSmoothRun, AllStepOn, NoneSteps}
 use Rattle.script_runs.specs.RunningOut.{RefusesAsFull}
 
@@ -17,22 +17,22 @@ RunFollowsOn =
     → FollowsFrom (busy_at (moment counts history)) back more → Follows (front ++ back) (history ++ more)
 
 -- the actor stands as its turn tells, and began at most one command for each line
-pub record Stands (turn : ClientTurn) (lines : ℕ) (a : Actor) : Type 0 where
-  pub stands : AtTurn turn a
+pub record Stands (turn : ClientState) (lines : ℕ) (a : Actor) : Type 0 where
+  pub stands : IsInState turn a
   pub began : a.number ≤ lines
 
 -- so does each actor after a run that follows a script in turn
-abbrev pub StandsByTurn : Type 0
-StandsByTurn =
-    (counts : Counts) (lines : List Line) (history : List Event) → InTurn lines → IsWorldRun counts history → Follows lines history
-    → (actor : ℕ) → Stands (turns_after all_idle lines actor) (length lines) ((moment counts history).actors actor)
+abbrev pub StandsByState : Type 0
+StandsByState =
+    (counts : Counts) (lines : List Line) (history : List Event) → FitStates lines → IsWorldRun counts history → Follows lines history
+    → (actor : ℕ) → Stands (states_after all_idle lines actor) (length lines) ((moment counts history).actors actor)
 
 -- A run that follows the front of a script in turn can be brought to the script's end without a further transaction: each
 -- command that is still to end fails for want of memory, or ends with the answer that it has; and a begin is refused exactly
 -- where this test of the events so far and the actor says so.
 abbrev pub EachScriptCanBeRunOut : Type 0
 EachScriptCanBeRunOut =
-    (full : List Event → ℕ → Bool) (counts : Counts) (front back : List Line) (history : List Event) → InTurn (front ++ back)
+    (full : List Event → ℕ → Bool) (counts : Counts) (front back : List Line) (history : List Event) → FitStates (front ++ back)
     → length (front ++ back) < 2 ^ 31 → IsWorldRun counts history → Follows front history
     → (more : List Event) × IsWorldRun counts (history ++ more) × Follows (front ++ back) (history ++ more)
     × EndsAtOnce (moment counts history) more
@@ -42,7 +42,7 @@ EachScriptCanBeRunOut =
 -- follow the front, and each command end at once.
 abbrev pub EachCutLineCanBeRunOut : Type 0
 EachCutLineCanBeRunOut =
-    (full : List Event → ℕ → Bool) (counts : Counts) (front back : List Line) (history rest : List Event) → InTurn (front ++ back)
+    (full : List Event → ℕ → Bool) (counts : Counts) (front back : List Line) (history rest : List Event) → FitStates (front ++ back)
     → length (front ++ back) < 2 ^ 31 → IsWorldRun counts history → Follows front (history ++ rest)
     → EndsAtOnce (opening counts) (history ++ rest)
     → (more : List Event) × IsWorldRun counts (history ++ more) × Follows (front ++ back) (history ++ more)

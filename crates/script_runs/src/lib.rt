@@ -3,7 +3,7 @@
 //! keeps. Nothing here is called: each function's contract is a law.
 #![tactic(auto)]
 
-ghost use Rattle.script_runs.specs.Laws.{RunFollowsOn, StandsByTurn, EachScriptCanBeRunOut, EachCutLineCanBeRunOut, ScriptFixesRun};
+ghost use Rattle.script_runs.specs.Laws.{RunFollowsOn, StandsByState, EachScriptCanBeRunOut, EachCutLineCanBeRunOut, ScriptFixesRun};
 ghost use Rattle.script_runs.specs.Laws.{ScriptWithoutStepsFixesRun};
 
 /// Where a run of the world follows some lines, and what comes after follows further lines from the ops that are then busy,
@@ -15,8 +15,8 @@ pub fn run_follows_on()
 /// Where a run of the world follows a script in turn, each actor stands as its turn tells: an idle one has no running command
 /// and may go on, a busy one may go on, and one that is gone has no running command. None began more commands than the script
 /// has lines.
-pub fn stands_by_turn()
-    ensures { StandsByTurn }
+pub fn stands_by_state()
+    ensures { StandsByState }
 {}
 
 /// A run of the world that follows the front of a script in turn can be brought to the end of the whole script without a

@@ -1,35 +1,6 @@
 -- Bytes and their words in hexadecimal.
-use Rattle.std.proofs.Common.{
-  ◌≡◌,
-  ℕ,
-  ◌+◌,
-  ◌*◌,
-  ◌/◌,
-  ◌%◌,
-  ◌-◌,
-  ◌<◌,
-  ◌≤◌,
-  Bool,
-  true,
-  false,
-  ◌&&◌,
-  ◌||◌,
-  nat_le,
-  nat_lt,
-  List,
-  [],
-  ◌∷◌,
-  length,
-  refl,
-  sym,
-  ap,
-  ◌∙◌,
-  arith,
-  rules,
-  tests,
-  inl,
-  inr,
-}
+use Rattle.std.proofs.Common.{◌≡◌, ℕ, ◌+◌, ◌*◌, ◌/◌, ◌%◌, ◌-◌, ◌<◌, ◌≤◌, Bool, true, false, ◌&&◌, ◌||◌, nat_le, nat_lt, List, [], ◌∷◌}
+use Rattle.std.proofs.Common.{length, refl, sym, ap, ◌∙◌, arith, rules, tests, inl, inr}
 use Rattle.std.specs.List.{AllByRecursion}
 use Rattle.script_words.specs.WordText.{hex_digit, hex_text}
 use Rattle.script_words.specs.WordForm.{is_hex_digit, hex_value, are_hex_pairs, hex_bytes}

@@ -1,30 +1,6 @@
 -- The form of each kind of word, and what it says.
-use Rattle.std.specs.Prelude.{
-  ℕ,
-  ◌+◌,
-  ◌-◌,
-  ◌*◌,
-  ◌==◌,
-  nat_le,
-  nat_lt,
-  Bool,
-  true,
-  false,
-  not,
-  ◌&&◌,
-  ◌||◌,
-  List,
-  [],
-  ◌∷◌,
-  length,
-  take,
-  if◌then◌else◌,
-  codes,
-  Option,
-  Some,
-  None,
-  slice_index,
-}
+use Rattle.std.specs.Prelude.{ℕ, ◌+◌, ◌-◌, ◌*◌, ◌==◌, nat_le, nat_lt, Bool, true, false, not, ◌&&◌, ◌||◌, List, [], ◌∷◌, length, take}
+use Rattle.std.specs.Prelude.{if◌then◌else◌, codes, Option, Some, None, slice_index}
 use Rattle.std.specs.List.{list_all}
 use Rattle.std.specs.Str.{bytes_eq}
 use Rattle.tect_ids.specs.declared.ids.Layer.{Layer}

@@ -7,7 +7,7 @@ use Rattle.store_rules.specs.declared.any.AnyReq.{AnyReq}
 use Rattle.store_rules.specs.Store.{store_reply}
 use Rattle.program_rules.specs.declared.program.Program.{Program}
 use Rattle.world_runs.specs.declared.event.Event.{Event}
-use Rattle.world_runs.specs.declared.event.Event.TheVariants.{Began, Refused, Acted, Ended, Stopped, Failed, Dumped}
+use Rattle.world_runs.specs.declared.event.Event.TheVariants.{Began, NotBegun, Acted, Ended, Stopped, Failed, Dumped}
 use Rattle.world_runs.specs.Moments.{WorldState, RunFrom, after, running, asked, answered}
 use Rattle.world_runs.specs.Follows.{Acts, EndsAfter, NoneFails}
 use Rattle.world_runs.specs.Report.{is_act_of}
@@ -27,7 +27,8 @@ falls : (m : WorldState) (op : OpId) (q : AnyReq) (p : Program) (g : GoesOn m (A
     → left g.next + 1 ≤ left p
 falls m op q p g =
     let e : Event = Acted op q (store_reply m.store q) in
-    let one : 1 ≡ one_if (is_look_of op e) + one_if (is_other_of op e) = let own : one_if (is_act_of op e) ≡ 1 = rw (same_op op op refl) refl in sym own ∙ event_splits e op in
+    let one : 1 ≡ one_if (is_look_of op e) + one_if (is_other_of op e) = let own : one_if (is_act_of op e) ≡ 1 = rw (same_op op op refl)
+    refl in sym own ∙ event_splits e op in
     omega (arith, one, g.looks, g.others)
 
 -- the op's number is one that its actor came to
@@ -84,7 +85,9 @@ ends_within (suc bound) m s op p is few =
       | inl ask ↦
           let e : Event = Acted op ask.0 (store_reply m.store ask.0) in
           let on : GoesOn m e op p = goes_on m s op p is ask.0 ask.1 in
-          act_then m op ask.0 ask.1 (ends_within bound (after m e) (event_well m e s (ask.1, refl)) op on.next (on.runs).is (omega (arith, falls m op ask.0 p on, few)))
+          act_then m op ask.0 ask.1
+          (ends_within bound (after m e) (event_well m e s (ask.1, refl)) op on.next (on.runs).is
+          (omega (arith, falls m op ask.0 p on, few)))
       | inr say ↦ end_now m op say.0 say.1
     ]
 
@@ -105,9 +108,10 @@ end_none_fails m op e = none_fails-append e.front (Ended op e.answer ∷ []) (ac
 pub acts_take : (op : OpId) (n count : ℕ) (es : List Event) → n ≤ count → Acts op count es → Acts op n (take n es)
 acts_take op zero count es few acts = refl
 acts_take op (suc n) count [] few acts = absurd (omega (arith, few, acts))
-acts_take op (suc n) count (Acted o q x ∷ es) few acts = (acts.0, (n, omega arith, acts_take op n (acts.1).0 es (omega (arith, few, (acts.1).1)) (acts.1).2))
+acts_take op (suc n) count (Acted o q x ∷ es) few acts =
+    (acts.0, (n, omega arith, acts_take op n (acts.1).0 es (omega (arith, few, (acts.1).1)) (acts.1).2))
 acts_take op (suc n) count (Began o c ∷ es) few acts = absurd acts
-acts_take op (suc n) count (Refused o c ∷ es) few acts = absurd acts
+acts_take op (suc n) count (NotBegun o c ∷ es) few acts = absurd acts
 acts_take op (suc n) count (Ended o a ∷ es) few acts = absurd acts
 acts_take op (suc n) count (Stopped o ∷ es) few acts = absurd acts
 acts_take op (suc n) count (Failed o a ∷ es) few acts = absurd acts

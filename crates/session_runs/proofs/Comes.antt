@@ -19,7 +19,7 @@ use Rattle.tect_ids.specs.declared.answer.Answer.TheVariants as answers
 use Rattle.tect_ids.specs.Keys.{op_eq}
 use Rattle.tect_ids.proofs.KeyTests.{op_eq_cases, num_eq_cases}
 use Rattle.store_rules.specs.declared.names.Replaced.{Replaced}
-use Rattle.store_rules.specs.declared.names.Entry.{Entry}
+use Rattle.store_rules.specs.declared.names.DirectoryEntry.{DirectoryEntry}
 use Rattle.store_rules.specs.declared.names.NameReq.TheVariants as names
 use Rattle.store_rules.specs.declared.files.FileReq.TheVariants as files
 use Rattle.store_rules.specs.declared.any.AnyReq.{AnyReq}
@@ -31,7 +31,7 @@ use Rattle.store_rules.specs.Views.{is_made, as_found, as_bound}
 use Rattle.store_rules.specs.Store.{store_reply}
 use Rattle.tree_model.specs.declared.step.TreeStep.{TreeStep}
 use Rattle.tree_model.specs.declared.step.TreeStep.TheVariants as step
-use Rattle.tree_model.specs.declared.step.Shown.TheVariants as shown
+use Rattle.tree_model.specs.declared.step.StepValue.TheVariants as shown
 use Rattle.tree_model.specs.declared.step.Refusal.{Refusal}
 use Rattle.tree_model.specs.declared.step.TreeReply.{TreeReply}
 use Rattle.tree_model.specs.declared.step.TreeReply.TheVariants.{Ok, Refused}
@@ -42,7 +42,7 @@ use Rattle.program_rules.specs.declared.program.Program.{Program}
 use Rattle.program_rules.specs.Programs.{object_number, own_hold, phase_ask, phase_hear, phase_answer, release_ask, then_release}
 use Rattle.program_rules.specs.Programs.{bound_heard, looked, refusal}
 use Rattle.world_runs.specs.declared.event.Event.{Event}
-use Rattle.world_runs.specs.declared.event.Event.TheVariants.{Began, Refused as declined, Acted, Ended, Stopped, Failed, Dumped}
+use Rattle.world_runs.specs.declared.event.Event.TheVariants.{Began, NotBegun as declined, Acted, Ended, Stopped, Failed, Dumped}
 use Rattle.world_runs.specs.Moments.{WorldState, May, after, after_all, RunFrom, running, asked, answered, next_serial}
 use Rattle.claim_words.specs.TreeSteps.{told_of, told_as, tree_steps, tree_step, says, tree_after, IsTreeRun}
 use Rattle.claim_words.specs.Points.{refused_answer, done_answer}
@@ -71,7 +71,8 @@ pub record Comes (m : WorldState) (t : Tree) (op : OpId) (front : List Event) (n
 
 -- so it is of all transactions that may come
 abbrev pub Goes : WorldState → Tree → OpId → Played → ℕ → Type 0
-Goes m t op p left = (front : List Event) (n : ℕ) (a : Answer) → Acts op n front → RunFrom m (front ++ Ended op a ∷ []) → Comes m t op front n a p left
+Goes m t op p left = (front : List Event) (n : ℕ) (a : Answer) → Acts op n front → RunFrom m (front ++ Ended op a ∷ [])
+    → Comes m t op front n a p left
 
 -- the program that stands so
 abbrev program_at : OpId → Command → Phase → Program
@@ -121,7 +122,8 @@ module _ (m : WorldState) (t : Tree) (op : OpId) (c : Command) (own : ℕ) (at :
     }
 
     pub step_said : (s : TreeStep) → tree_step q x ≡ Some s → says x ≡ tree_reply t s
-    step_said s is = let run : IsTreeRun t (told_as op (tree_step q x) (says x)) = (event_tracked m t did st.tracks may_now).1 in (rw is at run).0
+    step_said s is = let run : IsTreeRun t (told_as op (tree_step q x) (says x)) = (event_tracked m t did st.tracks may_now).1
+        in (rw is at run).0
 
     -- one transaction, and then the others
     step_here : (p : Played) (left n rest : ℕ) (a : Answer) (es : List Event) → n ≡ rest + 1
@@ -156,7 +158,8 @@ module _ (m : WorldState) (t : Tree) (op : OpId) (c : Command) (own : ℕ) (at :
 pub stands_as : (m : WorldState) (t u : Tree) (op : OpId) (c : Command) (own new : ℕ) (at to : Phase) → StandsAt m t op c own at → t ≡ u
     → own ≡ new → at ≡ to → StandsAt m u op c new to
 stands_as m t u op c own new at to st tree serial phase =
-    subst (λ (v : Tree). StandsAt m v op c new to) tree (subst (λ (i : ℕ). StandsAt m t op c i to) serial (subst (λ (z : Phase). StandsAt m t op c own z) phase st))
+    subst (λ (v : Tree). StandsAt m v op c new to) tree
+    (subst (λ (i : ℕ). StandsAt m t op c i to) serial (subst (λ (z : Phase). StandsAt m t op c own z) phase st))
 
 -- a command that has its answer
 end_goes : (m : WorldState) (t : Tree) (op : OpId) (c : Command) (own : ℕ) (b : Answer) (p : Played) → StandsAt m t op c own (End b)
@@ -177,11 +180,13 @@ end_goes m t op c own b p st tree serial answer (Failed o d ∷ es) n a acts run
 end_goes m t op c own b p st tree serial answer (Dumped ∷ es) n a acts run = absurd acts
 
 -- a release is no step
-module _ (m : WorldState) (t : Tree) (op : OpId) (c : Command) (own : ℕ) (b : Answer) (p : Played) (tree : t ≡ p.tree) (serial : own ≡ p.serial) (answer : b ≡ p.answer) where
+module _ (m : WorldState) (t : Tree) (op : OpId) (c : Command) (own : ℕ) (b : Answer) (p : Played) (tree : t ≡ p.tree)
+    (serial : own ≡ p.serial) (answer : b ≡ p.answer) where
   release_goes : (n : Node) (h : Hold) → StandsAt m t op c own (Release n h None b) → Goes m t op p 1
   release_goes n h st =
       let q : AnyReq = release_ask n h in
-      let next : StandsAt (after m (Acted op q (store_reply m.store q))) (tree_after t (told_of (Acted op q (store_reply m.store q)))) op c (next_serial own (store_reply m.store q)) (End b) =
+      let next : StandsAt (after m (Acted op q (store_reply m.store q))) (tree_after t (told_of (Acted op q (store_reply m.store q)))) op c
+      (next_serial own (store_reply m.store q)) (End b) =
       next_stands m t op c own (Release n h None b) st q refl in
       step_goes m t op c own (Release n h None b) st q refl p 0 refl
       (end_goes _ _ op c _ b p next (no_step n h ∙ tree) (rw (release_same m.store t.made op n h).1 serial) answer)
@@ -212,10 +217,13 @@ module _ (m : WorldState) (t : Tree) (op : OpId) (c : Command) (own : ℕ) where
       let asks : phase_ask op (object_number op.actor own) c (Walk d []) ≡ Some q = rw is refl in
       let x : AnyReply = store_reply m.store q in
       let said : says x ≡ tree_reply t (step.Look k) = step_said m t op c own (Walk d []) st q asks (step.Look k) refl in
-      let hears : phase_hear (request_place m.counts q) op (object_number op.actor own) c (Walk d []) x ≡ looked (request_place m.counts q) k x (as_found x) = rw is refl in
+      let hears : phase_hear (request_place m.counts q) op (object_number op.actor own) c (Walk d []) x ≡ looked (request_place m.counts q)
+      k x (as_found x) = rw is refl in
       let next : StandsAt (after m (Acted op q x)) t op c own (looked (request_place m.counts q) k x (as_found x)) =
-      stands_as _ _ t op c _ own _ _ (next_stands m t op c own (Walk d []) st q asks) (unread (says x)) (rw (look_same m.store t.made op k).1 refl) hears in
-      subst (λ (u : Tree). Goes (after m (Acted op q x)) u op (session.looked t own k) 0 → Goes m t op (session.looked t own k) 1) (unread (says x))
+      stands_as _ _ t op c _ own _ _ (next_stands m t op c own (Walk d []) st q asks) (unread (says x))
+      (rw (look_same m.store t.made op k).1 refl) hears in
+      subst (λ (u : Tree). Goes (after m (Acted op q x)) u op (session.looked t own k) 0 → Goes m t op (session.looked t own k) 1)
+      (unread (says x))
       (step_goes m t op c own (Walk d []) st q asks (session.looked t own k) 0 refl)
       (ends k (request_place m.counts q) (as_found x) refl said next)
     where
@@ -225,8 +233,10 @@ module _ (m : WorldState) (t : Tree) (op : OpId) (c : Command) (own : ℕ) where
 
       ends : (k : Key) (place : Place) (o : Option Node) → as_found (store_reply m.store (any.Name (names.Look k))) ≡ o
           → says (store_reply m.store (any.Name (names.Look k))) ≡ tree_reply t (step.Look k)
-          → StandsAt (after m (Acted op (any.Name (names.Look k)) (store_reply m.store (any.Name (names.Look k))))) t op c own (looked place k (store_reply m.store (any.Name (names.Look k))) o)
-          → Goes (after m (Acted op (any.Name (names.Look k)) (store_reply m.store (any.Name (names.Look k))))) t op (session.looked t own k) 0
+          → StandsAt (after m (Acted op (any.Name (names.Look k)) (store_reply m.store (any.Name (names.Look k))))) t op c own
+          (looked place k (store_reply m.store (any.Name (names.Look k))) o)
+          → Goes (after m (Acted op (any.Name (names.Look k)) (store_reply m.store (any.Name (names.Look k))))) t op
+          (session.looked t own k) 0
       ends k place None e said next =
           let no : RefusesSo place k (store_reply m.store (any.Name (names.Look k))) = look_none m.store place k e in
           end_goes _ t op c own _ (session.looked t own k) next refl refl (no.1 ∙ refused_said k _ _ (sym said ∙ no.0))
@@ -243,7 +253,7 @@ releases_done : (now : Option Node) → releases now (Ok shown.Done) ≡ (if is_
 releases_done None = refl
 releases_done (Some n) = refl
 
-seen_there : (o : Option Entry) → is_some (option_map shown_entry o) ≡ is_some o
+seen_there : (o : Option DirectoryEntry) → is_some (option_map shown_entry o) ≡ is_some o
 seen_there None = refl
 seen_there (Some e) = refl
 
@@ -254,7 +264,8 @@ not_said : (k : Key) (a : Answer) (r : TreeReply) (why : Refusal) → r ≡ Refu
 not_said k a r why e = rw e refl
 
 -- after the bind of a file
-module _ (m : WorldState) (t : Tree) (op : OpId) (c : Command) (own : ℕ) (k : Key) (f : FileId) (st : StandsAt m t op c own (Bind k (nodes.File f) over.File)) where
+module _ (m : WorldState) (t : Tree) (op : OpId) (c : Command) (own : ℕ) (k : Key) (f : FileId)
+    (st : StandsAt m t op c own (Bind k (nodes.File f) over.File)) where
   -- the file as a node
   abbrev n : Node
   n = nodes.File f
@@ -292,17 +303,21 @@ module _ (m : WorldState) (t : Tree) (op : OpId) (c : Command) (own : ℕ) (k : 
   -- whether a file was replaced
   there : (old : Option Replaced) → as_bound y ≡ Some old → is_some old ≡ is_some (get t.entries k)
   there old e =
-      let seen : get t.entries k ≡ option_map shown_entry (get (m.store).names.entries k) = ap (λ (v : Tree). get v.entries k) (sym st.tracks.shown) ∙ get-map_values shown_entry (m.store).names.entries k in
-      bind_replaces m.store (request_place m.counts q) k n (own_hold op) over.File old e ∙ sym (ap is_some seen ∙ seen_there (get (m.store).names.entries k))
+      let seen : get t.entries k ≡ option_map shown_entry (get (m.store).names.entries k) = ap (λ (v : Tree). get v.entries k)
+      (sym st.tracks.shown) ∙ get-map_values shown_entry (m.store).names.entries k in
+      bind_replaces m.store (request_place m.counts q) k n (own_hold op) over.File old e ∙ sym
+      (ap is_some seen ∙ seen_there (get (m.store).names.entries k))
 
   bound_goes : (place : Place) (o : Option (Option Replaced)) → as_bound y ≡ o → StandsAt mid u op c own (bound_heard place op k n y o)
       → Goes mid u op p (releases (get t.entries k) (tree_reply t bind))
   bound_goes place None e next =
       let no : RefusesSo place k y = bind_none m.store place k n (own_hold op) over.File e in
       let said : tree_reply t bind ≡ Refused (why_of (says y)) = sym bind_said ∙ no.0 in
-      let one : releases (get t.entries k) (tree_reply t bind) ≡ 1 = ap (releases (get t.entries k)) said ∙ releases_refused (get t.entries k) (why_of (says y)) in
+      let one : releases (get t.entries k) (tree_reply t bind) ≡ 1 = ap (releases (get t.entries k)) said ∙ releases_refused
+      (get t.entries k) (why_of (says y)) in
       subst (λ (i : ℕ). Goes mid u op p i) (sym one)
-      (release_goes mid u op c own (refusal place k y) p refl refl (no.1 ∙ not_said k (answers.Found n) (tree_reply t bind) (why_of (says y)) said) n (own_hold op) next)
+      (release_goes mid u op c own (refusal place k y) p refl refl
+      (no.1 ∙ not_said k (answers.Found n) (tree_reply t bind) (why_of (says y)) said) n (own_hold op) next)
   bound_goes place (Some old) e next =
       let said : tree_reply t bind ≡ Ok shown.Done = sym bind_said ∙ bind_some m.store place k n (own_hold op) over.File old e in
       let count : releases (get t.entries k) (tree_reply t bind) ≡ (if is_some old then 1 else 0) =
@@ -313,12 +328,15 @@ module _ (m : WorldState) (t : Tree) (op : OpId) (c : Command) (own : ℕ) (k : 
   bind_goes : Goes m t op p (releases (get t.entries k) (tree_reply t bind) + 1)
   bind_goes =
       let next : StandsAt mid u op c own (bound_heard (request_place m.counts q) op k n y (as_bound y)) =
-      stands_as mid _ u op c _ own _ _ (next_stands m t op c own (Bind k n over.File) st q refl) bind_tree (rw (bind_same m.store t.made op k n (own_hold op) over.File).1 refl) refl in
-      subst (λ (v : Tree). Goes mid v op p (releases (get t.entries k) (tree_reply t bind)) → Goes m t op p (releases (get t.entries k) (tree_reply t bind) + 1)) bind_tree
+      stands_as mid _ u op c _ own _ _ (next_stands m t op c own (Bind k n over.File) st q refl) bind_tree
+      (rw (bind_same m.store t.made op k n (own_hold op) over.File).1 refl) refl in
+      subst (λ (v : Tree). Goes mid v op p (releases (get t.entries k) (tree_reply t bind))
+      → Goes m t op p (releases (get t.entries k) (tree_reply t bind) + 1)) bind_tree
       (step_goes m t op c own (Bind k n over.File) st q refl p (releases (get t.entries k) (tree_reply t bind)) refl)
       (bound_goes (request_place m.counts q) (as_bound y) refl next)
 
-module _ (m : WorldState) (t : Tree) (op : OpId) (own : ℕ) (d : DirId) (n : List ℕ) (st : StandsAt m t op (commands.Create (n ∷ [])) own (Walk d [])) where
+module _ (m : WorldState) (t : Tree) (op : OpId) (own : ℕ) (d : DirId) (n : List ℕ)
+    (st : StandsAt m t op (commands.Create (n ∷ [])) own (Walk d [])) where
   -- the file that is made
   abbrev file : FileId
   file = record { 0 = object_number op.actor own }
@@ -344,8 +362,10 @@ module _ (m : WorldState) (t : Tree) (op : OpId) (own : ℕ) (d : DirId) (n : Li
 
   is_new : get t.made (file_at (object_number op.actor own)) ≡ None
   is_new =
-      let knows : Knows op.actor (m.actors op.actor).number own (Some (program_at op c (Walk d []))) = knows_now m t op c own (Walk d []) st in
-      (st.tracks.fresh op.actor knows.0 own (omega (arith, st.serial)) (omega (arith, st.serial, st.tracks.serials op.actor, st.tracks.numbers op.actor))).1
+      let knows : Knows op.actor (m.actors op.actor).number own (Some (program_at op c (Walk d []))) = knows_now m t op c own (Walk d []) st
+      in
+      (st.tracks.fresh op.actor knows.0 own (omega (arith, st.serial))
+      (omega (arith, st.serial, st.tracks.serials op.actor, st.tracks.numbers op.actor))).1
 
   made_now : is_made made_reply ≡ true
   made_now = make_file_made m.store t.made op (object_number op.actor own) made_all file (own_hold op) (key_in d n) is_new
@@ -364,7 +384,8 @@ module _ (m : WorldState) (t : Tree) (op : OpId) (own : ℕ) (d : DirId) (n : Li
       let p : Played = session.created t own k file in
       let left : ℕ = releases (get v.entries k) (tree_reply v (step.Bind k (nodes.File file) over.File)) in
       let next : StandsAt mid v op c (own + 1) (Bind k (nodes.File file) over.File) =
-      stands_as mid _ v op c _ (own + 1) _ _ (next_stands m t op c own (Walk d []) st making refl) make_tree (rw made_now refl) (rw made_now refl) in
+      stands_as mid _ v op c _ (own + 1) _ _ (next_stands m t op c own (Walk d []) st making refl) make_tree (rw made_now refl)
+      (rw made_now refl) in
       let all : Goes m t op p (left + 1 + 1) =
       subst (λ (w : Tree). Goes mid w op p (left + 1) → Goes m t op p (left + 1 + 1)) make_tree
       (step_goes m t op c own (Walk d []) st making refl p (left + 1) refl)

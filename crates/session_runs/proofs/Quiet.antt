@@ -6,7 +6,7 @@ use Rattle.tect_ids.specs.Keys.{op_eq}
 use Rattle.tect_ids.proofs.KeyTests.{op_eq_cases}
 use Rattle.tree_model.specs.Tree.{Tree}
 use Rattle.world_runs.specs.declared.event.Event.{Event}
-use Rattle.world_runs.specs.declared.event.Event.TheVariants.{Began, Refused, Acted, Ended, Stopped, Failed, Dumped}
+use Rattle.world_runs.specs.declared.event.Event.TheVariants.{Began, NotBegun, Acted, Ended, Stopped, Failed, Dumped}
 use Rattle.world_runs.specs.Moments.{WorldState, May, after, after_all, RunFrom}
 use Rattle.claim_words.specs.TreeSteps.{told_of, tree_after}
 use Rattle.world_runs.specs.Report.{is_act_of, transactions}
@@ -32,7 +32,7 @@ not_act m t (Acted other q x) tracks may op late = differs (op_eq other op) refl
         let now : op.number ≡ (m.actors op.actor).number = rw same at last in
         absurd (omega arith)
 not_act m t (Began other c) tracks may op late = refl
-not_act m t (Refused other c) tracks may op late = refl
+not_act m t (NotBegun other c) tracks may op late = refl
 not_act m t (Ended other x) tracks may op late = refl
 not_act m t (Stopped other) tracks may op late = refl
 not_act m t (Failed other x) tracks may op late = refl
@@ -50,5 +50,6 @@ pub quiet_run : (m : WorldState) (t : Tree) (before es : List Event) → Tracks 
 quiet_run m t before [] tracks quiet run = rw append-nil quiet
 quiet_run m t before (e ∷ es) tracks quiet run =
     let more : Quiet (after_all (after m e) es) ((before ++ e ∷ []) ++ es) =
-    quiet_run (after m e) (tree_after t (told_of e)) (before ++ e ∷ []) es (event_tracked m t e tracks run.0).0 (quiet_more m t before e tracks quiet run.0) run.1 in
+    quiet_run (after m e) (tree_after t (told_of e)) (before ++ e ∷ []) es (event_tracked m t e tracks run.0).0
+    (quiet_more m t before e tracks quiet run.0) run.1 in
     rw (append_assoc before (e ∷ []) es) at more

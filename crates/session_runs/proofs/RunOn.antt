@@ -13,12 +13,13 @@ use Rattle.world_runs.specs.declared.event.Event.TheVariants.{Began, Ended, Stop
 use Rattle.world_runs.specs.Served.{IsServed}
 use Rattle.world_runs.specs.Moments.{WorldState, May, opening, after, after_all, RunFrom, IsWorldRun, moment, running, program_of, begun}
 use Rattle.world_runs.specs.Follows.{Acts, DoesLine, Busy, FollowsFrom, NoneFails}
-use Rattle.world_runs.specs.Turns.{ClientTurn, Turns, all_idle, with_turn, turn_after, turns_after, TakesAct, InTurnFrom}
-use Rattle.world_runs.specs.Turns as turns
+use Rattle.world_runs.specs.ClientStates.{ClientState, ClientStates, all_idle, with_state, state_left_at, states_after, TakesAct}
+use Rattle.world_runs.specs.ClientStates.{FitStatesFrom}
+use Rattle.world_runs.specs.ClientStates as turns
 use Rattle.script_runs.proofs.Running.{AllWell, all_well, event_well, opening_well, run_well}
 use Rattle.script_runs.proofs.Histories.{front_runs}
 use Rattle.script_runs.proofs.Histories.{run-front, run-append, none_fails-append, acts_none_fail}
-use Rattle.world_runs.specs.Standing.{op_of, busy_at, AtTurn}
+use Rattle.world_runs.specs.Standing.{op_of, busy_at, IsInState}
 use Rattle.world_runs.specs.Smooth.{EndsAtOnce}
 use Rattle.session_runs.specs.RunningOn.{EachScriptCanBeRunOn}
 use Rattle.world_runs.proofs.Actors.{changed_there}
@@ -42,7 +43,8 @@ nothing : (m : WorldState) (a : ℕ) (busy next : Option OpId) (act : Act) → D
 nothing m a busy next act does = record { events = []; next = next; run = tt; does = does; none_fails = tt; at_once = tt }
 
 -- an idle actor
-module _ (m : WorldState) (s : AllWell m) (a : ℕ) (c : Command) (from : 1 ≤ a) (upto : a ≤ 64) (served : IsServed c) (stood : AtTurn turns.Idle (m.actors a))
+module _ (m : WorldState) (s : AllWell m) (a : ℕ) (c : Command) (from : 1 ≤ a) (upto : a ≤ 64) (served : IsServed c)
+    (stood : IsInState turns.Idle (m.actors a))
     (few : (m.actors a).number + 1 < 2 ^ 31) where
   -- its next op
   abbrev op : OpId
@@ -56,13 +58,21 @@ module _ (m : WorldState) (s : AllWell m) (a : ℕ) (c : Command) (from : 1 ≤ 
   may = (record { idle = stood.0; goes_on = stood.1; next = refl; few = few; is_actor = (from, omega (arith, upto)) }, served)
 
   runs : running (after m began) op ≡ Some (started op c)
-  runs = changed_there (λ st. program_of st.running op ≡ Some (started op c)) m.actors a (begun (m.actors a) op c) (runs_as_its_op (Some (started op c)) (started op c) op refl refl)
+  runs = changed_there (λ st. program_of st.running op ≡ Some (started op c)) m.actors a (begun (m.actors a) op c)
+      (runs_as_its_op (Some (started op c)) (started op c) op refl refl)
 
   can : CanEnd (after m began) op
   can = running_ends (after m began) (event_well m began s may) op (started op c) runs
 
   can_begin : CanDo m a None (acts.Begin c)
-  can_begin = record { events = began ∷ []; next = Some op; run = (may, tt); does = (op, began, refl, refl, (refl, refl), refl); none_fails = (tt, tt); at_once = (tt, tt) }
+  can_begin = record {
+    events = began ∷ [];
+    next = Some op;
+    run = (may, tt);
+    does = (op, began, refl, refl, (refl, refl), refl);
+    none_fails = (tt, tt);
+    at_once = (tt, tt);
+  }
 
   can_do : CanDo m a None (acts.Do c)
   can_do = record {
@@ -86,14 +96,35 @@ module _ (m : WorldState) (s : AllWell m) (a : ℕ) (op : OpId) (is : busy_at m 
   ends = running_ends m s op busy.program runs_on
 
   can_run : CanDo m a (Some op) acts.Run
-  can_run = record { events = to_end m op ends; next = None; run = ends.run; does = ((ends.count, end_follows m op ends), refl); none_fails = end_none_fails m op ends; at_once = end_at_once op m ends.count ends.front (Ended op ends.answer) refl ends.acts ends.run }
+  can_run = record {
+    events = to_end m op ends;
+    next = None;
+    run = ends.run;
+    does = ((ends.count, end_follows m op ends), refl);
+    none_fails = end_none_fails m op ends;
+    at_once = end_at_once op m ends.count ends.front (Ended op ends.answer) refl ends.acts ends.run;
+  }
 
   can_stop : CanDo m a (Some op) acts.Stop
-  can_stop = record { events = Stopped op ∷ []; next = None; run = ((busy.program, runs_on), tt); does = (refl, refl); none_fails = (tt, tt); at_once = (tt, tt) }
+  can_stop = record {
+    events = Stopped op ∷ [];
+    next = None;
+    run = ((busy.program, runs_on), tt);
+    does = (refl, refl);
+    none_fails = (tt, tt);
+    at_once = (tt, tt);
+  }
 
   -- it ends by then, or there are more transactions to come
   can_step : (n : ℕ) → (ends.count ≤ n) ⊎ (n + 1 ≤ ends.count) → CanDo m a (Some op) (acts.Step n)
-  can_step n (inl short) = record { events = to_end m op ends; next = None; run = ends.run; does = inr (ends.count, short, end_follows m op ends, refl); none_fails = end_none_fails m op ends; at_once = end_at_once op m ends.count ends.front (Ended op ends.answer) refl ends.acts ends.run }
+  can_step n (inl short) = record {
+    events = to_end m op ends;
+    next = None;
+    run = ends.run;
+    does = inr (ends.count, short, end_follows m op ends, refl);
+    none_fails = end_none_fails m op ends;
+    at_once = end_at_once op m ends.count ends.front (Ended op ends.answer) refl ends.acts ends.run;
+  }
   can_step n (inr long) =
       let these : Acts op n (take n ends.front) = acts_take op n ends.count ends.front (omega (arith, long)) ends.acts in
       record {
@@ -122,7 +153,7 @@ module _ (m : WorldState) (s : AllWell m) (a : ℕ) where
   stop_can (Some op) is = can_stop m s a op is
 
   -- any line in turn
-  line_can : (turn : ClientTurn) (act : Act) → 1 ≤ a → a ≤ 64 → TakesAct turn act → AtTurn turn (m.actors a)
+  line_can : (turn : ClientState) (act : Act) → 1 ≤ a → a ≤ 64 → TakesAct turn act → IsInState turn (m.actors a)
       → (m.actors a).number + 1 < 2 ^ 31 → CanDo m a (busy_at m a) act
   line_can turns.Idle (acts.Do c) from upto takes stood few =
       subst (λ (o : Option OpId). CanDo m a o (acts.Do c)) (sym (ap op_of stood.0)) (can_do m s a c from upto takes stood few)
@@ -148,26 +179,41 @@ record CanFollow (m : WorldState) (ls : List Line) : Type 0 where
   none_fails : NoneFails events
   at_once : EndsAtOnce m events
 
-lines_can : (ls : List Line) (m : WorldState) (turns : Turns) (k : ℕ) → AllWell m → InTurnFrom turns ls → AllStand m turns k
+lines_can : (ls : List Line) (m : WorldState) (turns : ClientStates) (k : ℕ) → AllWell m → FitStatesFrom turns ls → AllStand m turns k
     → k + length ls < 2 ^ 31 → CanFollow m ls
 lines_can [] m turns k s in_turn all few = record { events = []; run = tt; follows = refl; none_fails = tt; at_once = tt }
 lines_can (lines.Client client a act ∷ ls) m turns k s in_turn all few =
-    let d : CanDo m a (busy_at m a) act = line_can m s a (turns a) act in_turn.0 in_turn.1 in_turn.2 (all a).stands (omega (arith, (all a).began, few)) in
+    let d : CanDo m a (busy_at m a) act = line_can m s a (turns a) act in_turn.0 in_turn.1 in_turn.2 (all a).stands
+    (omega (arith, (all a).began, few)) in
     let n : WorldState = after_all m d.events in
     let done : IsDone m n a act d.next = line_does m s a act d.events d.next d.run d.does in
     let rest : CanFollow n ls =
-    lines_can ls n (with_turn turns a (turn_after act)) (k + 1) (run_well d.events m s d.run) in_turn.3
+    lines_can ls n (with_state turns a (state_left_at act)) (k + 1) (run_well d.events m s d.run) in_turn.3
     (stand_after m n turns k a act d.events d.next done d.does in_turn.2 all) (omega (arith, few)) in
     record {
       events = d.events ++ rest.events;
       run = run-append m d.events rest.events d.run rest.run;
-      follows = (d.events, rest.events, d.next, refl, d.does, subst (λ (b : Busy). FollowsFrom b ls rest.events) (sym (busy_after m n a act d.next done)) rest.follows);
+      follows = (
+        d.events,
+        rest.events,
+        d.next,
+        refl,
+        d.does,
+        subst (λ (b : Busy). FollowsFrom b ls rest.events)
+            (sym (busy_after m n a act d.next done)) rest.follows,
+      );
       none_fails = none_fails-append d.events rest.events d.none_fails rest.none_fails;
       at_once = at_once-append m d.events rest.events d.at_once rest.at_once;
     }
 lines_can (lines.Dump ∷ ls) m turns k s in_turn all few =
     let rest : CanFollow m ls = lines_can ls m turns k s in_turn all (omega (arith, few)) in
-    record { events = Dumped ∷ rest.events; run = (tt, rest.run); follows = (rest.events, refl, rest.follows); none_fails = (tt, rest.none_fails); at_once = (tt, rest.at_once) }
+    record {
+      events = Dumped ∷ rest.events;
+      run = (tt, rest.run);
+      follows = (rest.events, refl, rest.follows);
+      none_fails = (tt, rest.none_fails);
+      at_once = (tt, rest.at_once);
+    }
 lines_can (lines.Store counts ∷ ls) m turns k s in_turn all few = absurd in_turn
 lines_can (lines.Sweep ∷ ls) m turns k s in_turn all few = absurd in_turn
 lines_can (lines.Lose disk ∷ ls) m turns k s in_turn all few = absurd in_turn
@@ -176,10 +222,12 @@ lines_can (lines.Lose disk ∷ ls) m turns k s in_turn all few = absurd in_turn
 
 pub each_script_can_be_run_on : EachScriptCanBeRunOn
 each_script_can_be_run_on counts front back history in_turn few run f =
-    let all : AllStand (moment counts history) (turns_after all_idle front) (0 + length front) =
-    stand_by_turn front (opening counts) all_idle 0 history (opening_well counts) (turn_front front back all_idle in_turn) run f (opening_stand counts) in
+    let all : AllStand (moment counts history) (states_after all_idle front) (0 + length front) =
+    stand_by_turn front (opening counts) all_idle 0 history (opening_well counts) (turn_front front back all_idle in_turn) run f
+    (opening_stand counts) in
     let rest : CanFollow (moment counts history) back =
-    lines_can back (moment counts history) (turns_after all_idle front) (0 + length front) (all_well counts history run) (turn_back front back all_idle in_turn) all
+    lines_can back (moment counts history) (states_after all_idle front) (0 + length front) (all_well counts history run)
+    (turn_back front back all_idle in_turn) all
     (omega (arith, few, length-append front back)) in
     let whole : IsWorldRun counts (history ++ rest.events) = run-append (opening counts) history rest.events run rest.run in
     (rest.events, whole, run_follows_on counts front back history rest.events whole f rest.follows, rest.none_fails, rest.at_once)

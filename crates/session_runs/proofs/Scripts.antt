@@ -15,7 +15,7 @@ use Rattle.store_rules.specs.Names.{key_in}
 use Rattle.tree_model.specs.Tree.{Tree, opening_tree}
 use Rattle.program_rules.specs.Programs.{root, object_number, first_phase}
 use Rattle.world_runs.specs.declared.event.Event.{Event}
-use Rattle.world_runs.specs.declared.event.Event.TheVariants.{Began, Refused, Acted, Ended, Stopped, Failed, Dumped}
+use Rattle.world_runs.specs.declared.event.Event.TheVariants.{Began, NotBegun, Acted, Ended, Stopped, Failed, Dumped}
 use Rattle.world_runs.specs.Moments.{WorldState, opening, CanBegin, after, after_all, RunFrom, IsWorldRun}
 use Rattle.claim_words.specs.TreeSteps.{tree_steps, tree_after}
 use Rattle.world_runs.specs.Report.{transactions, report, report_after, answer_line, client_name}
@@ -39,9 +39,10 @@ pub acts_numbers : (m : WorldState) (op : OpId) (n : ℕ) (es : List Event) (a :
     → ((after_all m es).actors a).number ≡ (m.actors a).number
 acts_numbers m op n [] a acts = refl
 acts_numbers m op n (Acted o q x ∷ es) a acts =
-    acts_numbers (after m (Acted o q x)) op (acts.1).0 es a (acts.1).2 ∙ changed (λ st. st.number ≡ (m.actors a).number) m.actors o.actor _ a (λ e. rw e refl) (λ d. refl)
+    acts_numbers (after m (Acted o q x)) op (acts.1).0 es a (acts.1).2 ∙ changed (λ st. st.number ≡ (m.actors a).number) m.actors o.actor _
+    a (λ e. rw e refl) (λ d. refl)
 acts_numbers m op n (Began o c ∷ es) a acts = absurd acts
-acts_numbers m op n (Refused o c ∷ es) a acts = absurd acts
+acts_numbers m op n (NotBegun o c ∷ es) a acts = absurd acts
 acts_numbers m op n (Ended o c ∷ es) a acts = absurd acts
 acts_numbers m op n (Stopped o ∷ es) a acts = absurd acts
 acts_numbers m op n (Failed o c ∷ es) a acts = absurd acts
@@ -51,9 +52,10 @@ acts_numbers m op n (Dumped ∷ es) a acts = absurd acts
 acts_no_lines : (counts : Counts) (clients : List (List ℕ)) (before : List Event) (op : OpId) (n : ℕ) (es : List Event) → Acts op n es
     → report_after counts clients before es ≡ []
 acts_no_lines counts clients before op n [] acts = refl
-acts_no_lines counts clients before op n (Acted o q x ∷ es) acts = acts_no_lines counts clients (before ++ Acted o q x ∷ []) op (acts.1).0 es (acts.1).2
+acts_no_lines counts clients before op n (Acted o q x ∷ es) acts = acts_no_lines counts clients (before ++ Acted o q x ∷ []) op (acts.1).0
+    es (acts.1).2
 acts_no_lines counts clients before op n (Began o c ∷ es) acts = absurd acts
-acts_no_lines counts clients before op n (Refused o c ∷ es) acts = absurd acts
+acts_no_lines counts clients before op n (NotBegun o c ∷ es) acts = absurd acts
 acts_no_lines counts clients before op n (Ended o c ∷ es) acts = absurd acts
 acts_no_lines counts clients before op n (Stopped o ∷ es) acts = absurd acts
 acts_no_lines counts clients before op n (Failed o c ∷ es) acts = absurd acts
@@ -68,7 +70,7 @@ acts_count op n (Acted o q x ∷ es) acts =
     let rest : transactions es op ≡ (acts.1).0 = acts_count op (acts.1).0 es (acts.1).2 in
     transactions-append (Acted o q x ∷ []) es op ∙ omega (arith, first, rest, (acts.1).1)
 acts_count op n (Began o c ∷ es) acts = absurd acts
-acts_count op n (Refused o c ∷ es) acts = absurd acts
+acts_count op n (NotBegun o c ∷ es) acts = absurd acts
 acts_count op n (Ended o c ∷ es) acts = absurd acts
 acts_count op n (Stopped o ∷ es) acts = absurd acts
 acts_count op n (Failed o c ∷ es) acts = absurd acts
@@ -82,7 +84,8 @@ command_goes : (m : WorldState) (t : Tree) (op : OpId) (c : Command) (own number
     → Goes m t op (played t own number c) (played t own number c).transactions
 command_goes m t op (commands.Look (n ∷ [])) own number one is st = look_goes m t op (commands.Look (n ∷ [])) own root n refl st
 command_goes m t op (commands.Create (n ∷ [])) own number one is st =
-    subst (λ (i : ℕ). Goes m t op (session.created t own (key_in root n) record { 0 = object_number i own }) (session.created t own (key_in root n) record { 0 = object_number i own }).transactions) one
+    subst (λ (i : ℕ). Goes m t op (session.created t own (key_in root n) record { 0 = object_number i own })
+    (session.created t own (key_in root n) record { 0 = object_number i own }).transactions) one
     (create_goes m t op own root n st)
 command_goes m t op c own number one is st = absurd is
 
@@ -94,7 +97,8 @@ record Between (m : WorldState) (t : Tree) (before : List Event) (own number : �
   count : (m.actors 1).number ≡ number
 
 -- the events of a line
-module _ (counts : Counts) (clients : List (List ℕ)) (m : WorldState) (t : Tree) (before : List Event) (own number : ℕ) (rests : Between m t before own number)
+module _ (counts : Counts) (clients : List (List ℕ)) (m : WorldState) (t : Tree) (before : List Event) (own number : ℕ)
+    (rests : Between m t before own number)
     (op : OpId) (c : Command) (one : op.actor ≡ 1) (is : IsPlayed c) (front : List Event) (n : ℕ) (a : Answer) (acts : Acts op n front)
     (run : RunFrom m (Began op c ∷ front ++ Ended op a ∷ [])) where
   -- what the tree plays
@@ -147,7 +151,8 @@ module _ (counts : Counts) (clients : List (List ℕ)) (m : WorldState) (t : Tre
   line_now i = lines.Client (client_name clients (one i)) (number_now i) ((count_now ∙ comes.count) i) (comes.answer i)
 
   line : report_after counts clients before part ≡ played_line clients (number + 1) p ∷ []
-  line = report-append counts clients begun_before front (Ended op a ∷ []) ∙ rw (acts_no_lines counts clients begun_before op n front acts, line_now) refl
+  line = report-append counts clients begun_before front (Ended op a ∷ []) ∙ rw
+      (acts_no_lines counts clients begun_before op n front acts, line_now) refl
 
   -- the moment after it
   tree_now : tree_after t (tree_steps part) ≡ p.tree
@@ -162,11 +167,14 @@ module _ (counts : Counts) (clients : List (List ℕ)) (m : WorldState) (t : Tre
 
   serial_now : ((after_all m part).actors 1).serial ≡ p.serial
   unfolding last
-  serial_now = ap (λ (z : WorldState). (z.actors 1).serial) ended ∙ subst (λ (i : ℕ). ((after last (Ended op a)).actors i).serial ≡ p.serial) one (rw same_actor comes.serial)
+  serial_now = ap (λ (z : WorldState). (z.actors 1).serial) ended ∙ subst
+      (λ (i : ℕ). ((after last (Ended op a)).actors i).serial ≡ p.serial) one (rw same_actor comes.serial)
 
   count_after : ((after_all m part).actors 1).number ≡ number + 1
   unfolding last
-  count_after = ap (λ (z : WorldState). (z.actors 1).number) ended ∙ subst (λ (i : ℕ). ((after last (Ended op a)).actors i).number ≡ number + 1) one (rw same_actor (acts_numbers mid op n front op.actor acts ∙ rw same_actor number_now))
+  count_after = ap (λ (z : WorldState). (z.actors 1).number) ended ∙ subst
+      (λ (i : ℕ). ((after last (Ended op a)).actors i).number ≡ number + 1) one
+      (rw same_actor (acts_numbers mid op n front op.actor acts ∙ rw same_actor number_now))
 
   rests_after : Between (after_all m part) p.tree (before ++ part) p.serial (number + 1)
   rests_after = record {
@@ -186,8 +194,10 @@ LinesAgree counts clients client cs =
     → RunFrom m es → NoneFails es → FollowsFrom busy (session_script client cs) es
     → report_after counts clients before es ≡ session_lines clients t own number cs
 
-module _ (counts : Counts) (clients : List (List ℕ)) (client : List ℕ) (c : Command) (cs : List Command) (others : LinesAgree counts clients client cs) (m : WorldState) (t : Tree) (before es : List Event) (own number : ℕ)
-    (busy : Busy) (rests : Between m t before own number) (all : AllByRecursion IsPlayed (c ∷ cs)) (run : RunFrom m es) (none : NoneFails es) where
+module _ (counts : Counts) (clients : List (List ℕ)) (client : List ℕ) (c : Command) (cs : List Command)
+    (others : LinesAgree counts clients client cs) (m : WorldState) (t : Tree) (before es : List Event) (own number : ℕ)
+    (busy : Busy) (rests : Between m t before own number) (all : AllByRecursion IsPlayed (c ∷ cs)) (run : RunFrom m es)
+    (none : NoneFails es) where
   -- the lines from here on are those of the tree
   abbrev Agrees : Type 0
   Agrees = report_after counts clients before es ≡ session_lines clients t own number (c ∷ cs)
@@ -203,18 +213,22 @@ module _ (counts : Counts) (clients : List (List ℕ)) (client : List ℕ) (c : 
       let next_rests : Between (after_all m part) p.tree (before ++ part) p.serial (number + 1) =
       rests_after counts clients m t before own number rests op c one all.0 front n a acts mine in
       let tail : report_after counts clients (before ++ part) rest ≡ session_lines clients p.tree p.serial (number + 1) cs =
-      others (after_all m part) p.tree (before ++ part) rest p.serial (number + 1) (with_busy busy 1 next) next_rests free all.1 (run-rest m part rest whole) (none_fails-rest part rest (rw parts at none)) more in
-      ap (report_after counts clients before) parts ∙ report-append counts clients before part rest ∙ rw (line counts clients m t before own number rests op c one all.0 front n a acts mine, tail) refl
+      others (after_all m part) p.tree (before ++ part) rest p.serial (number + 1) (with_busy busy 1 next) next_rests free all.1
+      (run-rest m part rest whole) (none_fails-rest part rest (rw parts at none)) more in
+      ap (report_after counts clients before) parts ∙ report-append counts clients before part rest ∙ rw
+      (line counts clients m t before own number rests op c one all.0 front n a acts mine, tail) refl
 
   end_agrees : (op : OpId) (front rest : List Event) (n : ℕ) (end : Event) (next : Option OpId) → op.actor ≡ 1 → Acts op n front
       → IsEndOf op end → es ≡ (Began op c ∷ front ++ end ∷ []) ++ rest → next ≡ None
       → FollowsFrom (with_busy busy 1 next) (session_script client cs) rest → Agrees
-  end_agrees op front rest n (Ended o a) next one acts is parts free more = first_agrees op front rest n a next one acts (rw is at parts) free more
+  end_agrees op front rest n (Ended o a) next one acts is parts free more = first_agrees op front rest n a next one acts (rw is at parts)
+      free more
   end_agrees op front rest n (Failed o a) next one acts is parts free more =
-      let fails : NoneFails (Failed o a ∷ []) = none_fails-rest (Began op c ∷ front) (Failed o a ∷ []) (none_fails-front (Began op c ∷ front ++ Failed o a ∷ []) rest (rw parts at none)) in
+      let fails : NoneFails (Failed o a ∷ []) = none_fails-rest (Began op c ∷ front) (Failed o a ∷ [])
+      (none_fails-front (Began op c ∷ front ++ Failed o a ∷ []) rest (rw parts at none)) in
       absurd fails.0
   end_agrees op front rest n (Began o d) next one acts is parts free more = absurd is
-  end_agrees op front rest n (Refused o d) next one acts is parts free more = absurd is
+  end_agrees op front rest n (NotBegun o d) next one acts is parts free more = absurd is
   end_agrees op front rest n (Acted o q x) next one acts is parts free more = absurd is
   end_agrees op front rest n (Stopped o) next one acts is parts free more = absurd is
   end_agrees op front rest n Dumped next one acts is parts free more = absurd is
@@ -233,7 +247,8 @@ module _ (counts : Counts) (clients : List (List ℕ)) (client : List ℕ) (c : 
 lines_agree : (counts : Counts) (clients : List (List ℕ)) (client : List ℕ) (cs : List Command) → LinesAgree counts clients client cs
 lines_agree counts clients client [] m t before es own number busy rests idle all run none follows = rw follows refl
 lines_agree counts clients client (c ∷ cs) m t before es own number busy rests idle all run none follows =
-    line_agrees counts clients client c cs (lines_agree counts clients client cs) m t before es own number busy rests all run none follows.0 follows.1 follows.2 follows.3 (rw idle at follows.4) follows.5
+    line_agrees counts clients client c cs (lines_agree counts clients client cs) m t before es own number busy rests all run none follows.0
+    follows.1 follows.2 follows.3 (rw idle at follows.4) follows.5
 
 opening_rests : (counts : Counts) → Between (opening counts) opening_tree [] 1 0
 opening_rests counts = record { tracks = opening_tracks counts; quiet = λ op late. refl; serial = refl; count = refl }
@@ -243,4 +258,5 @@ pub session_reported : (counts : Counts) (clients : List (List ℕ)) (client : L
     → IsWorldRun counts history → NoneFails history → Follows (session_script client cs) history
     → report counts clients history ≡ session_lines clients opening_tree 1 0 cs
 session_reported counts clients client cs history all run none follows =
-    lines_agree counts clients client cs (opening counts) opening_tree [] history 1 0 none_busy (opening_rests counts) refl all run none follows
+    lines_agree counts clients client cs (opening counts) opening_tree [] history 1 0 none_busy (opening_rests counts) refl all run none
+    follows

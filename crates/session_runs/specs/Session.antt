@@ -18,7 +18,7 @@ use Rattle.tect_ids.specs.declared.script.ReportLine.TheVariants as lines
 use Rattle.store_rules.specs.Names.{key_in}
 use Rattle.tree_model.specs.declared.step.TreeStep.{TreeStep}
 use Rattle.tree_model.specs.declared.step.TreeStep.TheVariants as step
-use Rattle.tree_model.specs.declared.step.Shown.TheVariants as shown
+use Rattle.tree_model.specs.declared.step.StepValue.TheVariants as shown
 use Rattle.tree_model.specs.declared.step.TreeReply.{TreeReply}
 use Rattle.tree_model.specs.declared.step.TreeReply.TheVariants.{Ok, Refused}
 use Rattle.tree_model.specs.Tree.{Tree, tree_reply, tree_next}

@@ -17,7 +17,7 @@ use Rattle.program_rules.specs.declared.program.Phase.TheVariants.{End}
 use Rattle.program_rules.specs.declared.program.Program.{Program}
 use Rattle.program_rules.specs.Programs.{root, object_number, own_hold, phase_ask, phase_hear, first_phase}
 use Rattle.world_runs.specs.declared.event.Event.{Event}
-use Rattle.world_runs.specs.declared.event.Event.TheVariants.{Began, Refused, Acted, Ended, Stopped, Failed, Dumped}
+use Rattle.world_runs.specs.declared.event.Event.TheVariants.{Began, NotBegun, Acted, Ended, Stopped, Failed, Dumped}
 use Rattle.world_runs.specs.Served.{IsServed}
 use Rattle.program_rules.specs.Lacks.{no_room}
 use Rattle.world_runs.specs.Moments.{Actor, WorldState, CanBegin, May, after, went_on, next_serial, opening, with_actor}
@@ -45,8 +45,10 @@ with_cases P others a x b here there =
 module _ (a b : ℕ) (w v : World) (l : Later (by_actor a) w v) (apart : eqb b a ≡ false) where
   fresh_stays : (serial number : ℕ) → IsFresh w b serial number → IsFresh v b serial number
   fresh_stays serial number f = record {
-    file = λ i le lt. l.unmade (File record { 0 = object_number b i }) (let e : actor_of (File record { 0 = object_number b i }) ≡ b = omega arith in rw e apart) (f.file i le lt);
-    dir = λ i le lt. l.unmade (Dir record { 0 = object_number b i }) (let e : actor_of (Dir record { 0 = object_number b i }) ≡ b = omega arith in rw e apart) (f.dir i le lt);
+    file = λ i le lt. l.unmade (File record { 0 = object_number b i })
+        (let e : actor_of (File record { 0 = object_number b i }) ≡ b = omega arith in rw e apart) (f.file i le lt);
+    dir = λ i le lt. l.unmade (Dir record { 0 = object_number b i })
+        (let e : actor_of (Dir record { 0 = object_number b i }) ≡ b = omega arith in rw e apart) (f.dir i le lt);
     hold = λ h own lt. l.fresh h (rw own apart) (f.hold h own lt);
   }
 
@@ -129,8 +131,10 @@ module _ (m : WorldState) (g : Ghost) (s : AllSound m g) (p : Program) (is : (m.
   acts_on : ActorSound v p.op.actor (went_on m.counts st q x)
   acts_on = record {
     fresh = λ one. record {
-      file = λ i le lt. kept.later.unmade (File record { 0 = object_number p.op.actor i }) (none_later.0.file i le) (fresh.file i (omega (arith, serial_grows st.serial x)) lt);
-      dir = λ i le lt. kept.later.unmade (Dir record { 0 = object_number p.op.actor i }) (none_later.0.dir i le) (fresh.dir i (omega (arith, serial_grows st.serial x)) lt);
+      file = λ i le lt. kept.later.unmade (File record { 0 = object_number p.op.actor i }) (none_later.0.file i le)
+          (fresh.file i (omega (arith, serial_grows st.serial x)) lt);
+      dir = λ i le lt. kept.later.unmade (Dir record { 0 = object_number p.op.actor i }) (none_later.0.dir i le)
+          (fresh.dir i (omega (arith, serial_grows st.serial x)) lt);
       hold = λ h own lt. kept.later.fresh h (none_later.0.hold h (rw knows.last lt)) (fresh.hold h own lt);
     };
     few_made = rw (← knows.last) none_later.1;
@@ -142,11 +146,13 @@ module _ (m : WorldState) (g : Ghost) (s : AllSound m g) (p : Program) (is : (m.
   acted_sound = record {
     sound = kept.sound;
     root = later.made (Dir root) s.root;
-    actors = λ b. with_cases (λ z. ActorSound v b z) m.actors p.op.actor (went_on m.counts st q x) b (λ e. rw e acts_on) (λ apart. actor_stays p.op.actor b w v later apart (m.actors b) (s.actors b));
+    actors = λ b. with_cases (λ z. ActorSound v b z) m.actors p.op.actor (went_on m.counts st q x) b (λ e. rw e acts_on)
+        (λ apart. actor_stays p.op.actor b w v later apart (m.actors b) (s.actors b));
   }
 
 -- a command begins
-module _ (m : WorldState) (g : Ghost) (s : AllSound m g) (op : OpId) (c : Command) (can : CanBegin (m.actors op.actor) op) (served : IsServed c) where
+module _ (m : WorldState) (g : Ghost) (s : AllSound m g) (op : OpId) (c : Command) (can : CanBegin (m.actors op.actor) op)
+    (served : IsServed c) where
   -- its actor, and the world
   abbrev idle : Actor
   idle = m.actors op.actor
@@ -201,20 +207,22 @@ module _ (m : WorldState) (g : Ghost) (s : AllSound m g) (op : OpId) (c : Comman
   begins_sound at knows = record {
     sound = s.sound;
     root = s.root;
-    actors = λ b. with_cases (λ z. ActorSound here b z) m.actors op.actor (runs_in at) b (λ e. rw e (begins at knows)) (λ apart. s.actors b);
+    actors = λ b. with_cases (λ z. ActorSound here b z) m.actors op.actor (runs_in at) b (λ e. rw e (begins at knows))
+        (λ apart. s.actors b);
   }
 
   began_sound : AllSound (after m (Began op c)) g
   began_sound = begins_sound (first_phase c) (starts c)
 
   -- a refused op has its answer, of which nothing is owed
-  refused_sound : AllSound (after m (Refused op c)) g
+  refused_sound : AllSound (after m (NotBegun op c)) g
   refused_sound = begins_sound (End no_room) refl
 
 -- an actor has no running command any more
 module _ (m : WorldState) (g : Ghost) (s : AllSound m g) (a : ℕ) where
   rests : (stopped : Bool) → ActorSound (world_of m g) a record (m.actors a) { running = None; stopped = stopped }
-  rests stopped = let part : ActorSound (world_of m g) a (m.actors a) = s.actors a in record { fresh = part.fresh; few_made = part.few_made; few_begun = part.few_begun; running = tt }
+  rests stopped = let part : ActorSound (world_of m g) a (m.actors a) = s.actors a
+      in record { fresh = part.fresh; few_made = part.few_made; few_begun = part.few_begun; running = tt }
 
   rest_sound : (stopped : Bool) → AllSound (with_actor m a record (m.actors a) { running = None; stopped = stopped }) g
   rest_sound stopped = record {
@@ -227,12 +235,13 @@ acts_sound : (m : WorldState) (g : Ghost) (op : OpId) (q : AnyReq) (x : AnyReply
     → AllSound (after m (Acted op q x)) (ghost_next m.store g q)
 acts_sound m g op q x s can =
     let by : (p : Program) × Asks m op q p = asks_by m op q can.0 in
-    rw can.1 (subst (λ (o : OpId). AllSound (after m (Acted o q (store_reply m.store q))) (ghost_next m.store g q)) by.1.same (acted_sound m g s by.0 by.1.is q by.1.ask))
+    rw can.1 (subst (λ (o : OpId). AllSound (after m (Acted o q (store_reply m.store q))) (ghost_next m.store g q)) by.1.same
+    (acted_sound m g s by.0 by.1.is q by.1.ask))
 
 -- each event that may happen keeps what is so at every moment
 pub event_sound : (m : WorldState) (g : Ghost) (e : Event) → AllSound m g → May m e → AllSound (after m e) (ghost_after m g e)
 event_sound m g (Began op c) s can = began_sound m g s op c can.0 can.1
-event_sound m g (Refused op c) s can = refused_sound m g s op c can.0 can.1
+event_sound m g (NotBegun op c) s can = refused_sound m g s op c can.0 can.1
 event_sound m g (Acted op q x) s can = acts_sound m g op q x s can
 event_sound m g (Ended op a) s can = rest_sound m g s op.actor (m.actors op.actor).stopped
 event_sound m g (Stopped op) s can = rest_sound m g s op.actor true

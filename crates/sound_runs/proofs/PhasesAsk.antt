@@ -145,7 +145,8 @@ pub record MakesNoLater (t : Touched) (op : OpId) (serial : ℕ) : Type 0 where
 
 -- the same of a request that was done, where the serial is the one after its reply
 abbrev pub NoLater : World → World → OpId → ℕ → AnyReq → Type 0
-NoLater w v op serial q = Kept w v q → MakesNoLater (touched_by q) op (next_serial serial (store_reply w.store q)) × (next_serial serial (store_reply w.store q) ≤ op.number + 1)
+NoLater w v op serial q = Kept w v q → MakesNoLater (touched_by q) op (next_serial serial (store_reply w.store q))
+    × (next_serial serial (store_reply w.store q) ≤ op.number + 1)
 
 module _ (w v : World) (op : OpId) (serial : ℕ) where
   nothing_later : MakesNoLater touches_nothing op serial
@@ -165,7 +166,8 @@ module _ (w v : World) (op : OpId) (serial : ℕ) where
 
   -- a request that makes no object takes no serial
   same_serial : (q : AnyReq) → makes q ≡ false → serial ≤ op.number + 1 → MakesNoLater (touched_by q) op serial → NoLater w v op serial q
-  same_serial q e le none kept = let stays : is_made (store_reply w.store q) ≡ false = makes_none w.store q e in (rw stays none, rw stays le)
+  same_serial q e le none kept = let stays : is_made (store_reply w.store q) ≡ false = makes_none w.store q e
+      in (rw stays none, rw stays le)
 
   module _ (d : DirId) (le : serial ≤ op.number) where
     few : serial ≤ op.number + 1

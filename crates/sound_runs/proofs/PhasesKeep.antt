@@ -126,7 +126,8 @@ module _ (v : World) (op : OpId) (serial : ℕ) (c : Command) (place : Place) (x
 -- the command goes on at the reply to such a request
 abbrev pub GoesOn : World → World → OpId → ℕ → Command → Place → Phase → AnyReq → Type 0
 GoesOn w v op serial c place at q =
-    Kept w v q → PhaseKnows v op (next_serial serial (store_reply w.store q)) c (phase_hear place op (object_number op.actor serial) c at (store_reply w.store q))
+    Kept w v q → PhaseKnows v op (next_serial serial (store_reply w.store q)) c
+    (phase_hear place op (object_number op.actor serial) c at (store_reply w.store q))
 
 module _ (w v : World) (op : OpId) (serial : ℕ) (few : serial < 2 ^ 32) (place : Place) where
   -- the command goes on from that phase
@@ -157,24 +158,28 @@ module _ (w v : World) (op : OpId) (serial : ℕ) (few : serial < 2 ^ 32) (place
       let key : Key = key_in d (last_name (n ∷ ns)) in
       let new : FileId = record { 0 = object_number op.actor serial } in
       let q : AnyReq = any.File (files.MakeFile new (own_hold op) key None) in
-      made_on v op (later q) (commands.Create (n ∷ ns)) place (said q) key (File new) over.File (is_made (said q)) kept.taught.0 kept.taught.1 kept.taught.2 (own_file op serial few)
+      made_on v op (later q) (commands.Create (n ∷ ns)) place (said q) key (File new) over.File (is_made (said q)) kept.taught.0
+      kept.taught.1 kept.taught.2 (own_file op serial few)
   first_goes_on (commands.Mkdir []) d k = tt
   first_goes_on (commands.Mkdir (n ∷ ns)) d k = λ kept.
       let key : Key = key_in d (last_name (n ∷ ns)) in
       let new : DirId = record { 0 = object_number op.actor serial } in
       let q : AnyReq = any.Name (names.MakeDir new d (own_hold op) key) in
-      made_on v op (later q) (commands.Mkdir (n ∷ ns)) place (said q) key (Dir new) over.Absent (is_made (said q)) kept.taught.0 kept.taught.1 kept.taught.2 (own_dir op serial few)
+      made_on v op (later q) (commands.Mkdir (n ∷ ns)) place (said q) key (Dir new) over.Absent (is_made (said q)) kept.taught.0
+      kept.taught.1 kept.taught.2 (own_dir op serial few)
   first_goes_on (commands.Delete []) d k = tt
   first_goes_on (commands.Delete (n ∷ ns)) d k = λ kept.
       let key : Key = key_in d (last_name (n ∷ ns)) in
       let q : AnyReq = any.Name (names.Unbind key AnyFile) in
-      unbound_on v op (later q) (commands.Delete (n ∷ ns)) place (said q) key (as_unbound (said q)) (unbind_not_odd w.store place key key AnyFile) kept.taught
+      unbound_on v op (later q) (commands.Delete (n ∷ ns)) place (said q) key (as_unbound (said q))
+      (unbind_not_odd w.store place key key AnyFile) kept.taught
   first_goes_on (commands.Rename [] to) d k = tt
   first_goes_on (commands.Rename (n ∷ ns) to) d k = λ kept.
       let key : Key = key_in d (last_name (n ∷ ns)) in
       let q : AnyReq = any.Name (names.Look key) in
       let named : has_name to ≡ true = k.3 in
-      source_on v op (later q) (commands.Rename (n ∷ ns) to) place (said q) key (as_found (said q)) (look_not_odd w.store place key key) (kept.later.made (Dir d) k.0) (kept.later.fresh (own_hold op) refl k.1) named
+      source_on v op (later q) (commands.Rename (n ∷ ns) to) place (said q) key (as_found (said q)) (look_not_odd w.store place key key)
+      (kept.later.made (Dir d) k.0) (kept.later.fresh (own_hold op) refl k.1) named
   first_goes_on _ d k = tt
 
   walk_goes_on : (c : Command) (d : DirId) (n : List ℕ) (ns : List (List ℕ)) → PhaseKnows w op serial c (Walk d (n ∷ ns))
@@ -183,7 +188,8 @@ module _ (w v : World) (op : OpId) (serial : ℕ) (few : serial < 2 ^ 32) (place
       let key : Key = key_in d n in
       let q : AnyReq = any.Name (names.Look key) in
       let le : later q ≤ op.number = rw (makes_none w.store q refl) k.2 in
-      walked_on v op (later q) c place (said q) key ns (as_found (said q)) (look_not_odd w.store place key key) kept.taught (kept.later.fresh (own_hold op) refl k.1) le k.3
+      walked_on v op (later q) c place (said q) key ns (as_found (said q)) (look_not_odd w.store place key key) kept.taught
+      (kept.later.fresh (own_hold op) refl k.1) le k.3
 
   bind_goes_on : (c : Command) (key : Key) (n : Node) (o : Over) → Goes c (Bind key n o)
   bind_goes_on c key n o = λ kept.
@@ -197,19 +203,22 @@ module _ (w v : World) (op : OpId) (serial : ℕ) (few : serial < 2 ^ 32) (place
       let to : Key = key_in key.dir (last_name (m ∷ ms)) in
       let q : AnyReq = any.Name (names.Grant d (own_hold op) to) in
       let taught : is_granted (said q) ≡ true → IsGranted v (own_hold op) (Dir d) (new_key key c) = rw e kept.taught in
-      granted_on v op (later q) c place (said q) key (Dir d) (is_granted (said q)) (dir_grant_not_odd w.store place key d (own_hold op) to) taught k.2 k.3
+      granted_on v op (later q) c place (said q) key (Dir d) (is_granted (said q)) (dir_grant_not_odd w.store place key d (own_hold op) to)
+      taught k.2 k.3
   grant_goes_on c key (File f) (m ∷ ms) e k = λ kept.
       let to : Key = key_in key.dir (last_name (m ∷ ms)) in
       let q : AnyReq = any.File (files.Grant f (own_hold op) to) in
       let taught : is_granted (said q) ≡ true → IsGranted v (own_hold op) (File f) (new_key key c) = rw e kept.taught in
-      granted_on v op (later q) c place (said q) key (File f) (is_granted (said q)) (file_grant_not_odd w.store place key f (own_hold op) to) taught k.2 k.3
+      granted_on v op (later q) c place (said q) key (File f) (is_granted (said q))
+      (file_grant_not_odd w.store place key f (own_hold op) to) taught k.2 k.3
 
   swap_goes_on : (c : Command) (key : Key) (n : Node) (p : List (List ℕ))
       → OfAsked (GoesOn w v op serial c place (Swap key n)) (at_last p (λ to. any.Name (names.Swap key.dir key.name to n (own_hold op))))
   swap_goes_on c key n [] = tt
   swap_goes_on c key n (m ∷ ms) = λ kept.
       let q : AnyReq = any.Name (names.Swap key.dir key.name (last_name (m ∷ ms)) n (own_hold op)) in
-      swapped_on v op (later q) c place (said q) key n (as_swapped (said q)) (swap_not_odd w.store place key key.dir key.name (last_name (m ∷ ms)) n (own_hold op)) kept.taught
+      swapped_on v op (later q) c place (said q) key n (as_swapped (said q))
+      (swap_not_odd w.store place key key.dir key.name (last_name (m ∷ ms)) n (own_hold op)) kept.taught
 
   -- it does from every phase
   pub phase_goes_on : (c : Command) (at : Phase) → PhaseKnows w op serial c at → Goes c at
@@ -219,5 +228,6 @@ module _ (w v : World) (op : OpId) (serial : ℕ) (few : serial < 2 ^ 32) (place
   phase_goes_on c (Grant key n) k = grant_goes_on c key n (new_path c) refl k
   phase_goes_on c (Swap key n) k = swap_goes_on c key n (new_path c)
   phase_goes_on c (Release n hold old a) k =
-      λ kept. then_on v op (later (release_ask n hold)) c place (said (release_ask n hold)) old a (old_stays (touched_by (release_ask n hold)) w v kept.later old k.1) k.2
+      λ kept. then_on v op (later (release_ask n hold)) c place (said (release_ask n hold)) old a
+      (old_stays (touched_by (release_ask n hold)) w v kept.later old k.1) k.2
   phase_goes_on c (End a) k = tt

@@ -107,5 +107,6 @@ answered_plain m g s op (Some p) e a is =
 -- no run answers that a reply was odd
 pub no_run_answers_odd : NoRunAnswersOdd
 no_run_answers_odd counts events run op place e =
-    let plain : is_odd (answers.Odd place) ≡ false = answered_plain (moment counts events) (ghosts counts events) (run_all_sound counts events run) op (running (moment counts events) op) refl (answers.Odd place) e in
+    let plain : is_odd (answers.Odd place) ≡ false = answered_plain (moment counts events) (ghosts counts events)
+    (run_all_sound counts events run) op (running (moment counts events) op) refl (answers.Odd place) e in
     grind (arith, plain)

@@ -2,14 +2,14 @@
 use Rattle.std.specs.Prelude.{List, [], ◌∷◌}
 use Rattle.tect_ids.specs.declared.ids.Counts.{Counts}
 use Rattle.world_runs.specs.declared.event.Event.{Event}
-use Rattle.world_runs.specs.declared.event.Event.TheVariants.{Began, Refused, Acted, Ended, Stopped, Failed, Dumped}
+use Rattle.world_runs.specs.declared.event.Event.TheVariants.{Began, NotBegun, Acted, Ended, Stopped, Failed, Dumped}
 use Rattle.world_runs.specs.Moments.{WorldState, opening, after, moment}
 use Rattle.store_world.specs.Worlds.{Ghost, World, opening_ghost, ghost_next}
 
 -- the past after an event: transactions alone change it
 abbrev pub ghost_after : WorldState → Ghost → Event → Ghost
 ghost_after m g (Began op c) = g
-ghost_after m g (Refused op c) = g
+ghost_after m g (NotBegun op c) = g
 ghost_after m g (Acted op q x) = ghost_next m.store g q
 ghost_after m g (Ended op a) = g
 ghost_after m g (Stopped op) = g

@@ -13,7 +13,7 @@ use Rattle.tect_ids.specs.declared.dump.DumpLine.{DumpLine}
 use Rattle.tect_ids.specs.declared.dump.DumpLine.TheVariants as line
 use Rattle.key_maps.specs.Maps.{within}
 use Rattle.store_rules.specs.declared.names.Directory.{Directory}
-use Rattle.store_rules.specs.declared.names.Entry.{Entry}
+use Rattle.store_rules.specs.declared.names.DirectoryEntry.{DirectoryEntry}
 use Rattle.store_rules.specs.declared.files.File.{File}
 use Rattle.store_rules.specs.Names.{Names}
 use Rattle.store_rules.specs.Files.{Files}
@@ -25,7 +25,7 @@ dir_state d = if d.sealed then dir_states.Sealed else dir_states.Open
 abbrev pub dir_line : Names → DirId × Directory → DumpLine
 dir_line s x = line.Dir x.0 (x.1).parent (dir_state x.1) (len (within s.entries x.0)) (len (x.1).holds) None
 
-abbrev pub entry_line : Key × Entry → DumpLine
+abbrev pub entry_line : Key × DirectoryEntry → DumpLine
 entry_line x = line.Entry x.0 (x.1).node None
 
 abbrev pub dir_lines : Names → DirId × Directory → List DumpLine

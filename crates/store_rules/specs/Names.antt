@@ -15,7 +15,7 @@ use Rattle.tect_ids.specs.declared.values.Listed.{Listed}
 use Rattle.tect_ids.specs.Keys.{dir_cmp, key_cmp, node_eq}
 use Rattle.key_maps.specs.Maps.{within}
 use Rattle.store_rules.specs.declared.names.Directory.{Directory}
-use Rattle.store_rules.specs.declared.names.Entry.{Entry}
+use Rattle.store_rules.specs.declared.names.DirectoryEntry.{DirectoryEntry}
 use Rattle.tect_ids.specs.declared.values.Over.{Over}
 use Rattle.tect_ids.specs.declared.values.Over.TheVariants as over
 use Rattle.tect_ids.specs.declared.values.Want.{Want}
@@ -31,7 +31,7 @@ use Rattle.store_rules.specs.Outcomes.{Outcome, Leaves, Changes, changes, refuse
 
 pub record Names : Type 0 where
   pub dirs : FinMap dir_cmp Directory
-  pub entries : FinMap key_cmp Entry
+  pub entries : FinMap key_cmp DirectoryEntry
 
 -- the root alone, with no parent
 abbrev pub root_names : Names
@@ -56,10 +56,10 @@ replaced_file (Dir d) = record { 0 = d.0 }
 replaced_file (File f) = f
 
 -- what a bind or a swap takes the name from
-abbrev pub replaced : Entry → Replaced
+abbrev pub replaced : DirectoryEntry → Replaced
 replaced e = record { file = replaced_file e.node; hold = e.hold }
 
-abbrev pub set_entry : Names → Key → Option Entry → Names
+abbrev pub set_entry : Names → Key → Option DirectoryEntry → Names
 set_entry s k e = record s { entries = set_at s.entries k e }
 
 abbrev pub set_dir : Names → DirId → Option Directory → Names
@@ -69,7 +69,7 @@ abbrev pub key_in : DirId → List ℕ → Key
 key_in d n = record { dir = d; name = n }
 
 -- the node that a name has now
-abbrev pub node_now : Option Entry → Option Node
+abbrev pub node_now : Option DirectoryEntry → Option Node
 node_now None = None
 node_now (Some e) = Some e.node
 
@@ -87,7 +87,7 @@ abbrev pub look_answer : Names → Key → Outcome NameReply
 look_answer s k = found (get s.dirs k.dir) NoDir (λ d. found (get s.entries k) NoName (λ e. Leaves (Found e.node)))
 
 -- List
-abbrev pub listed : Key × Entry → Listed
+abbrev pub listed : Key × DirectoryEntry → Listed
 listed e = record { name = (e.0).name; node = (e.1).node }
 
 abbrev pub list_answer : Names → DirId → Outcome NameReply
@@ -101,7 +101,7 @@ abbrev pub make_dir_change : Names → DirId → DirId → Hold → Key → Name
 make_dir_change s d p h k = set_dir s d (Some record { parent = p; sealed = false; holds = set_at empty h (Some (uppers.Entry k)) })
 
 -- Bind: what stands at the name decides
-abbrev pub bind_over : Names → Key → Option Entry → Over → Outcome NameReply
+abbrev pub bind_over : Names → Key → Option DirectoryEntry → Over → Outcome NameReply
 bind_over s k (Some e) over.Absent = Leaves Exists
 bind_over s k (Some e) over.File = refuse (not (is_file e.node)) IsDir (Changes (Bound (Some (replaced e))))
 bind_over s k None o = refuse (nat_le entry_limit (len (within s.entries k.dir))) Full (Changes (Bound None))
@@ -116,7 +116,7 @@ abbrev pub bind_change : Names → Key → Node → Hold → Names
 bind_change s k n h = set_entry s k (Some record { node = n; hold = h })
 
 -- Swap: what stands at the new name decides
-abbrev pub swap_over : Option Entry → Node → Hold → Outcome NameReply
+abbrev pub swap_over : Option DirectoryEntry → Node → Hold → Outcome NameReply
 swap_over None n was = Changes (Swapped was None)
 swap_over (Some e) n was =
     refuse (not (is_file e.node)) IsDir
@@ -135,15 +135,15 @@ abbrev pub swap_change : Names → DirId → List ℕ → List ℕ → Node → 
 swap_change s d from to n h = set_entry (set_entry s (key_in d from) None) (key_in d to) (Some record { node = n; hold = h })
 
 -- Unbind: of any file, or of just this node
-abbrev pub unbind_any : Option Entry → Outcome NameReply
+abbrev pub unbind_any : Option DirectoryEntry → Outcome NameReply
 unbind_any None = Leaves NoName
 unbind_any (Some e) = refuse (not (is_file e.node)) IsDir (Changes (Unbound e.node e.hold))
 
-abbrev pub unbind_node : Option Entry → Node → Outcome NameReply
+abbrev pub unbind_node : Option DirectoryEntry → Node → Outcome NameReply
 unbind_node None n = Leaves (Changed None)
 unbind_node (Some e) n = refuse (not (node_eq e.node n)) (Changed (Some e.node)) (Changes (Unbound e.node e.hold))
 
-abbrev pub unbind_want : Option Entry → Want → Outcome NameReply
+abbrev pub unbind_want : Option DirectoryEntry → Want → Outcome NameReply
 unbind_want e AnyFile = unbind_any e
 unbind_want e (Exactly n) = unbind_node e n
 

@@ -8,4 +8,4 @@ mod replies;
 
 pub use any::{AnyReply, AnyReq};
 pub use files::{File, FileReply, FileReq};
-pub use names::{Directory, Entry, NameReply, NameReq, Replaced};
+pub use names::{Directory, DirectoryEntry, NameReply, NameReq, Replaced};

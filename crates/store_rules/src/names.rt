@@ -11,7 +11,7 @@ pub struct Directory {
 
 /// An entry: what it names, and the hold that keeps it.
 #[derive(Clone, Copy, Debug, PartialEq, Eq)]
-pub struct Entry {
+pub struct DirectoryEntry {
     pub node: Node,
     pub hold: Hold,
 }

@@ -9,7 +9,7 @@ use Rattle.tect_ids.proofs.KeyTests.{dir_cmp_total, key_cmp_total, dir_antisymme
 use Rattle.key_maps.specs.Maps.{within}
 use Rattle.key_maps.proofs.Lookups.{maps}
 use Rattle.store_rules.specs.declared.names.Directory.{Directory}
-use Rattle.store_rules.specs.declared.names.Entry.{Entry}
+use Rattle.store_rules.specs.declared.names.DirectoryEntry.{DirectoryEntry}
 use Rattle.store_rules.specs.declared.names.NameReq.{NameReq}
 use Rattle.store_rules.specs.declared.names.NameReq.TheVariants as req
 use Rattle.store_rules.specs.Names.{Names, key_in, set_dir, set_entry, bind_over, name_answer, name_change, name_step}
@@ -22,14 +22,14 @@ module _ (here : DirId → Bool) (s w : Names) (is : KeepsNames here s w) where
   pub own_dir_set : (d : DirId) (x y : Option Directory) → here d ≡ true → x ≡ y → KeepsNames here (set_dir s d x) (set_dir w d y)
   own_dir_set d x y own same = record { dirs = λ e. grind (arith, maps, is.dirs e); entries = is.entries }
 
-  pub own_entry_set : (k : Key) (x : Option Entry) → here k.dir ≡ true → KeepsNames here (set_entry s k x) (set_entry w k x)
+  pub own_entry_set : (k : Key) (x : Option DirectoryEntry) → here k.dir ≡ true → KeepsNames here (set_entry s k x) (set_entry w k x)
   own_entry_set k x own = record { dirs = is.dirs; entries = λ q. grind (arith, maps, is.entries q) }
 
   -- a change at a directory that is not here, in the whole alone
   pub other_dir_set : (d : DirId) (y : Option Directory) → here d ≡ false → KeepsNames here s (set_dir w d y)
   other_dir_set d y other = record { dirs = λ e. grind (arith, maps, is.dirs e); entries = is.entries }
 
-  pub other_entry_set : (k : Key) (y : Option Entry) → here k.dir ≡ false → KeepsNames here s (set_entry w k y)
+  pub other_entry_set : (k : Key) (y : Option DirectoryEntry) → here k.dir ≡ false → KeepsNames here s (set_entry w k y)
   other_entry_set k y other = record { dirs = is.dirs; entries = λ q. grind (arith, maps, is.entries q) }
 
 module _ (here : DirId → Bool) (s w : Names) (is : KeepsNames here s w) where
@@ -45,7 +45,7 @@ module _ (here : DirId → Bool) (s w : Names) (is : KeepsNames here s w) where
   same_within d own = same_map key_cmp_total key_antisymmetric _ _ (λ q. grind (arith, maps, is.entries q))
 
   -- what a bind answers by what stands at its name
-  bind_over_same : (k : Key) → here k.dir ≡ true → (e : Option Entry) (o : Over) → bind_over s k e o ≡ bind_over w k e o
+  bind_over_same : (k : Key) → here k.dir ≡ true → (e : Option DirectoryEntry) (o : Over) → bind_over s k e o ≡ bind_over w k e o
   bind_over_same k own (Some e) over.Absent = refl
   bind_over_same k own (Some e) over.File = refl
   bind_over_same k own None o = rw (same_within k.dir own)

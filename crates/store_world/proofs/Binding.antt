@@ -9,7 +9,7 @@ use Rattle.tect_ids.specs.declared.key.Key.{Key}
 use Rattle.tect_ids.specs.declared.values.Over.{Over}
 use Rattle.tect_ids.specs.declared.values.Want.{Want}
 use Rattle.key_maps.proofs.Lookups.{maps}
-use Rattle.store_rules.specs.declared.names.Entry.{Entry}
+use Rattle.store_rules.specs.declared.names.DirectoryEntry.{DirectoryEntry}
 use Rattle.store_rules.specs.declared.names.Replaced.{Replaced}
 use Rattle.store_rules.specs.declared.names.NameReq.TheVariants as names
 use Rattle.store_rules.specs.declared.any.AnyReq.TheVariants as any
@@ -83,7 +83,8 @@ module _ (w : World) (s : Sound w) (k : Key) (n : Node) (h : Hold) (o : Over) (n
             set = λ x g is p. grind (arith, maps, s.entries.set x g, s.entries.bound k);
           };
           holds = record {
-            set = λ x g is p. grind (arith, maps, able, s.holds.set x g, s.entries.bound k, s.holds.live h record { lower = n; upper = k; phase = Live });
+            set = λ x g is p. grind
+                (arith, maps, able, s.holds.set x g, s.entries.bound k, s.holds.live h record { lower = n; upper = k; phase = Live });
             live = λ x g is l nd. grind (arith, maps, s.holds.live x g);
             listed = λ m x u is. grind (arith, maps, s.holds.listed m x u, s.entries.bound k);
             lower_made = λ x g is. grind (arith, maps, s.holds.lower_made x, lower w s h n k needs.0, s.entries.bound k);
@@ -110,7 +111,7 @@ module _ (w : World) (s : Sound w) (k : Key) (n : Node) (h : Hold) (o : Over) (n
 -- Unbind
 module _ (w : World) (s : Sound w) (k : Key) (want : Want) where
   -- what an unbind says of the entry that it took
-  abbrev taken : Option Entry → Option (Node × Hold)
+  abbrev taken : Option DirectoryEntry → Option (Node × Hold)
   taken None = None
   taken (Some e) = Some (e.node, e.hold)
 
@@ -151,7 +152,8 @@ module _ (w : World) (s : Sound w) (k : Key) (want : Want) where
   }
 
 -- Swap
-module _ (w : World) (s : Sound w) (d : DirId) (from to : List ℕ) (n : Node) (h : Hold) (needs : Needs w (any.Name (names.Swap d from to n h))) where
+module _ (w : World) (s : Sound w) (d : DirId) (from to : List ℕ) (n : Node) (h : Hold)
+    (needs : Needs w (any.Name (names.Swap d from to n h))) where
   -- the old key
   abbrev from_key : Key
   from_key = key_in d from
@@ -161,12 +163,12 @@ module _ (w : World) (s : Sound w) (d : DirId) (from to : List ℕ) (n : Node) (
   to_key = key_in d to
 
   -- what stood at the new name
-  abbrev gone : Option Entry → Option Replaced
+  abbrev gone : Option DirectoryEntry → Option Replaced
   gone None = None
   gone (Some e) = Some (replaced e)
 
   -- what a swap says of the entries that stood at both
-  abbrev both_gone : Option Entry → Option Entry → Option (Hold × Option Replaced)
+  abbrev both_gone : Option DirectoryEntry → Option DirectoryEntry → Option (Hold × Option Replaced)
   both_gone None old = None
   both_gone (Some e) old = Some (e.hold, gone old)
 
@@ -176,7 +178,7 @@ module _ (w : World) (s : Sound w) (d : DirId) (from to : List ℕ) (n : Node) (
   swap_says ok = grind arith
 
   -- the node of an entry
-  abbrev node_at : Option Entry → Option Node
+  abbrev node_at : Option DirectoryEntry → Option Node
   node_at None = None
   node_at (Some e) = Some e.node
 
@@ -198,11 +200,22 @@ module _ (w : World) (s : Sound w) (d : DirId) (from to : List ℕ) (n : Node) (
             set = λ x g is p. grind (arith, maps, s.entries.set x g, s.entries.bound from_key, s.entries.bound to_key);
           };
           holds = record {
-            set = λ x g is p. grind (arith, maps, able, s.holds.set x g, s.entries.bound from_key, s.entries.bound to_key, s.holds.live h record { lower = n; upper = to_key; phase = Live });
+            set = λ x g is p. grind (
+              arith,
+              maps,
+              able,
+              s.holds.set x g,
+              s.entries.bound from_key,
+              s.entries.bound to_key,
+              s.holds.live h record
+                  { lower = n; upper = to_key; phase = Live },
+            );
             live = λ x g is l nd. grind (arith, maps, s.holds.live x g);
             listed = λ m x u is. grind (arith, maps, s.holds.listed m x u, s.entries.bound from_key, s.entries.bound to_key);
-            lower_made = λ x g is. grind (arith, maps, s.holds.lower_made x, lower w s h n to_key needs.0, s.entries.bound from_key, s.entries.bound to_key);
-            upper_made = λ x g is. grind (arith, maps, s.holds.upper_made x, upper w s h n to_key needs.0, s.entries.bound from_key, s.entries.bound to_key);
+            lower_made = λ x g is. grind
+                (arith, maps, s.holds.lower_made x, lower w s h n to_key needs.0, s.entries.bound from_key, s.entries.bound to_key);
+            upper_made = λ x g is. grind
+                (arith, maps, s.holds.upper_made x, upper w s h n to_key needs.0, s.entries.bound from_key, s.entries.bound to_key);
           };
           nodes = record {
             standing_made = s.nodes.standing_made;

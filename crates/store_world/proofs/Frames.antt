@@ -49,8 +49,10 @@ weaken t u w v i l = record {
 -- a request, refused or done
 pub by_answer : (w : World) (q : AnyReq) (b : Bool) → store_changes w.store q ≡ b → (b ≡ false → Kept w (after_refusal w q) q)
     → (b ≡ true → Kept w (done w q) q) → Kept w (next w q) q
-by_answer w q true e stayed did = let k : Kept w (done w q) q = did refl in record { sound = rw e k.sound; later = rw e k.later; taught = rw e k.taught }
-by_answer w q false e stayed did = let k : Kept w (after_refusal w q) q = stayed refl in record { sound = rw e k.sound; later = rw e k.later; taught = rw e k.taught }
+by_answer w q true e stayed did = let k : Kept w (done w q) q = did refl
+    in record { sound = rw e k.sound; later = rw e k.later; taught = rw e k.taught }
+by_answer w q false e stayed did = let k : Kept w (after_refusal w q) q = stayed refl
+    in record { sound = rw e k.sound; later = rw e k.later; taught = rw e k.taught }
 
 -- a request that only reads
 pub by_reading : (w : World) (q : AnyReq) → Sound w → Taught w q (store_reply w.store q) → Kept w w q

@@ -16,45 +16,46 @@ use Rattle.store_world.specs.Sound.{Sound}
 use Rattle.store_world.specs.Requests.{Needs, Kept}
 
 -- MakeFile
-module _ (w : World) (s : Sound w) (f : FileId) (h : Hold) (k : Key) (t : Option OpId) (needs : Needs w (any.File (files.MakeFile f h k t))) where
-  pub file_made : store_changes w.store (any.File (files.MakeFile f h k t)) ≡ true
-      → Kept w (done w (any.File (files.MakeFile f h k t))) (any.File (files.MakeFile f h k t))
-  file_made ok = record {
-    sound = record {
-      entries = record {
-        bound = λ x e is. grind (arith, maps, s.entries.bound x e);
-        at_home = s.entries.at_home;
-        in_dir = s.entries.in_dir;
-        set = λ x g is p. grind (arith, maps, s.entries.set x g);
+module _ (w : World) (s : Sound w) (f : FileId) (h : Hold) (k : Key) (t : Option OpId) (needs : Needs w (any.File (files.MakeFile f h k t)))
+  where
+    pub file_made : store_changes w.store (any.File (files.MakeFile f h k t)) ≡ true
+        → Kept w (done w (any.File (files.MakeFile f h k t))) (any.File (files.MakeFile f h k t))
+    file_made ok = record {
+      sound = record {
+        entries = record {
+          bound = λ x e is. grind (arith, maps, s.entries.bound x e);
+          at_home = s.entries.at_home;
+          in_dir = s.entries.in_dir;
+          set = λ x g is p. grind (arith, maps, s.entries.set x g);
+        };
+        holds = record {
+          set = λ x g is p. grind (arith, maps, s.holds.set x g);
+          live = λ x g is l nd. grind (arith, maps, s.holds.live x g);
+          listed = λ m x u is. grind (arith, maps, s.holds.listed m x u);
+          lower_made = λ x g is. grind (arith, maps, s.holds.lower_made x g);
+          upper_made = λ x g is. grind (arith, maps, s.holds.upper_made x g);
+        };
+        nodes = record {
+          standing_made = λ m st. grind (arith, maps, s.nodes.standing_made m);
+          named_made = λ m e. grind (arith, maps, s.nodes.named_made m);
+        };
       };
-      holds = record {
-        set = λ x g is p. grind (arith, maps, s.holds.set x g);
-        live = λ x g is l nd. grind (arith, maps, s.holds.live x g);
-        listed = λ m x u is. grind (arith, maps, s.holds.listed m x u);
-        lower_made = λ x g is. grind (arith, maps, s.holds.lower_made x g);
-        upper_made = λ x g is. grind (arith, maps, s.holds.upper_made x g);
+      later = record {
+        made = λ m e. grind (arith, maps);
+        unmade = λ m o e. grind (arith, maps);
+        named = λ m e. e;
+        unnamed = λ m o e. e;
+        fresh = λ x o e. grind (arith, maps);
+        live = λ x g o e l. grind (arith, maps);
+        kept = λ x p e. grind (arith, maps);
+        spent = λ x e. grind (arith, maps);
       };
-      nodes = record {
-        standing_made = λ m st. grind (arith, maps, s.nodes.standing_made m);
-        named_made = λ m e. grind (arith, maps, s.nodes.named_made m);
-      };
-    };
-    later = record {
-      made = λ m e. grind (arith, maps);
-      unmade = λ m o e. grind (arith, maps);
-      named = λ m e. e;
-      unnamed = λ m o e. e;
-      fresh = λ x o e. grind (arith, maps);
-      live = λ x g o e l. grind (arith, maps);
-      kept = λ x p e. grind (arith, maps);
-      spent = λ x e. grind (arith, maps);
-    };
-    taught = grind (arith, maps, s.nodes.named_made (File f));
-  }
+      taught = grind (arith, maps, s.nodes.named_made (File f));
+    }
 
-  pub file_not_refused : store_changes w.store (any.File (files.MakeFile f h k t)) ≡ false
-      → Kept w (after_refusal w (any.File (files.MakeFile f h k t))) (any.File (files.MakeFile f h k t))
-  file_not_refused stayed = absurd (grind (arith, maps, s.nodes.standing_made (File f)))
+    pub file_not_refused : store_changes w.store (any.File (files.MakeFile f h k t)) ≡ false
+        → Kept w (after_refusal w (any.File (files.MakeFile f h k t))) (any.File (files.MakeFile f h k t))
+    file_not_refused stayed = absurd (grind (arith, maps, s.nodes.standing_made (File f)))
 
 -- MakeDir
 module _ (w : World) (s : Sound w) (d parent : DirId) (h : Hold) (k : Key) (needs : Needs w (any.Name (names.MakeDir d parent h k))) where

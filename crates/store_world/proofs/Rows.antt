@@ -12,7 +12,7 @@ use Rattle.tect_ids.specs.declared.values.Want.{Want}
 use Rattle.tect_ids.specs.Keys.{hold_eq}
 use Rattle.tect_ids.proofs.KeyTests.{keys}
 use Rattle.key_maps.proofs.Lookups.{maps}
-use Rattle.store_rules.specs.declared.names.Entry.{Entry}
+use Rattle.store_rules.specs.declared.names.DirectoryEntry.{DirectoryEntry}
 use Rattle.store_rules.specs.declared.names.NameReq.{NameReq}
 use Rattle.store_rules.specs.declared.names.NameReq.TheVariants as names
 use Rattle.store_rules.specs.declared.files.FileReq.{FileReq}
@@ -31,7 +31,8 @@ use Rattle.store_world.proofs.Binding.{given_up_sound, given_up_later, given_up_
 use Rattle.store_world.proofs.Holding.{dir_granted, file_granted, dir_released, file_released}
 
 -- what has a name was made
-pub named_was_made : (w : World) → Sound w → (k : Key) (e : Entry) → get w.store.names.entries k ≡ Some e → was_made w.ghost e.node ≡ true
+pub named_was_made : (w : World) → Sound w → (k : Key) (e : DirectoryEntry) → get w.store.names.entries k ≡ Some e
+    → was_made w.ghost e.node ≡ true
 named_was_made w s k e is = s.nodes.named_made e.node (grind (arith, s.entries.at_home k e))
 
 look_taught : (w : World) (s : Sound w) (k : Key) → FoundTaught w (as_found (store_reply w.store (any.Name (names.Look k))))
@@ -71,7 +72,8 @@ module _ (w : World) (s : Sound w) (k : Key) (n : Node) (h : Hold) (o : Over) (n
     taught = rw (bind_says w k n h o stayed) (given_up_spent w s h n k needs.0);
   }
 
-module _ (w : World) (s : Sound w) (d : DirId) (from to : List ℕ) (n : Node) (h : Hold) (needs : Needs w (any.Name (names.Swap d from to n h))) where
+module _ (w : World) (s : Sound w) (d : DirId) (from to : List ℕ) (n : Node) (h : Hold)
+    (needs : Needs w (any.Name (names.Swap d from to n h))) where
   swap_refused : store_changes w.store (any.Name (names.Swap d from to n h)) ≡ false
       → Kept w (after_refusal w (any.Name (names.Swap d from to n h))) (any.Name (names.Swap d from to n h))
   swap_refused stayed = record {
@@ -81,20 +83,31 @@ module _ (w : World) (s : Sound w) (d : DirId) (from to : List ℕ) (n : Node) (
   }
 
 name_kept : (w : World) (s : Sound w) (q : NameReq) → Needs w (any.Name q) → Kept w (next w (any.Name q)) (any.Name q)
-name_kept w s (names.CheckDir d) needs = by_answer w (any.Name (names.CheckDir d)) _ refl (λ e. by_reading w _ s tt) (λ e. by_reading w _ s tt)
-name_kept w s (names.Look k) needs = by_answer w (any.Name (names.Look k)) _ refl (λ e. by_reading w _ s (look_taught w s k)) (λ e. by_reading w _ s (look_taught w s k))
+name_kept w s (names.CheckDir d) needs = by_answer w (any.Name (names.CheckDir d)) _ refl (λ e. by_reading w _ s tt)
+    (λ e. by_reading w _ s tt)
+name_kept w s (names.Look k) needs = by_answer w (any.Name (names.Look k)) _ refl (λ e. by_reading w _ s (look_taught w s k))
+    (λ e. by_reading w _ s (look_taught w s k))
 name_kept w s (names.List d) needs = by_answer w (any.Name (names.List d)) _ refl (λ e. by_reading w _ s tt) (λ e. by_reading w _ s tt)
-name_kept w s (names.MakeDir d p h k) needs = by_answer w (any.Name (names.MakeDir d p h k)) _ refl (dir_not_refused w s d p h k needs) (dir_made w s d p h k needs)
-name_kept w s (names.Bind k n h o) needs = by_answer w (any.Name (names.Bind k n h o)) _ refl (bind_refused w s k n h o needs) (bind_done w s k n h o needs)
-name_kept w s (names.Swap d from to n h) needs = by_answer w (any.Name (names.Swap d from to n h)) _ refl (swap_refused w s d from to n h needs) (swap_done w s d from to n h needs)
-name_kept w s (names.Unbind k want) needs = by_answer w (any.Name (names.Unbind k want)) _ refl (λ e. by_reading w _ s (unbind_refused w k want e)) (unbind_done w s k want)
-name_kept w s (names.Grant d h k) needs = by_answer w (any.Name (names.Grant d h k)) _ refl (λ e. by_reading w _ s (dir_grant_refused w d h k e)) (dir_granted w s d h k needs)
-name_kept w s (names.Release d h) needs = by_answer w (any.Name (names.Release d h)) _ refl (λ e. by_reading w _ s tt) (λ e. dir_released w s d h needs)
+name_kept w s (names.MakeDir d p h k) needs = by_answer w (any.Name (names.MakeDir d p h k)) _ refl (dir_not_refused w s d p h k needs)
+    (dir_made w s d p h k needs)
+name_kept w s (names.Bind k n h o) needs = by_answer w (any.Name (names.Bind k n h o)) _ refl (bind_refused w s k n h o needs)
+    (bind_done w s k n h o needs)
+name_kept w s (names.Swap d from to n h) needs = by_answer w (any.Name (names.Swap d from to n h)) _ refl
+    (swap_refused w s d from to n h needs) (swap_done w s d from to n h needs)
+name_kept w s (names.Unbind k want) needs = by_answer w (any.Name (names.Unbind k want)) _ refl
+    (λ e. by_reading w _ s (unbind_refused w k want e)) (unbind_done w s k want)
+name_kept w s (names.Grant d h k) needs = by_answer w (any.Name (names.Grant d h k)) _ refl
+    (λ e. by_reading w _ s (dir_grant_refused w d h k e)) (dir_granted w s d h k needs)
+name_kept w s (names.Release d h) needs = by_answer w (any.Name (names.Release d h)) _ refl (λ e. by_reading w _ s tt)
+    (λ e. dir_released w s d h needs)
 
 file_kept : (w : World) (s : Sound w) (q : FileReq) → Needs w (any.File q) → Kept w (next w (any.File q)) (any.File q)
-file_kept w s (files.MakeFile f h k t) needs = by_answer w (any.File (files.MakeFile f h k t)) _ refl (file_not_refused w s f h k t needs) (file_made w s f h k t needs)
-file_kept w s (files.Grant f h k) needs = by_answer w (any.File (files.Grant f h k)) _ refl (λ e. by_reading w _ s (file_grant_refused w f h k e)) (file_granted w s f h k needs)
-file_kept w s (files.Release f h) needs = by_answer w (any.File (files.Release f h)) _ refl (λ e. by_reading w _ s tt) (λ e. file_released w s f h needs)
+file_kept w s (files.MakeFile f h k t) needs = by_answer w (any.File (files.MakeFile f h k t)) _ refl (file_not_refused w s f h k t needs)
+    (file_made w s f h k t needs)
+file_kept w s (files.Grant f h k) needs = by_answer w (any.File (files.Grant f h k)) _ refl
+    (λ e. by_reading w _ s (file_grant_refused w f h k e)) (file_granted w s f h k needs)
+file_kept w s (files.Release f h) needs = by_answer w (any.File (files.Release f h)) _ refl (λ e. by_reading w _ s tt)
+    (λ e. file_released w s f h needs)
 
 -- Each request whose needs are met keeps the world sound, leaves what it does not touch, and teaches.
 pub row_kept : (w : World) → Sound w → (q : AnyReq) → Needs w q → Kept w (next w q) q

@@ -11,7 +11,7 @@ use Rattle.tect_ids.specs.declared.key.Upper.{Upper}
 use Rattle.tect_ids.specs.declared.key.Upper.TheVariants as uppers
 use Rattle.tect_ids.specs.Keys.{key_cmp}
 use Rattle.store_rules.specs.declared.names.Directory.{Directory}
-use Rattle.store_rules.specs.declared.names.Entry.{Entry}
+use Rattle.store_rules.specs.declared.names.DirectoryEntry.{DirectoryEntry}
 use Rattle.store_rules.specs.Names.{dir_lists}
 use Rattle.store_rules.specs.Files.{file_lists}
 use Rattle.store_rules.specs.Store.{Store}
@@ -41,7 +41,7 @@ abbrev pub dead_in : Store → DirId → OpId → Bool
 dead_in s d op = dead (get s.names.dirs d) op
 
 -- the hold of an entry
-abbrev pub hold_of : Option Entry → Option Hold
+abbrev pub hold_of : Option DirectoryEntry → Option Hold
 hold_of None = None
 hold_of (Some e) = Some e.hold
 
@@ -51,10 +51,11 @@ leads None = None
 leads (Some g) = Some (g.lower, uppers.Entry g.upper)
 
 -- of the entries: each one's hold is bound at just its key, and its node is at home there
-pub record SoundEntries (entries : FinMap key_cmp Entry) (standing : DirId → Bool) (given : Hold → Option Given)
+pub record SoundEntries (entries : FinMap key_cmp DirectoryEntry) (standing : DirId → Bool) (given : Hold → Option Given)
     (home : Node → Option Key) : Type 0 where
-  pub bound : (k : Key) (e : Entry) → get entries k ≡ Some e → given e.hold ≡ Some record { lower = e.node; upper = k; phase = Set }
-  pub at_home : (k : Key) (e : Entry) → get entries k ≡ Some e → home e.node ≡ Some k
+  pub bound : (k : Key) (e : DirectoryEntry) → get entries k ≡ Some e
+      → given e.hold ≡ Some record { lower = e.node; upper = k; phase = Set }
+  pub at_home : (k : Key) (e : DirectoryEntry) → get entries k ≡ Some e → home e.node ≡ Some k
   pub in_dir : (k : Key) → is_some (get entries k) ≡ true → standing k.dir ≡ true
   -- a hold that is bound is bound at its key
   pub set : (h : Hold) (g : Given) → given h ≡ Some g → g.phase ≡ Set → hold_of (get entries g.upper) ≡ Some h

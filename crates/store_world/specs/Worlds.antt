@@ -7,7 +7,7 @@ use Rattle.tect_ids.specs.declared.ids.Node.{Node}
 use Rattle.tect_ids.specs.declared.ids.Node.TheVariants.{Dir, File}
 use Rattle.tect_ids.specs.declared.key.Key.{Key}
 use Rattle.tect_ids.specs.Keys.{hold_eq, node_eq, node_cmp}
-use Rattle.store_rules.specs.declared.names.Entry.{Entry}
+use Rattle.store_rules.specs.declared.names.DirectoryEntry.{DirectoryEntry}
 use Rattle.store_rules.specs.declared.names.NameReq.{NameReq}
 use Rattle.store_rules.specs.declared.names.NameReq.TheVariants as names
 use Rattle.store_rules.specs.declared.files.FileReq.{FileReq}
@@ -59,7 +59,7 @@ given_up None = None
 given_up (Some g) = Some record { lower = g.lower; upper = g.upper; phase = Past }
 
 -- the holds once the entry at that key stands no more
-abbrev pub without_entry : (Hold → Option Given) → Key → Option Entry → Hold → Option Given
+abbrev pub without_entry : (Hold → Option Given) → Key → Option DirectoryEntry → Hold → Option Given
 without_entry given k None = given
 without_entry given k (Some e) = with_hold given e.hold (Some record { lower = e.node; upper = k; phase = Past })
 
@@ -73,7 +73,7 @@ abbrev pub ghost_granted : Ghost → Node → Hold → Key → Ghost
 ghost_granted g n h k = record g { given = with_hold g.given h (Some record { lower = n; upper = k; phase = Live }) }
 
 -- the entry at that key is replaced by one that names the node
-abbrev pub ghost_bound : Ghost → Option Entry → Key → Node → Hold → Ghost
+abbrev pub ghost_bound : Ghost → Option DirectoryEntry → Key → Node → Hold → Ghost
 ghost_bound g old k n h =
     record g {
       given = with_hold (without_entry g.given k old) h (Some record { lower = n; upper = k; phase = Set });
@@ -81,7 +81,7 @@ ghost_bound g old k n h =
     }
 
 -- the entry at that key is taken away
-abbrev pub ghost_unbound : Ghost → Option Entry → Key → Ghost
+abbrev pub ghost_unbound : Ghost → Option DirectoryEntry → Key → Ghost
 ghost_unbound g old k = record g { given = without_entry g.given k old }
 
 -- the hold is given up

@@ -30,7 +30,8 @@ use Rattle.script_forms.specs.Clients.{Seen, same_name, state_of, goes_on, takes
 use Rattle.script_forms.specs.Reading.{out_of_state}
 use Rattle.script_forms.specs.Spelling.{AreLines, seen_of, is_told, plan_lines, Spells}
 use Rattle.world_runs.specs.Served.{IsServed}
-use Rattle.world_runs.specs.Turns.{ClientTurn, Idle, Busy, Gone, TakesAct, turn_after, Turns, all_idle, with_turn, InTurnFrom}
+use Rattle.world_runs.specs.ClientStates.{ClientState, Idle, Busy, Gone, TakesAct, state_left_at, ClientStates, all_idle, with_state}
+use Rattle.world_runs.specs.ClientStates.{FitStatesFrom}
 use Rattle.world_runs.specs.Playable.{IsShallow, IsBounded, IsWithin, IsPlayable}
 
 -- ---- commands
@@ -91,24 +92,24 @@ bounded counts acts.Stop is fits = tt
 
 -- ---- the states of clients, by their numbers
 
-abbrev turn_of : ClientState → ClientTurn
+abbrev turn_of : ClientState → ClientState
 turn_of states.Idle = Idle
 turn_of states.Busy = Busy
 turn_of states.Gone = Gone
 
 -- the turns of actors from a number on are the states of these clients, and idle behind them
-abbrev Agree : Turns → ℕ → Seen → Type 0
+abbrev Agree : ClientStates → ℕ → Seen → Type 0
 Agree turns n [] = (a : ℕ) → n < a → turns a ≡ Idle
 Agree turns n (e ∷ seen) = (turns (n + 1) ≡ turn_of e.1) × Agree turns (n + 1) seen
 
-with_own : (turns : Turns) (a : ℕ) (t : ClientTurn) → with_turn turns a t a ≡ t
+with_own : (turns : ClientStates) (a : ℕ) (t : ClientState) → with_state turns a t a ≡ t
 with_own turns a t = grind (arith, num_eq_cases a a)
 
-with_other : (turns : Turns) (a : ℕ) (t : ClientTurn) (b : ℕ) → b ≢ a → with_turn turns a t b ≡ turns b
+with_other : (turns : ClientStates) (a : ℕ) (t : ClientState) (b : ℕ) → b ≢ a → with_state turns a t b ≡ turns b
 with_other turns a t b differs = grind (arith, num_eq_cases b a, differs)
 
-agree_below : (turns : Turns) (a : ℕ) (t : ClientTurn) (n : ℕ) (seen : Seen) → a ≤ n → Agree turns n seen
-    → Agree (with_turn turns a t) n seen
+agree_below : (turns : ClientStates) (a : ℕ) (t : ClientState) (n : ℕ) (seen : Seen) → a ≤ n → Agree turns n seen
+    → Agree (with_state turns a t) n seen
 agree_below turns a t n [] le agree = λ b lt. with_other turns a t b (λ e. omega (arith, e, le, lt)) ∙ agree b lt
 agree_below turns a t n (e ∷ seen) le agree =
     (with_other turns a t (n + 1) (λ h. omega (arith, h, le)) ∙ agree.0, agree_below turns a t (n + 1) seen (omega (arith, le)) agree.1)
@@ -117,7 +118,7 @@ module _ (eq : List ℕ → List ℕ → Bool) (name : List ℕ) where
   abbrev place : Seen → ℕ
   place seen = position_or_len (eq name) (keys_of seen)
 
-  agree_at : (turns : Turns) (n : ℕ) (seen : Seen) → Agree turns n seen
+  agree_at : (turns : ClientStates) (n : ℕ) (seen : Seen) → Agree turns n seen
       → turns (n + (place seen + 1)) ≡ turn_of (unwrap_or (lookup (eq name) seen) states.Idle)
   agree_at turns n [] agree = agree (n + 1) (omega arith)
   agree_at turns n (e ∷ seen) agree = by (agree_at turns (n + 1) seen agree.1) (eq name e.0) refl
@@ -127,8 +128,8 @@ module _ (eq : List ℕ → List ℕ → Bool) (name : List ℕ) where
       by others true h = rw h agree.0
       by others false h = rw h (ap turns (omega arith) ∙ others)
 
-  agree_set : (turns : Turns) (n : ℕ) (seen : Seen) (st : ClientState) → Agree turns n seen
-      → Agree (with_turn turns (n + (place seen + 1)) (turn_of st)) n (insert_entry eq seen name st)
+  agree_set : (turns : ClientStates) (n : ℕ) (seen : Seen) (st : ClientState) → Agree turns n seen
+      → Agree (with_state turns (n + (place seen + 1)) (turn_of st)) n (insert_entry eq seen name st)
   agree_set turns n [] st agree = (
     with_own turns (n + 1) (turn_of st),
     λ a lt. with_other turns (n + 1) (turn_of st) a (λ e. omega (arith, e, lt)) ∙ agree a
@@ -136,15 +137,15 @@ module _ (eq : List ℕ → List ℕ → Bool) (name : List ℕ) where
   )
   agree_set turns n (e ∷ seen) st agree = by (agree_set turns (n + 1) seen st agree.1) (eq name e.0) refl
     where
-      by : Agree (with_turn turns (n + 1 + (place seen + 1)) (turn_of st)) (n + 1) (insert_entry eq seen name st) → (b : Bool)
-          → eq name e.0 ≡ b → Agree (with_turn turns (n + (place (e ∷ seen) + 1)) (turn_of st)) n (insert_entry eq (e ∷ seen) name st)
+      by : Agree (with_state turns (n + 1 + (place seen + 1)) (turn_of st)) (n + 1) (insert_entry eq seen name st) → (b : Bool)
+          → eq name e.0 ≡ b → Agree (with_state turns (n + (place (e ∷ seen) + 1)) (turn_of st)) n (insert_entry eq (e ∷ seen) name st)
       by others true h = rw h
           (with_own turns (n + 1) (turn_of st), agree_below turns (n + 1) (turn_of st) (n + 1) seen (omega arith) agree.1)
       by others false h =
           let behind : n + 1 + (place seen + 1) ≡ n + (1 + place seen + 1) = omega arith in
           rw h (
             with_other turns (n + (1 + place seen + 1)) (turn_of st) (n + 1) (λ e. omega (arith, e)) ∙ agree.0,
-            subst (λ (a : ℕ). Agree (with_turn turns a (turn_of st)) (n + 1) (insert_entry eq seen name st)) behind others,
+            subst (λ (a : ℕ). Agree (with_state turns a (turn_of st)) (n + 1) (insert_entry eq seen name st)) behind others,
           )
 
   place_le : (seen : Seen) → place seen ≤ length seen
@@ -242,21 +243,21 @@ takes counts seen client (acts.Do c) is within =
     let p = plain c in
     let idle : turn_of (state_of seen client) ≡ Idle = begins_now (state_of seen client) p.0 p.3
     (sym (ap (out_of_state seen client) p.2) ∙ within) in
-    subst (λ (t : ClientTurn). TakesAct t (acts.Do c)) (sym idle) (serves counts c is)
+    subst (λ (t : ClientState). TakesAct t (acts.Do c)) (sym idle) (serves counts c is)
 takes counts seen client (acts.Begin c) is within =
     let idle : turn_of (state_of seen client) ≡ Idle = begins_now (state_of seen client) _ refl within in
-    subst (λ (t : ClientTurn). TakesAct t (acts.Begin c)) (sym idle) (serves counts c is)
+    subst (λ (t : ClientState). TakesAct t (acts.Begin c)) (sym idle) (serves counts c is)
 takes counts seen client (acts.Step n) is within =
     let busy : turn_of (state_of seen client) ≡ Busy = goes_now (state_of seen client) _ refl within in
-    subst (λ (t : ClientTurn). TakesAct t (acts.Step n)) (sym busy) tt
+    subst (λ (t : ClientState). TakesAct t (acts.Step n)) (sym busy) tt
 takes counts seen client acts.Run is within =
     let busy : turn_of (state_of seen client) ≡ Busy = goes_now (state_of seen client) _ refl within in
-    subst (λ (t : ClientTurn). TakesAct t acts.Run) (sym busy) tt
+    subst (λ (t : ClientState). TakesAct t acts.Run) (sym busy) tt
 takes counts seen client acts.Stop is within =
     let busy : turn_of (state_of seen client) ≡ Busy = goes_now (state_of seen client) _ refl within in
-    subst (λ (t : ClientTurn). TakesAct t acts.Stop) (sym busy) tt
+    subst (λ (t : ClientState). TakesAct t acts.Stop) (sym busy) tt
 
-same_turn : (act : Act) → turn_of (state_after act) ≡ turn_after act
+same_turn : (act : Act) → turn_of (state_after act) ≡ state_left_at act
 same_turn (acts.Do c) = refl
 same_turn (acts.Begin c) = refl
 same_turn (acts.Step n) = refl
@@ -265,22 +266,22 @@ same_turn acts.Stop = refl
 
 -- ---- the lines
 
-in_turn_from : (counts : Counts) (turns : Turns) (seen : Seen) (ls : List Line) → Agree turns 0 seen → length seen ≤ 64
-    → AreLines counts seen ls → InTurnFrom turns ls
+in_turn_from : (counts : Counts) (turns : ClientStates) (seen : Seen) (ls : List Line) → Agree turns 0 seen → length seen ≤ 64
+    → AreLines counts seen ls → FitStatesFrom turns ls
 in_turn_from counts turns seen [] agree few are = tt
 in_turn_from counts turns seen (lines.Client client actor act ∷ ls) agree few are =
     let o = (are.0).in_order in
     let here : 0 + (place same_name client seen + 1) ≡ actor = omega (arith, o.2) in
     let more = few_more seen client (state_after act) few o.1 in
     let turn : turns actor ≡ turn_of (state_of seen client) = ap turns (sym here) ∙ agree_at same_name client turns 0 seen agree in
-    let next : Agree (with_turn turns actor (turn_after act)) 0 (insert_entry same_name seen client (state_after act)) =
-    subst (λ (t : ClientTurn). Agree (with_turn turns actor t) 0 (insert_entry same_name seen client (state_after act))) (same_turn act)
-    (subst (λ (a : ℕ). Agree (with_turn turns a (turn_of (state_after act))) 0 (insert_entry same_name seen client (state_after act))) here
+    let next : Agree (with_state turns actor (state_left_at act)) 0 (insert_entry same_name seen client (state_after act)) =
+    subst (λ (t : ClientState). Agree (with_state turns actor t) 0 (insert_entry same_name seen client (state_after act))) (same_turn act)
+    (subst (λ (a : ℕ). Agree (with_state turns a (turn_of (state_after act))) 0 (insert_entry same_name seen client (state_after act))) here
     (agree_set same_name client turns 0 seen (state_after act) agree)) in (
       omega (arith, o.2),
       omega (arith, o.2, more.0),
-      subst (λ (t : ClientTurn). TakesAct t act) (sym turn) (takes counts seen client act ((are.0).form).1 o.0),
-      in_turn_from counts (with_turn turns actor (turn_after act)) (insert_entry same_name seen client (state_after act)) ls next more.1
+      subst (λ (t : ClientState). TakesAct t act) (sym turn) (takes counts seen client act ((are.0).form).1 o.0),
+      in_turn_from counts (with_state turns actor (state_left_at act)) (insert_entry same_name seen client (state_after act)) ls next more.1
           are.1,
     )
 in_turn_from counts turns seen (lines.Dump ∷ ls) agree few are = in_turn_from counts turns seen ls agree few are.1

@@ -12,7 +12,7 @@ use Rattle.tect_ids.specs.declared.script.ReportLine.TheVariants as report_lines
 use Rattle.store_rules.specs.Dumps.{store_dump}
 use Rattle.program_rules.specs.Lacks.{IsLack}
 use Rattle.world_runs.specs.declared.event.Event.{Event}
-use Rattle.world_runs.specs.declared.event.Event.TheVariants.{Began, Refused, Acted, Ended, Stopped, Failed, Dumped}
+use Rattle.world_runs.specs.declared.event.Event.TheVariants.{Began, NotBegun, Acted, Ended, Stopped, Failed, Dumped}
 use Rattle.world_runs.specs.Follows.{Follows}
 use Rattle.world_runs.specs.Limits.{KeepsLimits}
 use Rattle.world_runs.specs.Moments.{WorldState, after, opening, moment, RunFrom, IsWorldRun}
@@ -51,7 +51,7 @@ event_not_odd counts clients before (Failed op a) run may =
 event_not_odd counts clients before (Stopped op) run may = (λ name number steps place is. absurd cc, tt)
 event_not_odd counts clients before Dumped run may = dump_not_odd (store_dump (moment counts before).store)
 event_not_odd counts clients before (Began op c) run may = tt
-event_not_odd counts clients before (Refused op c) run may = tt
+event_not_odd counts clients before (NotBegun op c) run may = tt
 event_not_odd counts clients before (Acted op q x) run may = tt
 
 none_odd_after : (counts : Counts) (clients : List (List ℕ)) (before es : List Event) → IsWorldRun counts before

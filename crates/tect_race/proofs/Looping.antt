@@ -9,7 +9,7 @@ use Rattle.tect_ids.specs.declared.script.Line.{Line}
 use Rattle.tect_ids.specs.declared.script.Line.TheVariants as lines
 use Rattle.tect_ids.specs.declared.script.ReportLine.{ReportLine}
 use Rattle.entry_words.specs.Moments.{stamp_of}
-use Rattle.world_runs.specs.Turns.{all_idle}
+use Rattle.world_runs.specs.ClientStates.{all_idle}
 use Rattle.clients.specs.Lives.{ClientLife, idle_life, events_in, state_in}
 use Rattle.passes.specs.declared.pass.Pass.{Pass}
 use Rattle.race_runs.specs.Stories.{Story, Part}
@@ -19,7 +19,7 @@ use Rattle.players.specs.declared.racer.Racer.{Racer}
 use Rattle.players.specs.Lives.{busy_in}
 use Rattle.race_ends.specs.declared.ended.EndedPart.{EndedPart}
 use Rattle.race_ends.specs.HaveRun.{clocks_of, HasStory, HaveAnswers, HaveRun}
-use Rattle.world_runs.specs.Standing.{AtTurn}
+use Rattle.world_runs.specs.Standing.{IsInState}
 use Rattle.tect_ids.specs.Places.{HasPlaces}
 use Rattle.tect_race.specs.Lines.{Ran}
 use Rattle.tect_race.specs.Workers.{RacersRan, AllClosed, Closed}
@@ -118,7 +118,7 @@ ready_closed counts ls k r t closed ready = record {
   counts_are = ap (λ (w : ClientLife). w.counts) closed.client ∙ ready.counts_are;
   turns = ready.turns;
   in_turn = ready.in_turn;
-  turn = subst (λ (w : ClientLife). AtTurn (ready.turns w.actor) (state_in w)) (sym closed.client) ready.turn;
+  turn = subst (λ (w : ClientLife). IsInState (ready.turns w.actor) (state_in w)) (sym closed.client) ready.turn;
   few = (let f = ready.few in let n = ap (λ (w : ClientLife). (state_in w).number) closed.client in omega arith);
 }
 

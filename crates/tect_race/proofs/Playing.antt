@@ -5,14 +5,15 @@ use Rattle.std.proofs.lemmas.List.Elements.{All-from_recursion}
 use Rattle.tect_ids.specs.declared.script.Line.{Line}
 use Rattle.tect_ids.specs.declared.script.Line.TheVariants as lines
 use Rattle.tect_ids.specs.declared.script.Plan.{Plan}
-use Rattle.world_runs.specs.Turns.{Turns, InTurnFrom, with_turn, turn_after, all_idle}
+use Rattle.world_runs.specs.ClientStates.{ClientStates, FitStatesFrom, with_state, state_left_at, all_idle}
 use Rattle.race_runs.specs.Gathered.{IsLineOf}
 use Rattle.tect_race.specs.Done.{IsScript}
 use Rattle.world_runs.specs.Playable.{IsWithin, IsPlayable}
 
-asked : (n : ℕ) (turns : Turns) (ls : List Line) → InTurnFrom turns ls → AllByRecursion (IsWithin n) ls → AllByRecursion (IsLineOf n) ls
+asked : (n : ℕ) (turns : ClientStates) (ls : List Line) → FitStatesFrom turns ls → AllByRecursion (IsWithin n) ls
+    → AllByRecursion (IsLineOf n) ls
 asked n turns [] t w = tt
-asked n turns (lines.Client client actor act ∷ ls) t w = ((t.0, (w.0).0), asked n (with_turn turns actor (turn_after act)) ls t.3 w.1)
+asked n turns (lines.Client client actor act ∷ ls) t w = ((t.0, (w.0).0), asked n (with_state turns actor (state_left_at act)) ls t.3 w.1)
 asked n turns (lines.Dump ∷ ls) t w = (tt, asked n turns ls t w.1)
 asked n turns (lines.Store counts ∷ ls) t w = absurd t
 asked n turns (lines.Sweep ∷ ls) t w = absurd t

@@ -13,8 +13,8 @@ use Rattle.entry_words.specs.Moments.{rises, stamp_of}
 use Rattle.world_runs.specs.declared.event.Event.{Event}
 use Rattle.world_runs.specs.Races.{line_concerns, own_lines}
 use Rattle.world_runs.specs.Follows.{DoesLine}
-use Rattle.world_runs.specs.Turns.{ClientTurn, Turns, turn_after, with_turn}
-use Rattle.world_runs.specs.Standing.{AtTurn}
+use Rattle.world_runs.specs.ClientStates.{ClientState, ClientStates, state_left_at, with_state}
+use Rattle.world_runs.specs.Standing.{IsInState}
 use Rattle.world_runs.specs.ClientLines.{DoesLines}
 use Rattle.world_runs.proofs.Actors.{same_number, other_number, flipped}
 use Rattle.clients.specs.Lives.{ClientLife, events_in, state_in}
@@ -189,11 +189,11 @@ ran_on names ls (lines.Lose disk) r s t ran w = absurd w
 
 -- ---- readiness
 
-set_there : (turns : Turns) (actor other : ℕ) (turn : ClientTurn) → actor ≢ other → with_turn turns actor turn other ≡ turns other
+set_there : (turns : ClientStates) (actor other : ℕ) (turn : ClientState) → actor ≢ other → with_state turns actor turn other ≡ turns other
 set_there turns actor other turn ne =
     ap (λ (b : Bool). if b then turn else turns other) (flipped other actor ∙ other_number actor other ne)
 
-set_here : (turns : Turns) (actor other : ℕ) (turn : ClientTurn) → actor ≡ other → with_turn turns actor turn other ≡ turn
+set_here : (turns : ClientStates) (actor other : ℕ) (turn : ClientState) → actor ≡ other → with_state turns actor turn other ≡ turn
 set_here turns actor other turn is =
     ap (λ (b : Bool). if b then turn else turns other) (ap (λ k. eqb other k) is ∙ same_number other)
 
@@ -202,10 +202,10 @@ pub ready_on : (names : List (List ℕ)) (counts : Counts) (line : Line) (later 
 ready_on names counts (lines.Client client actor act) later r t ready (inl w) =
     subst (λ (x : Racer). IsReady counts later x) (sym w.1) (record {
       counts_are = ready.counts_are;
-      turns = with_turn ready.turns actor (turn_after act);
+      turns = with_state ready.turns actor (state_left_at act);
       in_turn = ready.in_turn.3;
-      turn = subst (λ (x : ClientTurn). AtTurn x (state_in r.client))
-          (sym (set_there ready.turns actor r.client.actor (turn_after act) w.0)) ready.turn;
+      turn = subst (λ (x : ClientState). IsInState x (state_in r.client))
+          (sym (set_there ready.turns actor r.client.actor (state_left_at act) w.0)) ready.turn;
       few = (let f = ready.few in omega arith);
     })
 ready_on names counts (lines.Client client actor act) later r t ready (inr w) =
@@ -213,10 +213,10 @@ ready_on names counts (lines.Client client actor act) later r t ready (inr w) =
     let own : t.client.actor ≡ r.client.actor = adds_actor names r t plays.news plays.more plays.adds in
     record {
       counts_are = adds_counts names r t plays.news plays.more plays.adds ∙ ready.counts_are;
-      turns = with_turn ready.turns actor (turn_after act);
+      turns = with_state ready.turns actor (state_left_at act);
       in_turn = ready.in_turn.3;
-      turn = subst (λ (x : ClientTurn). AtTurn x (state_in t.client))
-          (sym (set_here ready.turns actor t.client.actor (turn_after act) (w.0 ∙ sym own))) plays.turn;
+      turn = subst (λ (x : ClientState). IsInState x (state_in t.client))
+          (sym (set_here ready.turns actor t.client.actor (state_left_at act) (w.0 ∙ sym own))) plays.turn;
       few = (let f = ready.few in let g = plays.few in omega arith);
     }
 ready_on names counts lines.Dump later r t ready w = absurd w

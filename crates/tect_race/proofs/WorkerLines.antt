@@ -6,8 +6,8 @@ use Rattle.tect_ids.specs.declared.ids.Counts.{Counts}
 use Rattle.tect_ids.specs.declared.script.Act.{Act}
 use Rattle.tect_ids.specs.declared.script.Line.{Line}
 use Rattle.tect_ids.specs.declared.script.Line.TheVariants as lines
-use Rattle.world_runs.specs.Turns.{ClientTurn, TakesAct}
-use Rattle.world_runs.specs.Standing.{AtTurn}
+use Rattle.world_runs.specs.ClientStates.{ClientState, TakesAct}
+use Rattle.world_runs.specs.Standing.{IsInState}
 use Rattle.clients.specs.Lives.{state_in}
 use Rattle.players.specs.declared.racer.Racer.{Racer}
 use Rattle.tect_race.specs.declared.workers.Worker.{Worker}
@@ -175,10 +175,10 @@ module _ (counts : Counts) (names : List (List ℕ)) (clients worker_count : ℕ
       pub line_few : (state_in r.client).number + 1 < 2 ^ 31
       line_few = let f = racer_ready.few in omega arith
 
-      pub line_takes : (turn : ClientTurn) × AtTurn turn (state_in r.client) × TakesAct turn act
+      pub line_takes : (turn : ClientState) × IsInState turn (state_in r.client) × TakesAct turn act
       line_takes =
           let turns = racer_ready.turns in
-          (turns actor, subst (λ k. AtTurn (turns k) (state_in r.client)) actor_is racer_ready.turn, racer_ready.in_turn.2)
+          (turns actor, subst (λ k. IsInState (turns k) (state_in r.client)) actor_is racer_ready.turn, racer_ready.in_turn.2)
 
       pub line_plays : {E F : Type 0} → (o : Result (Unit {0}) E) (q : Result (Unit {0}) F) → (IsOk q → IsOk o) → (t : Racer) (d : Worker)
           → d.number ≡ c.number → d.racers.items ≡ set c.racers.items ((actor - 1) / worker_count) t

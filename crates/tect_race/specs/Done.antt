@@ -3,7 +3,7 @@ use Rattle.std.specs.Prelude.{◌≡◌, ℕ, ◌+◌, ◌<◌, ◌^◌, List, [
 use Rattle.std.specs.List.{All}
 use Rattle.tect_ids.specs.declared.ids.Counts.{Counts}
 use Rattle.tect_ids.specs.declared.script.Line.{Line}
-use Rattle.world_runs.specs.Turns.{InTurn}
+use Rattle.world_runs.specs.ClientStates.{FitStates}
 use Rattle.clients.specs.Lives.{idle_life}
 use Rattle.race_runs.specs.Gathered.{IsLineOf}
 use Rattle.players.specs.declared.racer.Racer.{Racer}
@@ -15,6 +15,6 @@ pub record AreNew (counts : Counts) (clients : ℕ) (rs : List Racer) : Type 0 w
 
 -- lines that are in turn, each a dump's or one of so many clients'
 pub record IsScript (clients : ℕ) (ls : List Line) : Type 0 where
-  pub in_turn : InTurn ls
+  pub in_turn : FitStates ls
   pub few : length ls < 2 ^ 31
   pub asked : All (IsLineOf clients) ls

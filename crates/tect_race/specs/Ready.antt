@@ -4,8 +4,8 @@ use Rattle.std.specs.List.{All}
 use Rattle.tect_ids.specs.declared.ids.Counts.{Counts}
 use Rattle.tect_ids.specs.declared.script.Line.{Line}
 use Rattle.tect_ids.specs.declared.script.Line.TheVariants as lines
-use Rattle.world_runs.specs.Turns.{Turns, InTurnFrom}
-use Rattle.world_runs.specs.Standing.{AtTurn}
+use Rattle.world_runs.specs.ClientStates.{ClientStates, FitStatesFrom}
+use Rattle.world_runs.specs.Standing.{IsInState}
 use Rattle.clients.specs.Lives.{state_in}
 use Rattle.players.specs.declared.racer.Racer.{Racer}
 use Rattle.tect_race.specs.declared.workers.Worker.{Worker}
@@ -18,9 +18,9 @@ IsOfClient clients line = ⊥
 -- The lines are in turn from where its last line left it, and its ops stay few.
 pub record IsReady (counts : Counts) (ls : List Line) (r : Racer) : Type 0 where
   pub counts_are : r.client.counts ≡ counts
-  pub turns : Turns
-  pub in_turn : InTurnFrom turns ls
-  pub turn : AtTurn (turns r.client.actor) (state_in r.client)
+  pub turns : ClientStates
+  pub in_turn : FitStatesFrom turns ls
+  pub turn : IsInState (turns r.client.actor) (state_in r.client)
   pub few : (state_in r.client).number + length ls < 2 ^ 31
 
 -- Of so many clients the worker of a worker has those whose number, from 0, leaves the worker's number when it is divided by that

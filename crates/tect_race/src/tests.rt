@@ -1,6 +1,6 @@
 ghost use Rattle.std.specs.Prelude.{◌≡◌, ◌≤◌, ◌<◌, ◌^◌, List, ℕ, [], IfOk, OnOk, length};
 ghost use Rattle.std.specs.List.{AllByRecursion};
-ghost use Rattle.world_runs.specs.Turns.{InTurn};
+ghost use Rattle.world_runs.specs.ClientStates.{FitStates};
 ghost use Rattle.world_runs.specs.Playable.{IsPlayable, IsWithin};
 
 use crate::race;
@@ -53,7 +53,7 @@ fn line(alloc: Global, actor: u32, act: Act) -> Result<Line, Fail>
 /// Each of two clients creates a file in the root, and then comes a dump.
 fn ask_two_files(alloc: Global, lines: &mut Items<Line>) -> Result<(), Fail>
     requires { lines.old ≡ [] }
-    ensures turns { OnOk result (InTurn lines.new) }
+    ensures turns { OnOk result (FitStates lines.new) }
     ensures few { OnOk result (length lines.new < 2 ^ 31) }
     ensures within { OnOk result (AllByRecursion (IsWithin 2) lines.new) }
 {
@@ -69,7 +69,7 @@ fn ask_two_files(alloc: Global, lines: &mut Items<Line>) -> Result<(), Fail>
 /// behind that.
 fn ask_with_stop(alloc: Global, lines: &mut Items<Line>) -> Result<(), Fail>
     requires { lines.old ≡ [] }
-    ensures turns { OnOk result (InTurn lines.new) }
+    ensures turns { OnOk result (FitStates lines.new) }
     ensures few { OnOk result (length lines.new < 2 ^ 31) }
     ensures within { OnOk result (AllByRecursion (IsWithin 2) lines.new) }
 {
@@ -87,7 +87,7 @@ fn ask_with_stop(alloc: Global, lines: &mut Items<Line>) -> Result<(), Fail>
 }
 
 fn plan_of(alloc: Global, lines: Items<Line>) -> Result<Plan, Fail>
-    requires turns { InTurn lines }
+    requires turns { FitStates lines }
     requires few { length lines < 2 ^ 31 }
     requires within { AllByRecursion (IsWithin 2) lines }
     ensures playable { IfOk result IsPlayable }
@@ -111,7 +111,7 @@ fn report_of<R: Threads + Wait + Sync, G: Gate + Sync>(
     workers: u32,
     gate: &G,
 ) -> Result<Vec<ReportLine>, Fail>
-    requires turns { InTurn lines }
+    requires turns { FitStates lines }
     requires few { length lines < 2 ^ 31 }
     requires within { AllByRecursion (IsWithin 2) lines }
     requires workers { (1 ≤ workers) × (workers ≤ 64) }

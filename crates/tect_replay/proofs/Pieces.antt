@@ -17,9 +17,11 @@ joined front waiting first next is = sym (append_assoc front waiting next) ∙ a
 
 pub more_after : (old mid new : Option (List ℕ)) (first waiting next rest : List ℕ) → AppendsAllBut old mid first waiting
     → AppendsAllBut mid new (waiting ++ next) rest → AppendsAllBut old new (first ++ next) rest
-more_after old mid new first waiting next rest (front, is, appends) (further, rest_is, then) =
-    (front ++ further, append_assoc front further rest ∙ ap (λ (l : List ℕ). front ++ l) rest_is ∙ joined front waiting first next is,
-        Appends-trans old mid new front further appends then)
+more_after old mid new first waiting next rest (front, is, appends) (further, rest_is, then) = (
+  front ++ further,
+  append_assoc front further rest ∙ ap (λ (l : List ℕ). front ++ l) rest_is ∙ joined front waiting first next is,
+  Appends-trans old mid new front further appends then,
+)
 
 pub prefix_after : (old mid new : Option (List ℕ)) (first waiting next : List ℕ) → AppendsAllBut old mid first waiting
     → AppendsPrefix mid new (waiting ++ next) → AppendsPrefix old new (first ++ next)

@@ -1,6 +1,6 @@
 -- How far a replay has come.
-use Rattle.std.proofs.Common.{◌≡◌, Bool, true, false, ℕ, zero, suc, ◌+◌, ◌<◌, ◌≤◌, Option, List, [], ◌∷◌, ◌++◌, length, get_or, take, drop,
-    length-take, refl, sym, ap, subst, ◌∙◌, append_assoc, arith}
+use Rattle.std.proofs.Common.{◌≡◌, Bool, true, false, ℕ, zero, suc, ◌+◌, ◌<◌, ◌≤◌, Option, List, [], ◌∷◌, ◌++◌, length, get_or, take, drop}
+use Rattle.std.proofs.Common.{length-take, refl, sym, ap, subst, ◌∙◌, append_assoc, arith}
 use Rattle.std.specs.List.{AllByRecursion}
 use Rattle.std.proofs.lemmas.List.{take_all, take_more, take-append-drop, append-nil}
 use Rattle.tect_ids.specs.declared.ids.Counts.{Counts}
@@ -10,16 +10,17 @@ use Rattle.tect_ids.specs.declared.script.Line.TheVariants as lines
 use Rattle.tect_ids.specs.declared.script.Plan.{Plan}
 use Rattle.tect_ids.specs.declared.script.ReportLine.{ReportLine}
 use Rattle.world_runs.specs.declared.event.Event.{Event}
-use Rattle.world_runs.specs.declared.event.Event.TheVariants.{Began, Refused, Acted, Ended, Stopped, Failed, Dumped}
+use Rattle.world_runs.specs.declared.event.Event.TheVariants.{Began, NotBegun, Acted, Ended, Stopped, Failed, Dumped}
 use Rattle.world_runs.specs.Moments.{opening, moment, IsWorldRun}
 use Rattle.world_runs.specs.Follows.{Follows, FollowsFrom}
-use Rattle.world_runs.specs.Turns.{Turns, TakesAct, turn_after, with_turn, all_idle, turns_after, InTurn, InTurnFrom}
+use Rattle.world_runs.specs.ClientStates.{ClientStates, TakesAct, state_left_at, with_state, all_idle, states_after, FitStates}
+use Rattle.world_runs.specs.ClientStates.{FitStatesFrom}
 use Rattle.world_runs.specs.Report.{report_after}
 use Rattle.script_runs.proofs.Histories.{report-append}
 use Rattle.world_runs.specs.Standing.{busy_at}
 use Rattle.world_runs.specs.Smooth.{EndsAtOnce}
 use Rattle.script_runs.proofs.AtOnce.{at_once-append}
-use Rattle.script_runs.proofs.FollowOn.{run_follows_on, stands_by_turn}
+use Rattle.script_runs.proofs.FollowOn.{run_follows_on, stands_by_state}
 use Rattle.script_runs.specs.RunningOut.{RefusesAsFull}
 use Rattle.script_runs.proofs.RunOut.{each_script_can_be_run_out}
 use Rattle.world_runs.specs.Limits.{KeepsLimits, KeepsLimitsAfter, EndsFull, used}
@@ -34,18 +35,19 @@ use Rattle.tect_replay.proofs.Texts.{prefix_longer, prefix_less, lines-append}
 
 -- ---- turns
 
-turn_behind : (turns : Turns) (front back : List Line) → InTurnFrom turns (front ++ back) → InTurnFrom (turns_after turns front) back
+turn_behind : (turns : ClientStates) (front back : List Line) → FitStatesFrom turns (front ++ back)
+    → FitStatesFrom (states_after turns front) back
 turn_behind turns [] back is = is
-turn_behind turns (lines.Client client actor act ∷ ls) back is = turn_behind (with_turn turns actor (turn_after act)) ls back is.3
+turn_behind turns (lines.Client client actor act ∷ ls) back is = turn_behind (with_state turns actor (state_left_at act)) ls back is.3
 turn_behind turns (lines.Dump ∷ ls) back is = turn_behind turns ls back is
 turn_behind turns (lines.Store counts ∷ ls) back is = absurd is
 turn_behind turns (lines.Sweep ∷ ls) back is = absurd is
 turn_behind turns (lines.Lose disk ∷ ls) back is = absurd is
 
-turn_front : (turns : Turns) (front back : List Line) → InTurnFrom turns (front ++ back) → InTurnFrom turns front
+turn_front : (turns : ClientStates) (front back : List Line) → FitStatesFrom turns (front ++ back) → FitStatesFrom turns front
 turn_front turns [] back is = tt
 turn_front turns (lines.Client client actor act ∷ ls) back is =
-    (is.0, is.1, is.2, turn_front (with_turn turns actor (turn_after act)) ls back is.3)
+    (is.0, is.1, is.2, turn_front (with_state turns actor (state_left_at act)) ls back is.3)
 turn_front turns (lines.Dump ∷ ls) back is = turn_front turns ls back is
 turn_front turns (lines.Store counts ∷ ls) back is = absurd is
 turn_front turns (lines.Sweep ∷ ls) back is = absurd is
@@ -73,7 +75,7 @@ all_at P (y ∷ ys) (suc i) x lt all = all_at P ys i x (omega (arith, lt)) all.1
 split_at : {X : Type 0} (xs : List X) (i : ℕ) (x : X) → i < length xs → x ≡ get_or xs i x → xs ≡ take i xs ++ x ∷ drop (i + 1) xs
 split_at xs i x lt at =
     sym (take-append-drop (i + 1) xs) ∙ ap (λ l. l ++ drop (i + 1) xs) (take_more xs i x lt ∙ ap (λ d. take i xs ++ d ∷ []) (sym at)) ∙
-        append_assoc (take i xs) (x ∷ []) (drop (i + 1) xs)
+    append_assoc (take i xs) (x ∷ []) (drop (i + 1) xs)
 
 module _ (plan : Plan) (i : ℕ) (world : Life) (line : Line) (is : IsPlayable plan) (lt : i < length plan.lines)
     (at : line ≡ get_or plan.lines i line)
@@ -81,22 +83,25 @@ module _ (plan : Plan) (i : ℕ) (world : Life) (line : Line) (is : IsPlayable p
   split : plan.lines ≡ take i plan.lines ++ line ∷ drop (i + 1) plan.lines
   split = split_at plan.lines i line lt at
 
-  in_turn : InTurn (take i plan.lines ++ line ∷ drop (i + 1) plan.lines)
-  in_turn = subst InTurn split is.in_turn
+  in_turn : FitStates (take i plan.lines ++ line ∷ drop (i + 1) plan.lines)
+  in_turn = subst FitStates split is.in_turn
 
   within : IsWithin (length plan.clients) line
   within = subst (IsWithin (length plan.clients)) (sym at) (all_at (IsWithin (length plan.clients)) plan.lines i line lt is.within)
 
-  can_do : (actor : ℕ) (act : Act) → TakesAct (turns_after all_idle (take i plan.lines) actor) act
+  can_do : (actor : ℕ) (act : Act) → TakesAct (states_after all_idle (take i plan.lines) actor) act
       → CanDo ((present world).actors actor) act
   can_do actor act takes =
-      let s = stands_by_turn plan.counts (take i plan.lines) world.history
-          (turn_front all_idle (take i plan.lines) (line ∷ drop (i + 1) plan.lines) in_turn) r.run r.follows actor in
-      rw r.counts (record
-          { few = omega (arith, s.began, is.few, lt, length-take i plan.lines); turn = turns_after all_idle (take i plan.lines) actor;
-          stands = s.stands; takes = takes })
+      let s = stands_by_state plan.counts (take i plan.lines) world.history
+      (turn_front all_idle (take i plan.lines) (line ∷ drop (i + 1) plan.lines) in_turn) r.run r.follows actor in
+      rw r.counts (record {
+        few = omega (arith, s.began, is.few, lt, length-take i plan.lines);
+        turn = states_after all_idle (take i plan.lines) actor;
+        stands = s.stands;
+        takes = takes;
+      })
 
-  can_play_by : (l : Line) → InTurnFrom (turns_after all_idle (take i plan.lines)) (l ∷ drop (i + 1) plan.lines)
+  can_play_by : (l : Line) → FitStatesFrom (states_after all_idle (take i plan.lines)) (l ∷ drop (i + 1) plan.lines)
       → IsWithin (length plan.clients) l → CanPlay (length plan.clients) world l
   can_play_by (lines.Client client actor act) t w = (t.0, t.1, w.0, can_do actor act t.2)
   can_play_by lines.Dump t w = tt
@@ -142,7 +147,7 @@ module _ (plan : Plan) (i : ℕ) (world : Life) (line : Line) (is : IsPlayable p
         ∙ ap lines_text (report-append plan.counts plan.clients [] world.history plays.part)
         ∙ lines-append (plan_report plan world.history) (report_after plan.counts plan.clients world.history plays.part)
         ∙ ap (λ (k : Counts). lines_text (plan_report plan world.history) ++ lines_text
-            (report_after k plan.clients world.history plays.part)) (sym r.counts)
+        (report_after k plan.clients world.history plays.part)) (sym r.counts)
         ∙ ap (λ (l : List ReportLine). lines_text (plan_report plan world.history) ++ lines_text l) plays.shows
 
 -- ---- a report that was cut off, and a whole one
@@ -168,14 +173,16 @@ refuses_so : (counts : Counts) (before es : List Event) → RefusesAsFull is_ful
 refuses_so counts before [] is = tt
 refuses_so counts before (Began op c ∷ es) is =
     (not_full (used before op.actor + 1) is.0, refuses_so counts (before ++ Began op c ∷ []) es is.1)
-refuses_so counts before (Refused op c ∷ es) is =
-    (now_full (used before op.actor + 1) is.0, refuses_so counts (before ++ Refused op c ∷ []) es is.1)
+refuses_so counts before (NotBegun op c ∷ es) is =
+    (now_full (used before op.actor + 1) is.0, refuses_so counts (before ++ NotBegun op c ∷ []) es is.1)
 refuses_so counts before (Acted op q x ∷ es) is = absurd is
 refuses_so counts before (Ended op a ∷ es) is = (tt, refuses_so counts (before ++ Ended op a ∷ []) es is)
 refuses_so counts before (Stopped op ∷ es) is = (tt, refuses_so counts (before ++ Stopped op ∷ []) es is)
-refuses_so counts before (Failed op a ∷ es) is =
-    (subst (EndsFull counts before ((moment counts before).actors op.actor) op) (sym is.0) tt, refuses_so counts
-        (before ++ Failed op a ∷ []) es is.1)
+refuses_so counts before (Failed op a ∷ es) is = (
+  subst (EndsFull counts before ((moment counts before).actors op.actor) op) (sym is.0) tt,
+  refuses_so counts
+      (before ++ Failed op a ∷ []) es is.1,
+)
 refuses_so counts before (Dumped ∷ es) is = (tt, refuses_so counts (before ++ Dumped ∷ []) es is)
 
 pub cut_by : (plan : Plan) (n : ℕ) (world : Life) (old new : Option (List ℕ)) → IsPlayable plan → HasPlayed plan (take n plan.lines) world
@@ -183,12 +190,12 @@ pub cut_by : (plan : Plan) (n : ℕ) (world : Life) (old new : Option (List ℕ)
 cut_by plan n world old new is r part =
     let all : take n plan.lines ++ drop n plan.lines ≡ plan.lines = take-append-drop n plan.lines in
     let on = each_script_can_be_run_out is_full plan.counts (take n plan.lines) (drop n plan.lines) world.history (rw all is.in_turn)
-        (rw all is.few) r.run r.follows in
+    (rw all is.few) r.run r.follows in
     let whole : List Event = world.history ++ on.0 in
     let shown : plan_report plan whole ≡ plan_report plan world.history ++ report_after plan.counts plan.clients world.history on.0 =
-        report-append plan.counts plan.clients [] world.history on.0 in
+    report-append plan.counts plan.clients [] world.history on.0 in
     let text : lines_text (plan_report plan whole) ≡ lines_text (plan_report plan world.history) ++ lines_text
-        (report_after plan.counts plan.clients world.history on.0) =
+    (report_after plan.counts plan.clients world.history on.0) =
     ap lines_text shown ∙ lines-append (plan_report plan world.history) (report_after plan.counts plan.clients world.history on.0) in
     record {
       history = whole;

@@ -24,7 +24,7 @@ line_front ls i = ap lines_text (sym (take-append-drop i ls)) ∙ lines-append (
 pub report_part : (ls : List ReportLine) (i : ℕ) (l : ReportLine) (old mid new : Option (List ℕ)) (rest : List ℕ) → i < length ls
     → l ≡ get_or ls i l
     → AppendsAllBut old mid (lines_text (take i ls)) rest → AppendsPrefix mid new (rest ++ line_text l)
-        → AppendsProperPrefix old new (lines_text ls ++ end_text)
+    → AppendsProperPrefix old new (lines_text ls ++ end_text)
 report_part ls i l old mid new rest lt at first part =
     prefix_less old new (lines_text ls) end_text
     (rw (line_front ls (i + 1)) (prefix_longer old new (lines_text (take (i + 1) ls)) (lines_text (drop (i + 1) ls))

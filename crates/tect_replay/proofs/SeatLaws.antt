@@ -47,7 +47,7 @@ seat_state : (p q : Seat) (a b : Life) (es : List Event) → SeatGrew p a q b es
     → (present b).actors q.actor ≡ own_state a.counts ((present a).actors p.actor) es
 seat_state p q a b es g =
     ap (λ (s : Seat). (present b).actors s.actor) g.seat ∙ ap (λ (m : WorldState). m.actors p.actor)
-        (ap present g.history ∙ present-grown a es)
+    (ap present g.history ∙ present-grown a es)
     ∙ actors_are_their_own (present a) es p.actor
     ∙ ap (λ (k : Counts). own_state k ((present a).actors p.actor) (own p.actor es)) (counts_stay (opening a.counts) a.history)
     ∙ ap (own_state a.counts ((present a).actors p.actor)) g.mine

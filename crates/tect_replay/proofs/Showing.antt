@@ -27,11 +27,11 @@ own_report counts clients actor before [] all = refl
 own_report counts clients actor before (e ∷ es) all =
     ap (λ (b : Bool). (if b then lines_at counts clients before e else []) ++ report_after counts clients (before ++ e ∷ []) es) (sym all.0)
     ∙ ap (λ (l : List ReportLine). (if is_own actor e then lines_at counts clients before e else []) ++ l)
-        (own_report counts clients actor (before ++ e ∷ []) es all.1)
+    (own_report counts clients actor (before ++ e ∷ []) es all.1)
 
 pub seat_played : (clients : List (List ℕ)) (name : List ℕ) (act : Act) (s t : Seat) (old new : Life) (told : Option ReportLine)
     → Played (λ (w : Life). w.counts) (λ (p : Seat). p.actor) (λ (p : Seat) (w : Life). w.history)
-        (λ (p : Seat) (w : Life). (present w).actors p.actor) SeatGrew clients act s old t new told → IsKeptRun new
+    (λ (p : Seat) (w : Life). (present w).actors p.actor) SeatGrew clients act s old t new told → IsKeptRun new
     → PlaysLine clients (lines.Client name s.actor act) old new (told_lines told)
 seat_played clients name act s t old new told played run =
     let g : SeatGrew s old t new played.part = played.grown in

@@ -1,6 +1,6 @@
 -- What the calls on an actor make of the world, as steps of a player.
-use Rattle.std.proofs.Common.{◌≡◌, ℕ, ◌+◌, ◌<◌, ◌≤◌, inl, inr, true, eqb, Option, Some, None, is_some, List, [], ◌∷◌, ◌++◌, refl, sym, ap,
-    subst, ◌∙◌, arith}
+use Rattle.std.proofs.Common.{◌≡◌, ℕ, ◌+◌, ◌<◌, ◌≤◌, inl, inr, true, eqb, Option, Some, None, is_some, List, [], ◌∷◌, ◌++◌, refl, sym, ap}
+use Rattle.std.proofs.Common.{subst, ◌∙◌, arith}
 use Rattle.std.specs.Prelude.{IsSome}
 use Rattle.tect_ids.specs.declared.ids.OpId.{OpId}
 use Rattle.tect_ids.specs.declared.answer.Answer.{Answer}
@@ -9,7 +9,7 @@ use Rattle.tect_ids.proofs.KeyTests.{num_eq_cases}
 use Rattle.store_rules.specs.declared.any.AnyReq.{AnyReq}
 use Rattle.store_rules.specs.Store.{store_reply}
 use Rattle.world_runs.specs.declared.event.Event.{Event}
-use Rattle.world_runs.specs.declared.event.Event.TheVariants.{Began, Refused, Acted, Ended, Stopped, Failed, Dumped}
+use Rattle.world_runs.specs.declared.event.Event.TheVariants.{Began, NotBegun, Acted, Ended, Stopped, Failed, Dumped}
 use Rattle.world_runs.specs.Events.{own}
 use Rattle.world_runs.specs.Follows.{Acts, IsBeginOf, IsEndOf}
 use Rattle.world_runs.specs.Moments.{Actor, WorldState, IsWorldRun, RunFrom, after, answered, asked, opening, program_answer, program_of}
@@ -21,8 +21,8 @@ use Rattle.script_runs.proofs.AtOnce.{not_both}
 use Rattle.clients.specs.declared.turned.Turned.{Turned}
 use Rattle.clients.specs.declared.turned.Turned.TheVariants.{Going, Done}
 use Rattle.clients.specs.Turns.{turned_by}
-use Rattle.tect_world.specs.Life.{Life, present, grown, last_op, next_op, actor_asks, acted_actor, ended_actor, transaction, ending,
-    step_answer, step_events}
+use Rattle.tect_world.specs.Life.{Life, present, grown, last_op, next_op, actor_asks, acted_actor, ended_actor, transaction, ending}
+use Rattle.tect_world.specs.Life.{step_answer, step_events}
 use Rattle.tect_world.specs.Steps.{FailsWith, Stepped}
 use Rattle.tect_world.specs.Steps as world_steps
 use Rattle.tect_world.proofs.Lives.{present-grown}
@@ -40,7 +40,7 @@ same a = grind (arith, num_eq_cases a a)
 
 begin_own : (op : OpId) (c : Command) (e : Event) → IsBeginOf op c e → is_own op.actor e ≡ true
 begin_own op c (Began o d) is = ap (λ (p : OpId). eqb p.actor op.actor) is.0 ∙ same op.actor
-begin_own op c (Refused o d) is = ap (λ (p : OpId). eqb p.actor op.actor) is.0 ∙ same op.actor
+begin_own op c (NotBegun o d) is = ap (λ (p : OpId). eqb p.actor op.actor) is.0 ∙ same op.actor
 begin_own op c (Acted o q x) is = absurd is
 begin_own op c (Ended o a) is = absurd is
 begin_own op c (Stopped o) is = absurd is
@@ -51,7 +51,7 @@ end_own : (op : OpId) (e : Event) (a : Answer) → EndsWith op e a → is_own op
 end_own op (Ended o x) a is = ap (λ (p : OpId). eqb p.actor op.actor) is.0 ∙ same op.actor
 end_own op (Failed o x) a is = ap (λ (p : OpId). eqb p.actor op.actor) is.0 ∙ same op.actor
 end_own op (Began o c) a is = absurd is
-end_own op (Refused o c) a is = absurd is
+end_own op (NotBegun o c) a is = absurd is
 end_own op (Acted o q x) a is = absurd is
 end_own op (Stopped o) a is = absurd is
 end_own op Dumped a is = absurd is
@@ -60,9 +60,9 @@ acts_own : (op : OpId) (n : ℕ) (es : List Event) → Acts op n es → own op.a
 acts_own op n [] acts = refl
 acts_own op n (Acted o q x ∷ es) (is, (rest, count, acts)) =
     own-here op.actor (Acted o q x) es (ap (λ (p : OpId). eqb p.actor op.actor) is ∙ same op.actor) ∙ ap
-        (λ (l : List Event). Acted o q x ∷ l) (acts_own op rest es acts)
+    (λ (l : List Event). Acted o q x ∷ l) (acts_own op rest es acts)
 acts_own op n (Began o c ∷ es) acts = absurd acts
-acts_own op n (Refused o c ∷ es) acts = absurd acts
+acts_own op n (NotBegun o c ∷ es) acts = absurd acts
 acts_own op n (Ended o a ∷ es) acts = absurd acts
 acts_own op n (Stopped o ∷ es) acts = absurd acts
 acts_own op n (Failed o a ∷ es) acts = absurd acts
@@ -78,7 +78,7 @@ then_own op n es end a acts ends =
 
 begin_at_once : (m : WorldState) (op : OpId) (c : Command) (e : Event) → IsBeginOf op c e → EndsAtOnce m (e ∷ [])
 begin_at_once m op c (Began o d) is = (tt, tt)
-begin_at_once m op c (Refused o d) is = (tt, tt)
+begin_at_once m op c (NotBegun o d) is = (tt, tt)
 begin_at_once m op c (Acted o q x) is = absurd is
 begin_at_once m op c (Ended o a) is = absurd is
 begin_at_once m op c (Stopped o) is = absurd is
@@ -89,7 +89,7 @@ is_end : (op : OpId) (end : Event) (a : Answer) → EndsWith op end a → IsEndO
 is_end op (Ended o x) a ends = ends.0
 is_end op (Failed o x) a ends = ends.0
 is_end op (Began o c) a ends = absurd ends
-is_end op (Refused o c) a ends = absurd ends
+is_end op (NotBegun o c) a ends = absurd ends
 is_end op (Acted o q x) a ends = absurd ends
 is_end op (Stopped o) a ends = absurd ends
 is_end op Dumped a ends = absurd ends
@@ -100,7 +100,7 @@ next_ends m op n [] end a b acts ends run says = is_end op end a ends
 next_ends m op n (Acted o q x ∷ es) end a b acts ends run says = absurd
     (not_both m op q b (subst (λ (p : OpId). asked m p ≡ Some q) acts.0 (run.0).0) says)
 next_ends m op n (Began o c ∷ es) end a b acts ends run says = absurd acts
-next_ends m op n (Refused o c ∷ es) end a b acts ends run says = absurd acts
+next_ends m op n (NotBegun o c ∷ es) end a b acts ends run says = absurd acts
 next_ends m op n (Ended o c ∷ es) end a b acts ends run says = absurd acts
 next_ends m op n (Stopped o ∷ es) end a b acts ends run says = absurd acts
 next_ends m op n (Failed o c ∷ es) end a b acts ends run says = absurd acts
@@ -110,7 +110,7 @@ end_alone : (m : WorldState) (op : OpId) (end : Event) (a : Answer) → EndsWith
 end_alone m op (Ended o x) a ends = (tt, tt)
 end_alone m op (Failed o x) a ends = (tt, tt)
 end_alone m op (Began o c) a ends = absurd ends
-end_alone m op (Refused o c) a ends = absurd ends
+end_alone m op (NotBegun o c) a ends = absurd ends
 end_alone m op (Acted o q x) a ends = absurd ends
 end_alone m op (Stopped o) a ends = absurd ends
 end_alone m op Dumped a ends = absurd ends
@@ -121,11 +121,11 @@ ends_at_once m op n [] end a acts ends run = end_alone m op end a ends
 ends_at_once m op n (Acted o q x ∷ es) end a acts ends run = (
   λ b says. subst (λ (p : OpId). EndIsNext p (es ++ end ∷ [])) (sym acts.0)
       (next_ends (after m (Acted o q x)) op (acts.1).0 es end a b (acts.1).2 ends run.1
-          (subst (λ (p : OpId). answered (after m (Acted o q x)) p ≡ Some b) acts.0 says)),
+      (subst (λ (p : OpId). answered (after m (Acted o q x)) p ≡ Some b) acts.0 says)),
   ends_at_once (after m (Acted o q x)) op (acts.1).0 es end a (acts.1).2 ends run.1,
 )
 ends_at_once m op n (Began o c ∷ es) end a acts ends run = absurd acts
-ends_at_once m op n (Refused o c ∷ es) end a acts ends run = absurd acts
+ends_at_once m op n (NotBegun o c ∷ es) end a acts ends run = absurd acts
 ends_at_once m op n (Ended o c ∷ es) end a acts ends run = absurd acts
 ends_at_once m op n (Stopped o ∷ es) end a acts ends run = absurd acts
 ends_at_once m op n (Failed o c ∷ es) end a acts ends run = absurd acts
@@ -139,7 +139,7 @@ unanswered : (old new : Life) (actor : ℕ) → new ≡ grown old (step_events (
 unanswered old new actor grew none =
     let op : OpId = last_op (present old) actor in
     let acted : Actor = acted_actor (present old).counts (present old).store ((present old).actors actor)
-        (actor_asks ((present old).actors actor) op) in
+    (actor_asks ((present old).actors actor) op) in
     let stays : (present new).actors actor ≡ acted = own_after old new actor grew ∙ ap (ended_actor acted) none in
     ap (λ (s : Actor). program_answer (program_of s.running op)) stays ∙ none
 
@@ -182,7 +182,7 @@ module _ (s : Seat) (old new : Life) where
           mine = then_own op n es end a acts ends;
           at_once = ends_at_once (present old) op n es end a acts ends
               (run-rest (opening old.counts) old.history (es ++ end ∷ [])
-                  (subst (λ (w : Life). IsWorldRun w.counts w.history) grew now.run));
+              (subst (λ (w : Life). IsWorldRun w.counts w.history) grew now.run));
         };
       },
       few,
@@ -233,13 +233,13 @@ module _ (s : Seat) (old new : Life) where
         let none : step_answer (present old) op ≡ None = not_done _ turned in
         let p = some_of ((present old).actors s.actor).running running in
         goes_by asks (step_asks old s.actor p.0 run p.1 none)
-            (grew ∙ ap (λ (o : Option Answer). grown old (transaction (present old).store op asks ++ ending op o)) none)
-            (unanswered old new s.actor grew none)
+        (grew ∙ ap (λ (o : Option Answer). grown old (transaction (present old).store op asks ++ ending op o)) none)
+        (unanswered old new s.actor grew none)
     seat_steps Going (inr (a, lack, fails, turned)) = absurd cc
     seat_steps (Done a) (inl (grew, turned)) =
         let says : step_answer (present old) op ≡ Some a = is_done _ a turned in
         ends_by asks (Ended op a) a (refl, refl)
-            (grew ∙ ap (λ (o : Option Answer). grown old (transaction (present old).store op asks ++ ending op o)) says)
+        (grew ∙ ap (λ (o : Option Answer). grown old (transaction (present old).store op asks ++ ending op o)) says)
     seat_steps (Done a) (inr (x, lack, fails, turned)) = (let same : x ≡ a = cc in fails_by a (subst (FailsWith old new op) same fails))
 
     pub seat_nearer : Stepped old new op Going → room_at new s.actor < room_at old s.actor

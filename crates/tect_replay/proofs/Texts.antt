@@ -1,6 +1,6 @@
 -- Texts that are written one after another, and their fronts.
-use Rattle.std.proofs.Common.{◌≡◌, ℕ, ◌+◌, ◌<◌, List, [], ◌∷◌, ◌++◌, Option, length, get_or, take, drop, map, length-append, refl, sym, ap,
-    ◌∙◌, append_assoc, arith}
+use Rattle.std.proofs.Common.{◌≡◌, ℕ, ◌+◌, ◌<◌, List, [], ◌∷◌, ◌++◌, Option, length, get_or, take, drop, map, length-append, refl, sym, ap}
+use Rattle.std.proofs.Common.{◌∙◌, append_assoc, arith}
 use Rattle.std.specs.Io.KnownBytes.{Appends}
 use Rattle.std.proofs.KnownBytes.{Appends-trans, Appends-nil}
 use Rattle.std.proofs.Math.Seq.{take-append-add}
@@ -26,9 +26,12 @@ prefix_proper old new text (n, within, appends) = (n, omega (arith, within), app
 -- a front of the next piece, behind what was written
 pub prefix_then : (old mid new : Option (List ℕ)) (written piece : List ℕ) → Appends old mid written → AppendsPrefix mid new piece
     → AppendsPrefix old new (written ++ piece)
-prefix_then old mid new written piece first (n, within, then) =
-    (length written + n, omega (arith, length-append written piece), rw (take-append-add written piece n)
-        (Appends-trans old mid new written (take n piece) first then))
+prefix_then old mid new written piece first (n, within, then) = (
+  length written + n,
+  omega (arith, length-append written piece),
+  rw (take-append-add written piece n)
+      (Appends-trans old mid new written (take n piece) first then),
+)
 
 -- a front of a text is one of a longer text
 pub prefix_longer : (old new : Option (List ℕ)) (text more : List ℕ) → AppendsPrefix old new text → AppendsPrefix old new (text ++ more)
@@ -44,9 +47,12 @@ prefix_less old new text more (n, within, appends) some =
 -- a front of the last piece
 pub proper_then : (old mid new : Option (List ℕ)) (written piece : List ℕ) → Appends old mid written → AppendsProperPrefix mid new piece
     → AppendsProperPrefix old new (written ++ piece)
-proper_then old mid new written piece first (n, within, then) =
-    (length written + n, omega (arith, length-append written piece), rw (take-append-add written piece n)
-        (Appends-trans old mid new written (take n piece) first then))
+proper_then old mid new written piece first (n, within, then) = (
+  length written + n,
+  omega (arith, length-append written piece),
+  rw (take-append-add written piece n)
+      (Appends-trans old mid new written (take n piece) first then),
+)
 
 pub lines-append : (xs ys : List ReportLine) → lines_text (xs ++ ys) ≡ lines_text xs ++ lines_text ys
 lines-append [] ys = refl
@@ -78,5 +84,5 @@ pub dump_part : (ls : List DumpLine) (i : ℕ) (l : DumpLine) (old mid new : Opt
     → AppendsPrefix mid new (dump_text l ++ 10 ∷ []) → AppendsPrefix old new (lines_text (map lines.Dump ls))
 dump_part ls i l old mid new lt at first part =
     rw (dump_front ls (i + 1))
-        (prefix_longer old new (lines_text (map lines.Dump (take (i + 1) ls))) (lines_text (map lines.Dump (drop (i + 1) ls)))
+    (prefix_longer old new (lines_text (map lines.Dump (take (i + 1) ls))) (lines_text (map lines.Dump (drop (i + 1) ls)))
     (rw (dump_more ls i l lt at) (prefix_then old mid new (lines_text (map lines.Dump (take i ls))) (dump_text l ++ 10 ∷ []) first part)))

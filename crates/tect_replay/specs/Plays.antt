@@ -10,18 +10,18 @@ use Rattle.world_runs.specs.Moments.{Actor, IsWorldRun}
 use Rattle.world_runs.specs.Limits.{KeepsLimits}
 use Rattle.world_runs.specs.Follows.{FollowsFrom}
 use Rattle.world_runs.specs.Report.{report_after}
-use Rattle.world_runs.specs.Standing.{AtTurn, busy_at}
+use Rattle.world_runs.specs.Standing.{IsInState, busy_at}
 use Rattle.world_runs.specs.Smooth.{EndsAtOnce}
-use Rattle.world_runs.specs.Turns.{ClientTurn, TakesAct}
+use Rattle.world_runs.specs.ClientStates.{ClientState, TakesAct}
 use Rattle.tect_world.specs.Life.{Life, present, grown}
-use Rattle.tect_replay.specs.declared.lines.Shown.{Shown}
-use Rattle.tect_replay.specs.declared.lines.Shown.TheVariants as shown
+use Rattle.tect_replay.specs.declared.lines.LineOutput.{LineOutput}
+use Rattle.tect_replay.specs.declared.lines.LineOutput.TheVariants as shown
 
 -- what an act needs of its actor: it began few commands, and its turn takes the act
 pub record CanDo (a : Actor) (act : Act) : Type 0 where
   pub few : a.number + 1 < 2 ^ 31
-  pub turn : ClientTurn
-  pub stands : AtTurn turn a
+  pub turn : ClientState
+  pub stands : IsInState turn a
   pub takes : TakesAct turn act
 
 -- what a line needs: its client is one of so many, and may do what the line asks
@@ -31,7 +31,7 @@ CanPlay clients w lines.Dump = Unit {0}
 CanPlay clients w line = ⊥
 
 -- what a played line has to show
-abbrev pub shown_lines : Shown → List ReportLine
+abbrev pub shown_lines : LineOutput → List ReportLine
 shown_lines shown.Nothing = []
 shown_lines (shown.Answer line) = line ∷ []
 shown_lines (shown.Dump ls) = map report_lines.Dump ls.items

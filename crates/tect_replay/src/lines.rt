@@ -10,7 +10,7 @@ use tect_world::World;
 
 /// What a line of a script has to show.
 #[derive(Drop)]
-pub enum Shown {
+pub enum LineOutput {
     Nothing,
     Answer(ReportLine),
     Dump(Vec<DumpLine>),
@@ -23,7 +23,7 @@ fn play_act(
     world: &mut World,
     actor: u32,
     act: &Act,
-) -> Result<Shown, NoMemory>
+) -> Result<LineOutput, NoMemory>
     requires actor { (1 ≤ actor) × (actor ≤ 64) × (actor ≤ length clients.now) }
     requires can { CanDo ((present world.old).actors actor) act.now }
     ensures { (name : List ℕ)
@@ -33,8 +33,8 @@ fn play_act(
     let _running = world.is_running(actor);
     let mut seat = Seat { actor };
     match play(&mut seat, world, alloc, clients, act) {
-        Ok(None) => Ok(Shown::Nothing),
-        Ok(Some(line)) => Ok(Shown::Answer(line)),
+        Ok(None) => Ok(LineOutput::Nothing),
+        Ok(Some(line)) => Ok(LineOutput::Answer(line)),
         Err(RacerFault::NoMemory) => Err(NoMemory),
         // No request goes astray here.
         Err(RacerFault::Astray { .. }) => unreachable!(),
@@ -47,13 +47,13 @@ pub fn play_line(
     clients: &[Name],
     world: &mut World,
     line: &Line,
-) -> Result<Shown, NoMemory>
+) -> Result<LineOutput, NoMemory>
     requires { CanPlay (length clients.now) world.old line.now }
     ensures { IfOk result (λ shown. PlaysLine clients.now line.now world.old world.new (shown_lines shown)) }
 {
     match line {
         Line::Client { actor, act, .. } => play_act(alloc, clients, world, *actor, act),
-        Line::Dump => Ok(Shown::Dump(world.dump()?)),
+        Line::Dump => Ok(LineOutput::Dump(world.dump()?)),
         // No line in turn is one of these.
         Line::Store(_) | Line::Sweep | Line::Lose(_) => unreachable!(),
     }

@@ -7,7 +7,7 @@ ghost use Rattle.tect_replay.specs.Output.{line_text, lines_text, AppendsPrefix}
 ghost use Rattle.tect_replay.specs.Plays.{shown_lines};
 
 use crate::fault::ReplayFault;
-use crate::lines::Shown;
+use crate::lines::LineOutput;
 use tect_edge::{Sink, put_all};
 use tect_ids::{DumpLine, ReportLine};
 use tect_text::{write_answer, write_dump};
@@ -76,7 +76,7 @@ fn write_dump_lines<K: Sink>(
 
 /// Writes what a line of the script has to show, each line by one piece. The buffer is free to use.
 pub fn write_shown<K: Sink>(
-    shown: &Shown,
+    shown: &LineOutput,
     buffer: &mut Vec<u8>,
     sink: &mut K,
 ) -> Result<(), ReplayFault>
@@ -86,8 +86,8 @@ pub fn write_shown<K: Sink>(
     ensures failed { IsErrOf result ReplayFault.Failed → Rose (K.faults sink.old) (K.faults sink.new) }
 {
     match shown {
-        Shown::Nothing => Ok(()),
-        Shown::Answer(line) => write_line(line, buffer, sink),
-        Shown::Dump(lines) => write_dump_lines(lines, buffer, sink),
+        LineOutput::Nothing => Ok(()),
+        LineOutput::Answer(line) => write_line(line, buffer, sink),
+        LineOutput::Dump(lines) => write_dump_lines(lines, buffer, sink),
     }
 }

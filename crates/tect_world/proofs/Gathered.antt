@@ -1,6 +1,6 @@
 -- what the passes and the places of the world keep, gathered in one list, is its history
-use Rattle.std.proofs.Common.{◌≡◌, ℕ, ◌-◌, ◌≤◌, inl, inr, Bool, true, false, eqb, if◌then◌else◌, List, [], ◌++◌, map, refl, sym, subst,
-    arith}
+use Rattle.std.proofs.Common.{◌≡◌, ℕ, ◌-◌, ◌≤◌, inl, inr, Bool, true, false, eqb, if◌then◌else◌, List, [], ◌++◌, map, refl, sym, subst}
+use Rattle.std.proofs.Common.{arith}
 use Rattle.std.specs.Prelude.{IfOk, Result, Ok, Err}
 use Rattle.std.specs.List.{All, AllZip}
 use Rattle.std.proofs.lemmas.Bool.{cases_lt}
@@ -79,13 +79,13 @@ module _ (w : Inside) (is : IsWorld w) where
     pub all_agree : Agree ks ps
     all_agree =
         agree c ks w.shards.entries ps w.clock w.order.items (moments_by c ls) started kept is.noted (have_marks w is)
-            (of_actor w is ps taken) (of_pass w is ps taken) actors_differ
+        (of_actor w is ps taken) (of_pass w is ps taken) actors_differ
 
     pub gathered : (h : WorldHistory) → IsOneList ks ps h → IsGathered (life_of w) h
     gathered h g =
         let same : h.entries.items ≡ noted_in w =
         merged_is c ks w.shards.entries ps w.clock w.order.items (moments_by c ls) started kept is.noted (have_marks w is)
-            (of_actor w is ps taken) (of_pass w is ps taken) actors_differ
+        (of_actor w is ps taken) (of_pass w is ps taken) actors_differ
         h.entries.items g.whole g.order in
         record {
           told = subst (λ (ms : List Moment). Notes (life_of w).history ms) (sym same) noted_history;

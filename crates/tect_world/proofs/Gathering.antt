@@ -1,6 +1,6 @@
 -- what passes and places keep is one list, that of the moments in the order of the marks
-use Rattle.std.proofs.Common.{◌≡◌, ℕ, zero, suc, ◌+◌, ◌<◌, inl, inr, Some, List, [], ◌∷◌, length, get_or, map, refl, sym, ap, ◌∙◌, subst,
-    arith}
+use Rattle.std.proofs.Common.{◌≡◌, ℕ, zero, suc, ◌+◌, ◌<◌, inl, inr, Some, List, [], ◌∷◌, length, get_or, map, refl, sym, ap, ◌∙◌, subst}
+use Rattle.std.proofs.Common.{arith}
 use Rattle.std.specs.List.{All, Contains, flat_map, slice_get}
 use Rattle.std.specs.List.Sorted.{IsPermutation}
 use Rattle.std.proofs.lemmas.Bool.{cases_lt}
@@ -66,16 +66,16 @@ some_kept ks n e c = elim (cases_lt n (length ks)) [
   | inl lt ↦ lt
   | inr le ↦
       let past : get_or (map history_of ks) n [] ≡ [] = get_or_past (map history_of ks) n []
-          (let len = kept_length ks in omega (arith, len, le)) in
+      (let len = kept_length ks in omega (arith, len, le)) in
       absurd (in_from_contains [] e (subst (λ (es : List Entry). Contains es e) past c))
 ]
 
 module _ (counts : Counts) (ks : List AnyKept) (entries : List (List Entry)) (ps : List Pass) (clock : ℕ) (marks : List Mark)
     (own : ℕ → List Moment)
     (started : AreStarted counts ks) (kept : map history_of ks ≡ entries) (are : AreNoted clock entries (moments_in_order marks own))
-        (few : HaveMarks marks own)
+    (few : HaveMarks marks own)
     (of_actor : (b : ℕ) (z : Moment) → In z (own b) → (p : Pass) × In p ps × (moments_of p ≡ own b))
-        (of_pass : (p : Pass) → In p ps → (b : ℕ) × (moments_of p ≡ own b))
+    (of_pass : (p : Pass) → In p ps → (b : ℕ) × (moments_of p ≡ own b))
     (differ : HaveDifferentActors ps) where
   abbrev noted : List Moment
   noted = moments_in_order marks own
@@ -96,7 +96,7 @@ module _ (counts : Counts) (ks : List AnyKept) (entries : List (List Entry)) (ps
   trailed k there e i =
       let at = place_from_in ks k there in
       let here : Contains (get_or entries at.0 []) e = subst (λ (es : List Entry). Contains es e) (sym (at_place at.0 k at.1))
-          (contains_from_in (history_of k) e i) in
+      (contains_from_in (history_of k) e i) in
       let p = from_noted (Act e) (in_from_contains noted (Act e) (are.known at.0 e here).1) in
       trails_in ps p.0 e p.1 (entry_in (moments_of p.0) e p.2)
 
@@ -116,7 +116,7 @@ module _ (counts : Counts) (ks : List AnyKept) (entries : List (List Entry)) (ps
   agree =
       agreement ks ps (started_stand counts ks started) differ
       (in_all (λ k. All (Contains (trails ps)) (history_of k)) ks
-          (λ k there. in_all (Contains (trails ps)) (history_of k) (trailed k there)))
+      (λ k there. in_all (Contains (trails ps)) (history_of k) (trailed k there)))
       (in_all (λ p. All (IsStoredMoment ks) (moments_of p)) ps (λ p there. in_all (IsStoredMoment ks) (moments_of p) (stored p there)))
 
   pub merged_is : (merged : List Moment) → IsPermutation (flat_map moments_of ps) merged → IsInOrder merged → merged ≡ noted
@@ -124,7 +124,7 @@ module _ (counts : Counts) (ks : List AnyKept) (entries : List (List Entry)) (ps
       same_order merged noted order (order_rises 0 clock noted are.rising)
       (λ z i.
       let w = in_flat moments_of ps z
-          (in_permutation merged (flat_map moments_of ps) (IsPermutation-sym (flat_map moments_of ps) merged whole) z i) in
+      (in_permutation merged (flat_map moments_of ps) (IsPermutation-sym (flat_map moments_of ps) merged whole) z i) in
       into_noted w.0 z w.1 w.2)
       (λ z i.
       let p = from_noted z i in

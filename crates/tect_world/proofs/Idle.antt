@@ -1,6 +1,6 @@
 -- one client more that did nothing
-use Rattle.std.proofs.Common.{zero, suc, ◌≡◌, ℕ, ◌+◌, ◌<◌, ◌⊎◌, inl, inr, List, [], ◌∷◌, ◌++◌, length, get_or, refl, sym, ap, ◌∙◌, subst,
-    arith, length-append}
+use Rattle.std.proofs.Common.{zero, suc, ◌≡◌, ℕ, ◌+◌, ◌<◌, ◌⊎◌, inl, inr, List, [], ◌∷◌, ◌++◌, length, get_or, refl, sym, ap, ◌∙◌, subst}
+use Rattle.std.proofs.Common.{arith, length-append}
 use Rattle.std.proofs.lemmas.Bool.{cases_lt}
 use Rattle.tect_ids.specs.declared.ids.Counts.{Counts}
 use Rattle.clients.specs.Lives.{ClientLife, IsLife, idle_life}
@@ -27,7 +27,7 @@ idle_push c ls n l idle is life = record {
     | inr h ↦
         let at : i ≡ length ls = omega (arith, h, idle.number) in
         ap (λ (k : ℕ). get_or (ls ++ l ∷ []) k (idle_life 0 c)) at ∙ got_last ls l (idle_life 0 c) ∙ is ∙ ap
-            (λ (k : ℕ). idle_life (k + 1) c) (sym h)
+        (λ (k : ℕ). idle_life (k + 1) c) (sym h)
   ];
   lives = λ i lt. elim (last_or n i lt) [
     | inl h ↦ subst IsLife (sym (got_front ls l (idle_life 0 c) i (omega (arith, h, idle.number)))) (idle.lives i h)

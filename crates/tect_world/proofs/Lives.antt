@@ -1,6 +1,6 @@
 -- the fields of the world tell a run of it, and stay so with more events of one actor
-use Rattle.std.proofs.Common.{◌≡◌, ◌≢◌, ℕ, ◌+◌, ◌-◌, ◌<◌, ◌≤◌, ◌^◌, Bool, true, false, eqb, if◌then◌else◌, List, [], ◌∷◌, ◌++◌, length, set,
-    refl, sym, ap, subst, ◌∙◌, inl, inr, ◌⊎◌, arith, length-append}
+use Rattle.std.proofs.Common.{◌≡◌, ◌≢◌, ℕ, ◌+◌, ◌-◌, ◌<◌, ◌≤◌, ◌^◌, Bool, true, false, eqb, if◌then◌else◌, List, [], ◌∷◌, ◌++◌, length, set}
+use Rattle.std.proofs.Common.{refl, sym, ap, subst, ◌∙◌, inl, inr, ◌⊎◌, arith, length-append}
 use Rattle.std.proofs.lemmas.List.{get_or-set_same, get_or-set_other, length-map, get_or_past, length-set, append-nil}
 use Rattle.std.proofs.lemmas.Bool.{cases_lt}
 use Rattle.tect_ids.specs.declared.ids.Counts.{Counts}
@@ -54,7 +54,7 @@ module _ (w : Inside) (is : IsWorld w) where
       beyond : (a : ℕ) → 65 < a → P (events_in (client_at w.shards.counts w.clients.items a))
       beyond a far =
           let past : client_at w.shards.counts w.clients.items a ≡ idle_life 0 w.shards.counts = get_or_past w.clients.items (a - 1)
-              (idle_life 0 w.shards.counts) (omega (arith, far, is.number)) in
+          (idle_life 0 w.shards.counts) (omega (arith, far, is.number)) in
           subst (λ (l : ClientLife). P (events_in l)) (sym past) none
 
       in_range : (a : ℕ) → (a ≤ 65) ⊎ (65 < a) → 1 ≤ a → P (events_in (client_at w.shards.counts w.clients.items a))
@@ -176,7 +176,7 @@ module _ (old new : Inside) (a : ℕ) (s : ClientLife) (es : List Event) (ms : L
     | inr d ↦
         let there : eqb b a ≡ false = grind (arith, num_eq_cases b a, d) in
         by_zero b d ∙ sym (append-nil (events_by c old.clients.items b)) ∙ ap
-            (λ (t : Bool). events_by c old.clients.items b ++ (if t then es else [])) (sym there)
+        (λ (t : Bool). events_by c old.clients.items b ++ (if t then es else [])) (sym there)
   ]
     where
       by_zero : (b : ℕ) → b ≢ a → events_by c new.clients.items b ≡ events_by c old.clients.items b
@@ -184,9 +184,9 @@ module _ (old new : Inside) (a : ℕ) (s : ClientLife) (es : List Event) (ms : L
           (λ t. eqb b 0 ≡ t
           → (if t then [] else events_in (client_at c new.clients.items b)) ≡
           (if t then [] else events_in (client_at c old.clients.items b))) [
-        | true ↦ λ e. refl
-        | false ↦ λ e. ap events_in (at_other b (let some : b ≢ 0 = λ z. grind (arith, num_eq_cases b 0, z, e) in omega (arith, some)) d)
-      ] refl
+            | true ↦ λ e. refl
+            | false ↦ λ e. ap events_in (at_other b (let some : b ≢ 0 = λ z. grind (arith, num_eq_cases b 0, z, e) in omega (arith, some)) d)
+          ] refl
 
   history_more : (life_of new).history ≡ (life_of old).history ++ es
   history_more =
@@ -209,17 +209,17 @@ module _ (old new : Inside) (a : ℕ) (s : ClientLife) (es : List Event) (ms : L
     | inr d ↦
         let there : eqb b a ≡ false = grind (arith, num_eq_cases b a, d) in
         by_zero b d ∙ sym (append-nil (moments_by c old.clients.items b)) ∙ ap
-            (λ (t : Bool). moments_by c old.clients.items b ++ (if t then g.kept else [])) (sym there)
+        (λ (t : Bool). moments_by c old.clients.items b ++ (if t then g.kept else [])) (sym there)
   ]
     where
       by_zero : (b : ℕ) → b ≢ a → moments_by c new.clients.items b ≡ moments_by c old.clients.items b
       by_zero b d = elim (eqb b 0) as
           (λ t. eqb b 0 ≡ t
           → (if t then [] else (client_at c new.clients.items b).moments) ≡ (if t then [] else (client_at c old.clients.items b).moments)) [
-        | true ↦ λ e. refl
-        | false ↦ λ e. ap (λ (l : ClientLife). l.moments)
-            (at_other b (let some : b ≢ 0 = λ z. grind (arith, num_eq_cases b 0, z, e) in omega (arith, some)) d)
-      ] refl
+            | true ↦ λ e. refl
+            | false ↦ λ e. ap (λ (l : ClientLife). l.moments)
+                (at_other b (let some : b ≢ 0 = λ z. grind (arith, num_eq_cases b 0, z, e) in omega (arith, some)) d)
+          ] refl
 
   -- where no op of the actor was refused, each mark of it is of a moment
   all_moments : (l : ClientLife) → l.silent ≡ [] → length (events_in l) ≡ length l.moments
@@ -242,7 +242,7 @@ module _ (old new : Inside) (a : ℕ) (s : ClientLife) (es : List Event) (ms : L
               let moments : length (moments_by c old.clients.items b) ≡ length (client_at c old.clients.items b).moments =
               ap (λ (t : Bool). length (if t then [] else (client_at c old.clients.items b).moments)) some in
               let silent : (client_at c old.clients.items b).silent ≡ [] = ap (λ (x : ℕ). (client_at c old.clients.items x).silent) e ∙ none
-                  in
+              in
               let all = all_moments (client_at c old.clients.items b) silent in
               inr (omega (arith, is.marked b, events, moments, all))
         ]
@@ -264,7 +264,7 @@ module _ (old new : Inside) (a : ℕ) (s : ClientLife) (es : List Event) (ms : L
   mine_own =
       let before : own a (events_in (client_at c old.clients.items a)) ≡ events_in (client_at c old.clients.items a) =
       subst (λ (x : ℕ). own x (events_in (client_at c old.clients.items a)) ≡ events_in (client_at c old.clients.items a))
-          (is.each a low high).actor (is.each a low high).life.own in
+      (is.each a low high).actor (is.each a low high).life.own in
       let after : own a (events_in s) ≡ events_in s = subst (λ (x : ℕ). own x (events_in s) ≡ events_in s) g.mine.actor g.mine.life.own in
       own_behind a (events_in (client_at c old.clients.items a)) es before (rw g.events at after)
 
@@ -285,7 +285,7 @@ module _ (old new : Inside) (a : ℕ) (s : ClientLife) (es : List Event) (ms : L
     | inr d ↦
         let own = is.each b low' high' in
         subst (IsClientOf c new.clock b) (sym (at_other b low' d))
-            (record { actor = own.actor; counts = own.counts; life = own.life; early = omega (arith, own.early, g.later) })
+        (record { actor = own.actor; counts = own.counts; life = own.life; early = omega (arith, own.early, g.later) })
   ]
 
   now_owns : (b : ℕ) → own b (life_of new).history ≡ events_by c new.clients.items b
@@ -334,7 +334,7 @@ module _ (old new : Inside) (is : IsWorld old) (order : new.order.items ≡ old.
   dumped_history : (life_of dumped).history ≡ (life_of old).history ++ Dumped ∷ []
   dumped_history =
       ap (λ (o : List Mark). in_order o by_old) order ∙ ap (in_order (old.order.items ++ marks.Dump ∷ []))
-          (λ i b. sym (append-nil (by_old b)) i)
+      (λ i b. sym (append-nil (by_old b)) i)
       ∙ in_order-grow old.order.items (marks.Dump ∷ []) by_old (λ b. []) is.marked
 
   pub dump_grows : life_of dumped ≡ grown (life_of old) (Dumped ∷ [])

@@ -1,6 +1,6 @@
 -- the marks of a step
-use Rattle.std.proofs.Common.{◌≡◌, ℕ, ◌+◌, ◌≤◌, Bool, true, false, eqb, if◌then◌else◌, Option, Some, None, List, [], ◌∷◌, ◌++◌, length,
-    refl, sym, ap, ◌∙◌, arith}
+use Rattle.std.proofs.Common.{◌≡◌, ℕ, ◌+◌, ◌≤◌, Bool, true, false, eqb, if◌then◌else◌, Option, Some, None, List, [], ◌∷◌, ◌++◌, length}
+use Rattle.std.proofs.Common.{refl, sym, ap, ◌∙◌, arith}
 use Rattle.tect_ids.specs.declared.ids.OpId.{OpId}
 use Rattle.tect_ids.specs.declared.answer.Answer.{Answer}
 use Rattle.tect_ids.proofs.KeyTests.{num_eq_cases}
@@ -30,9 +30,9 @@ pub told_all : (a : ℕ) (es : List Event) → in_order (marks_for a es) (of_one
 told_all a [] = refl
 told_all a (e ∷ es) =
     ap (λ (t : Bool). first_event (if t then e ∷ es else []) ++ in_order (marks_for a es)
-        (λ b. if eqb b a then later_events (of_one a (e ∷ es) b) else of_one a (e ∷ es) b)) (same a)
+    (λ b. if eqb b a then later_events (of_one a (e ∷ es) b) else of_one a (e ∷ es) b)) (same a)
     ∙ ap (λ (f : ℕ → List Event). e ∷ in_order (marks_for a es) f) (λ i b. later_one a e es b i) ∙ ap (λ (xs : List Event). e ∷ xs)
-        (told_all a es)
+    (told_all a es)
 
 pub marked_all : (a : ℕ) (es : List Event) (b : ℕ) → marks_of b (marks_for a es) ≡ length (of_one a es b)
 marked_all a es b = by_test (eqb b a) refl

@@ -1,6 +1,6 @@
 -- the moments of all passes in the order of the marks
-use Rattle.std.proofs.Common.{◌≡◌, ℕ, ◌+◌, ◌≤◌, Bool, true, false, eqb, if◌then◌else◌, ◌⊎◌, inl, inr, List, [], ◌∷◌, ◌++◌, length, refl,
-    sym, ap, ◌∙◌, append_assoc, arith}
+use Rattle.std.proofs.Common.{◌≡◌, ℕ, ◌+◌, ◌≤◌, Bool, true, false, eqb, if◌then◌else◌, ◌⊎◌, inl, inr, List, [], ◌∷◌, ◌++◌, length, refl}
+use Rattle.std.proofs.Common.{sym, ap, ◌∙◌, append_assoc, arith}
 use Rattle.tect_ids.proofs.KeyTests.{num_eq_cases}
 use Rattle.entry_words.specs.declared.entry.Moment.{Moment}
 use Rattle.tect_world.specs.declared.marks.Mark.{Mark}
@@ -71,15 +71,15 @@ moments-grow (Dump ∷ ms) ns own more few may = moments-grow ms ns own more few
 moments-grow (Actor a ∷ ms) ns own more few may =
     let here = first_may (eqb a a) (marks_of a ms) (length (own a)) (more a) (same a) (may a) in
     let rest : moments_in_order (ms ++ ns) (λ b. without a own b ++ more b) ≡ moments_in_order ms (without a own) ++ moments_in_order ns
-        more =
+    more =
     moments-grow ms ns (without a own) more (λ b. marks_by (eqb b a) (marks_of b ms) (own b) (few b))
-        (λ b. may_by (eqb b a) (marks_of b ms) (own b) (more b) (may b)) in
+    (λ b. may_by (eqb b a) (marks_of b ms) (own b) (more b) (may b)) in
     ap (λ (es : List Moment). es ++ moments_in_order (ms ++ ns) (without a (λ b. own b ++ more b)))
-        (first_grow (own a) (more a) (marks_of a ms) here)
+    (first_grow (own a) (more a) (marks_of a ms) here)
     ∙ ap (λ (f : ℕ → List Moment). first_moment (own a) ++ moments_in_order (ms ++ ns) f)
-        (λ i b. grow_by (eqb b a) (marks_of b ms) (own b) (more b) (may b) i)
+    (λ i b. grow_by (eqb b a) (marks_of b ms) (own b) (more b) (may b) i)
     ∙ ap (λ (es : List Moment). first_moment (own a) ++ es) rest ∙ sym
-        (append_assoc (first_moment (own a)) (moments_in_order ms (without a own)) (moments_in_order ns more))
+    (append_assoc (first_moment (own a)) (moments_in_order ms (without a own)) (moments_in_order ns more))
 
 -- a dump has no moment
 pub moments-dump : (ms : List Mark) (own : ℕ → List Moment) → moments_in_order (ms ++ Dump ∷ []) own ≡ moments_in_order ms own

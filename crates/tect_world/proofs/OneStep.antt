@@ -1,6 +1,6 @@
 -- what a step of a client makes of it and of the shards
-use Rattle.std.proofs.Common.{zero, suc, get_or, set, ◌≡◌, ℕ, ◌+◌, ◌≤◌, ◌⊎◌, inl, inr, false, Option, Some, None, List, [], ◌∷◌, ◌++◌,
-    length, refl, sym, ap, ◌∙◌, arith}
+use Rattle.std.proofs.Common.{zero, suc, get_or, set, ◌≡◌, ℕ, ◌+◌, ◌≤◌, ◌⊎◌, inl, inr, false, Option, Some, None, List, [], ◌∷◌, ◌++◌}
+use Rattle.std.proofs.Common.{length, refl, sym, ap, ◌∙◌, arith}
 use Rattle.tect_ids.specs.declared.ids.OpId.{OpId}
 use Rattle.store_rules.specs.Places.{request_place}
 use Rattle.entry_words.specs.declared.entry.Entry.{Entry}
@@ -16,8 +16,8 @@ use Rattle.program_rules.specs.Lacks.{IsLack}
 use Rattle.world_runs.specs.Events.{end_event}
 use Rattle.world_runs.specs.OwnRuns.{RepliesAre, stored_after}
 use Rattle.clients.specs.Lives.{ClientLife}
-use Rattle.clients.specs.Steps.{Tried, Unasked, Did, Denied, DidThere, entry_in, tried_life, ended_with, ended_life, tried_events,
-    end_events}
+use Rattle.clients.specs.Steps.{Tried, Unasked, Did, Denied, DidThere, entry_in, tried_life, ended_with, ended_life, tried_events}
+use Rattle.clients.specs.Steps.{end_events}
 use Rattle.kept_shards.specs.KeptStore.{KeptStore, committed, entries_at, clock_after, clock_at}
 use Rattle.kept_shards.specs.KeptStore as kept
 use Rattle.tect_world.proofs.Marking.{has_act}
@@ -111,7 +111,7 @@ module _ (w v : KeptStore) (l : ClientLife) (stamp : ℕ) (op : OpId) (silent : 
   -- nothing was done there, or one transaction
   pub there_is : (t : Tried) → DidThere kept.Did w v l.clock (entry_in l stamp) t
       → ((has_act t ≡ false) × (v ≡ w))
-          ⊎ ((q : AnyReq) × (y : AnyReply) × (t ≡ Did q y) × kept.DidHere w v l.clock q (entry_in l stamp q y))
+      ⊎ ((q : AnyReq) × (y : AnyReply) × (t ≡ Did q y) × kept.DidHere w v l.clock q (entry_in l stamp q y))
   there_is Unasked there = inl (refl, there)
   there_is (Did q y) there = inr (q, y, refl, there)
   there_is (Denied q refusals.NoMemory) there = inl (refl, there)
@@ -125,7 +125,7 @@ module _ (w v : KeptStore) (l : ClientLife) (stamp : ℕ) (op : OpId) (silent : 
 
   pub step_replies : (t : Tried) → DidThere kept.Did w v l.clock (entry_in l stamp) t
       → RepliesAre w.store (tried_events op t ++ end_events silent op x)
-          × (v.store ≡ stored_after w.store (tried_events op t ++ end_events silent op x))
+      × (v.store ≡ stored_after w.store (tried_events op t ++ end_events silent op x))
   step_replies t there = elim (there_is t there) [
     | inl h ↦
         let ends = end_replies w.store silent op x in

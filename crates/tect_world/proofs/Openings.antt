@@ -1,6 +1,6 @@
 -- the world before anything was done
-use Rattle.std.proofs.Common.{◌≡◌, ◌≢◌, ℕ, ◌+◌, ◌-◌, ◌<◌, ◌≤◌, true, false, eqb, if◌then◌else◌, List, [], length, get_or, replicate, refl,
-    sym, ap, subst, ◌∙◌, inl, inr, ◌⊎◌, arith}
+use Rattle.std.proofs.Common.{◌≡◌, ◌≢◌, ℕ, ◌+◌, ◌-◌, ◌<◌, ◌≤◌, true, false, eqb, if◌then◌else◌, List, [], length, get_or, replicate, refl}
+use Rattle.std.proofs.Common.{sym, ap, subst, ◌∙◌, inl, inr, ◌⊎◌, arith}
 use Rattle.std.specs.List.{Contains}
 use Rattle.std.proofs.lemmas.List.{get_or-replicate, length-replicate, get_or_past}
 use Rattle.std.proofs.lemmas.Bool.{cases_lt}
@@ -112,5 +112,5 @@ module _ (new : Inside) (c : Counts) (shards : new.shards ≡ opening_kept c) (i
         (ap (λ (w : KeptStore). length w.entries) shards ∙ length-replicate (c.names + c.files) []);
     noted = subst (λ (ns : List Noted). AreNoted new.clock new.shards.entries ns) (sym no_notes)
         (subst (λ (k : ℕ). AreNoted k new.shards.entries []) (sym clock)
-            (subst (λ (w : KeptStore). AreNoted 0 w.entries []) (sym shards) (none_noted (c.names + c.files))));
+        (subst (λ (w : KeptStore). AreNoted 0 w.entries []) (sym shards) (none_noted (c.names + c.files))));
   }

@@ -1,6 +1,6 @@
 -- the moments in the order of the marks are those of all actors
-use Rattle.std.proofs.Common.{◌≡◌, ℕ, ◌≤◌, Bool, true, false, eqb, if◌then◌else◌, ◌⊎◌, inl, inr, List, [], ◌∷◌, ◌++◌, length, refl, sym,
-    subst, arith}
+use Rattle.std.proofs.Common.{◌≡◌, ℕ, ◌≤◌, Bool, true, false, eqb, if◌then◌else◌, ◌⊎◌, inl, inr, List, [], ◌∷◌, ◌++◌, length, refl, sym}
+use Rattle.std.proofs.Common.{subst, arith}
 use Rattle.tect_ids.proofs.KeyTests.{num_eq_cases}
 use Rattle.entry_words.specs.declared.entry.Moment.{Moment}
 use Rattle.tect_world.specs.declared.marks.Mark.{Mark}
@@ -51,7 +51,7 @@ into_order (Dump ∷ ms) own b z few i = into_order ms own b z few i
 into_order (Actor a ∷ ms) own b z few i =
     let rest : In z (without a own b) → In z (first_moment (own a) ++ moments_in_order ms (without a own)) = λ j.
     in_append_right (first_moment (own a)) (moments_in_order ms (without a own)) z
-        (into_order ms (without a own) b z (λ k. marks_by (eqb k a) (marks_of k ms) (own k) (few k)) j) in
+    (into_order ms (without a own) b z (λ k. marks_by (eqb k a) (marks_of k ms) (own k) (few k)) j) in
     elim (first_or_later (eqb b a) (own b) z i) [
       | inl f ↦
           elim (not_first (eqb b a) a b refl) [

@@ -1,6 +1,6 @@
 -- what the order of all events becomes with more of them
-use Rattle.std.proofs.Common.{◌≡◌, ℕ, ◌+◌, ◌<◌, Bool, true, false, eqb, if◌then◌else◌, List, [], ◌∷◌, ◌++◌, length, refl, sym, ap, ◌∙◌,
-    append_assoc, arith}
+use Rattle.std.proofs.Common.{◌≡◌, ℕ, ◌+◌, ◌<◌, Bool, true, false, eqb, if◌then◌else◌, List, [], ◌∷◌, ◌++◌, length, refl, sym, ap, ◌∙◌}
+use Rattle.std.proofs.Common.{append_assoc, arith}
 use Rattle.tect_ids.proofs.KeyTests.{num_eq_cases}
 use Rattle.world_runs.specs.declared.event.Event.{Event}
 use Rattle.world_runs.specs.declared.event.Event.TheVariants.{Dumped}
@@ -60,11 +60,11 @@ in_order-grow [] ns own more marked = ap (in_order ns) (λ i b. empty_front (own
 in_order-grow (Dump ∷ ms) ns own more marked = ap (λ (es : List Event). Dumped ∷ es) (in_order-grow ms ns own more marked)
 in_order-grow (Actor a ∷ ms) ns own more marked =
     let first : first_event (own a ++ more a) ≡ first_event (own a) = first_front (own a) (more a)
-        (some_by (eqb a a) (marks_of a ms) (length (own a)) (same a) (marked a)) in
+    (some_by (eqb a a) (marks_of a ms) (length (own a)) (same a) (marked a)) in
     let rest : in_order (ms ++ ns) (λ b. without a own b ++ more b) ≡ in_order ms (without a own) ++ in_order ns more =
     in_order-grow ms ns (without a own) more (λ b. marked_by (eqb b a) (marks_of b ms) (own b) (marked b)) in
     ap (λ (es : List Event). es ++ in_order (ms ++ ns) (without a (λ b. own b ++ more b))) first
     ∙ ap (λ (f : ℕ → List Event). first_event (own a) ++ in_order (ms ++ ns) f)
-        (λ i b. later_by (eqb b a) (marks_of b ms) (own b) (more b) (marked b) i)
+    (λ i b. later_by (eqb b a) (marks_of b ms) (own b) (more b) (marked b) i)
     ∙ ap (λ (es : List Event). first_event (own a) ++ es) rest ∙ sym
-        (append_assoc (first_event (own a)) (in_order ms (without a own)) (in_order ns more))
+    (append_assoc (first_event (own a)) (in_order ms (without a own)) (in_order ns more))

@@ -1,6 +1,6 @@
 -- what a step comes to
-use Rattle.std.proofs.Common.{◌≡◌, ◌≢◌, ℕ, ◌+◌, ◌⊎◌, inl, inr, Bool, true, false, if◌then◌else◌, Option, Some, None, List, [], ◌∷◌, ◌++◌,
-    refl, sym, ap, ◌∙◌, subst, arith}
+use Rattle.std.proofs.Common.{◌≡◌, ◌≢◌, ℕ, ◌+◌, ◌⊎◌, inl, inr, Bool, true, false, if◌then◌else◌, Option, Some, None, List, [], ◌∷◌, ◌++◌}
+use Rattle.std.proofs.Common.{refl, sym, ap, ◌∙◌, subst, arith}
 use Rattle.tect_ids.specs.declared.ids.Counts.{Counts}
 use Rattle.tect_ids.specs.declared.ids.OpId.{OpId}
 use Rattle.tect_ids.specs.declared.ids.Place.{Place}
@@ -64,7 +64,7 @@ pub heard_program : (counts : Counts) (serial : ℕ) (q : AnyReq) (y : AnyReply)
 heard_program counts serial q y None op is = refl
 heard_program counts serial q y (Some p) op is =
     kept_by_test (op_eq p.op op) p
-        (record p { phase = phase_hear (request_place counts q) p.op (object_number p.op.actor serial) p.command p.phase y }) is
+    (record p { phase = phase_hear (request_place counts q) p.op (object_number p.op.actor serial) p.command p.phase y }) is
 
 lack_failed : (op : OpId) (a : Answer) → IsLack a → end_event op a ≡ Failed op a
 lack_failed op answers.NoMemory lack = refl
@@ -76,7 +76,7 @@ module _ (c : Counts) (s : Store) (st : Actor) (op : OpId) (prog : program_of st
   Outcome es x =
       ((es ≡ actor_events c s st op) × (x ≡ actor_answer c s st op))
       ⊎ ((a : Answer) × IsLack a × ((es ≡ Failed op a ∷ []) ⊎ (es ≡ transaction s op (actor_asks st op) ++ Failed op a ∷ []))
-          × (x ≡ Some a))
+      × (x ≡ Some a))
 
   asks_is : (o : Option AnyReq) → program_ask st.serial st.running ≡ o → actor_asks st op ≡ o
   asks_is o is = ap (program_ask st.serial) prog ∙ is
@@ -86,9 +86,12 @@ module _ (c : Counts) (s : Store) (st : Actor) (op : OpId) (prog : program_of st
       → es ≡ transaction s op o ++ ending op x → Outcome es x
   first_form o x es asks is told =
       let answers : actor_answer c s st op ≡ x = ap (λ (q : Option AnyReq). program_answer (program_of (acted_actor c s st q).running op))
-          asks ∙ is in
-      inl (told ∙ ap (λ (q : Option AnyReq). transaction s op q ++ ending op x) (sym asks) ∙ ap
-          (λ (y : Option Answer). transaction s op (actor_asks st op) ++ ending op y) (sym answers), sym answers)
+      asks ∙ is in
+      inl (
+        told ∙ ap (λ (q : Option AnyReq). transaction s op q ++ ending op x) (sym asks) ∙ ap
+            (λ (y : Option Answer). transaction s op (actor_asks st op) ++ ending op y) (sym answers),
+        sym answers,
+      )
 
   ended_now : (a : Answer) → program_answer st.running ≡ Some a → Outcome (Ended op a ∷ []) (Some a)
   ended_now a is = first_form None (Some a) (Ended op a ∷ []) (asks_is None (no_ask st.serial st.running a is))
@@ -145,7 +148,7 @@ module _ (c : Counts) (s : Store) (st : Actor) (op : OpId) (prog : program_of st
 
   pub outcome : (silent : List Event) → (silent ≢ [] → WasRefused st.running) → (t : Tried) (x : Option Answer) → Asks st t
       → ((q : AnyReq) (y : AnyReply) → t ≡ Did q y → y ≡ store_reply s q) → EndsSo (state_after c st t) t x
-          → OwnRun c st (tried_events op t ++ end_events silent op x)
+      → OwnRun c st (tried_events op t ++ end_events silent op x)
       → Outcome (tried_events op t ++ end_events silent op x) x
   outcome silent refused Unasked None asks replied ends run = absurd ends
   outcome [] refused Unasked (Some a) asks replied (inl is) run = ended_or_failed a is
@@ -207,13 +210,13 @@ acted_is l m t x n k actor counts events before after =
     let es : List Event = tried_events (op_in l) t ++ end_events l.silent (op_in l) x in
     let state : (state_in m).number ≡ (state_in l).number =
     ap (λ (c : Counts). (own_state c idle_actor (events_in m)).number) counts ∙ ap
-        (λ (fs : List Event). (own_state l.counts idle_actor fs).number) events
+    (λ (fs : List Event). (own_state l.counts idle_actor fs).number) events
     ∙ ap (λ (s : Actor). s.number) (own_state-append l.counts idle_actor (events_in l) es) ∙ step_number l.counts (state_in l) l.silent
-        (op_in l) t x in
+    (op_in l) t x in
     let op : op_in m ≡ op_in l = λ i. record { actor = actor i; number = state i } in
     let both : transactions (events_in l ++ es) (op_in l) ≡ transactions (events_in l) (op_in l) + transactions es (op_in l) =
-        transactions-append (events_in l) es (op_in l) in
+    transactions-append (events_in l) es (op_in l) in
     let own : transactions es (op_in l) ≡ act_count t = step_count l.silent (op_in l) t x in
     let last : k ≡ transactions (events_in l ++ es) (op_in l) = after ∙ ap (transactions (events_in m)) op ∙ ap
-        (λ (fs : List Event). transactions fs (op_in l)) events in
+    (λ (fs : List Event). transactions fs (op_in l)) events in
     more_by t n k (omega (arith, last, both, own, before))

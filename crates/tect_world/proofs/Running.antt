@@ -1,6 +1,6 @@
 -- a command that runs goes on by transactions to its end
-use Rattle.std.proofs.Common.{◌≡◌, ℕ, ◌+◌, ◌-◌, ◌<◌, Bool, true, ◌||◌, eqb, if◌then◌else◌, Option, Some, None, is_some, List, [], ◌∷◌, ◌++◌,
-    refl, sym, ap, ◌∙◌, subst, append_assoc, inl, inr, arith}
+use Rattle.std.proofs.Common.{◌≡◌, ℕ, ◌+◌, ◌-◌, ◌<◌, Bool, true, ◌||◌, eqb, if◌then◌else◌, Option, Some, None, is_some, List, [], ◌∷◌, ◌++◌}
+use Rattle.std.proofs.Common.{refl, sym, ap, ◌∙◌, subst, append_assoc, inl, inr, arith}
 use Rattle.std.specs.Prelude.{IsSome, OnErr, Result, Ok, Err}
 use Rattle.std.proofs.lemmas.List.{append-nil}
 use Rattle.tect_ids.specs.declared.ids.Counts.{Counts}
@@ -12,12 +12,12 @@ use Rattle.store_rules.specs.declared.any.AnyReply.{AnyReply}
 use Rattle.store_rules.specs.Store.{Store, store_reply}
 use Rattle.program_rules.specs.declared.program.Program.{Program}
 use Rattle.world_runs.specs.declared.event.Event.{Event}
-use Rattle.world_runs.specs.declared.event.Event.TheVariants.{Began, Refused, Acted, Ended, Stopped, Failed, Dumped}
+use Rattle.world_runs.specs.declared.event.Event.TheVariants.{Began, NotBegun, Acted, Ended, Stopped, Failed, Dumped}
 use Rattle.world_runs.specs.Follows.{Acts}
 use Rattle.world_runs.specs.Moments.{Actor, WorldState, IsWorldRun, after_all, moment, running, asked, answered, program_of, program_answer}
 use Rattle.script_runs.proofs.Running.{running_goes_on, running_is_last_begun}
-use Rattle.tect_world.specs.Life.{Life, present, grown, last_op, actor_asks, acted_actor, ended_actor, stepped_actor, transaction, ending,
-    step_answer, step_events}
+use Rattle.tect_world.specs.Life.{Life, present, grown, last_op, actor_asks, acted_actor, ended_actor, stepped_actor, transaction, ending}
+use Rattle.tect_world.specs.Life.{step_answer, step_events}
 use Rattle.clients.specs.declared.turned.Turned.TheVariants.{Going, Done}
 use Rattle.clients.specs.Turns.{turned_by}
 use Rattle.tect_world.specs.Steps.{FailsWith, Stepped, RanToEnd, GoesOn}
@@ -33,7 +33,7 @@ pub acts_push : (op : OpId) (q : AnyReq) (x : AnyReply) (n : ℕ) (es : List Eve
 acts_push op q x n [] acts = (refl, (n, refl, acts))
 acts_push op q x n (Acted other r y ∷ es) (own, (rest, is, acts)) = (own, (rest + 1, ap (λ k. k + 1) is, acts_push op q x rest es acts))
 acts_push op q x n (Began other c ∷ es) acts = absurd acts
-acts_push op q x n (Refused other c ∷ es) acts = absurd acts
+acts_push op q x n (NotBegun other c ∷ es) acts = absurd acts
 acts_push op q x n (Ended other a ∷ es) acts = absurd acts
 acts_push op q x n (Stopped other ∷ es) acts = absurd acts
 acts_push op q x n (Failed other a ∷ es) acts = absurd acts
@@ -108,7 +108,7 @@ pub ran_to_end : (w v u : Life) (op : OpId) (a : Answer) → GoesOn w v op → u
     → step_answer (present v) op ≡ Some a → RanToEnd w u op a
 ran_to_end w v u op a goes is ends = ends_by w v op (actor_asks ((present v).actors op.actor) op) a u goes
     (is ∙ ap (λ (o : Option Answer). grown v
-        (transaction (present v).store op (actor_asks ((present v).actors op.actor) op) ++ ending op o)) ends)
+    (transaction (present v).store op (actor_asks ((present v).actors op.actor) op) ++ ending op o)) ends)
 
 -- for want of memory it ends too
 fails_by : (w v u : Life) (op : OpId) (x : Answer) → GoesOn w v op → u ≡ grown v (Failed op x ∷ []) → RanToEnd w u op x
@@ -151,17 +151,17 @@ pub step_asks : (v : Life) (a : ℕ) (p : Program) → run_is v → ((present v)
     → is_some (actor_asks ((present v).actors a) (last_op (present v) a)) ≡ true
 step_asks v a p run is none =
     asks_some (present v).counts (present v).store ((present v).actors a) (last_op (present v) a)
-        (actor_asks ((present v).actors a) (last_op (present v) a)) refl none (goes_own v a p run is)
+    (actor_asks ((present v).actors a) (last_op (present v) a)) refl none (goes_own v a p run is)
 
 pub goes_more : (w v u : Life) (a : ℕ) (p : Program) → run_is v → ((present v).actors a).running ≡ Some p
     → GoesOn w v (last_op (present v) a)
     → u ≡ grown v (step_events (present v) (last_op (present v) a)) → step_answer (present v) (last_op (present v) a) ≡ None
-        → GoesOn w u (last_op (present v) a)
+    → GoesOn w u (last_op (present v) a)
 goes_more w v u a p run is goes grows none = going_by w v (last_op (present v) a)
     (actor_asks ((present v).actors a) (last_op (present v) a)) u goes
     (grows ∙ ap (λ (o : Option Answer). grown v
-        (transaction (present v).store (last_op (present v) a) (actor_asks ((present v).actors a) (last_op (present v) a)) ++ ending
-        (last_op (present v) a) o)) none)
+    (transaction (present v).store (last_op (present v) a) (actor_asks ((present v).actors a) (last_op (present v) a)) ++ ending
+    (last_op (present v) a) o)) none)
     (step_asks v a p run is none)
 
 -- ---- what is so after a step that came to no answer
@@ -175,16 +175,17 @@ after_step v u a grows = ap present grows ∙ present-grown v (step_events (pres
 
 pub last_kept : (v u : Life) (a : ℕ) → u ≡ grown v (step_events (present v) (last_op (present v) a))
     → last_op (present u) a ≡ last_op (present v) a
-last_kept v u a grows i = record
-    { actor = a;
-    number = (ap (λ (x : WorldState). (x.actors a).number) (after_step v u a grows) ∙ step_number (present v) (last_op (present v) a) a) i }
+last_kept v u a grows i = record {
+  actor = a;
+  number = (ap (λ (x : WorldState). (x.actors a).number) (after_step v u a grows) ∙ step_number (present v) (last_op (present v) a) a) i;
+}
 
 pub own_after : (v u : Life) (a : ℕ) → u ≡ grown v (step_events (present v) (last_op (present v) a))
     → (present u).actors a ≡ stepped_actor (present v).counts (present v).store ((present v).actors a) (last_op (present v) a)
 own_after v u a grows =
     ap (λ (x : WorldState). x.actors a) (after_step v u a grows) ∙ step_actors (present v) (last_op (present v) a) a
     ∙ ap (λ (b : Bool). if b then stepped_actor (present v).counts (present v).store ((present v).actors a) (last_op (present v) a) else
-        (present v).actors a) (same a)
+    (present v).actors a) (same a)
 
 -- it still runs
 runs_by : (counts : Counts) (s : Store) (st : Actor) (p : Program) (o : Option AnyReq) → st.running ≡ Some p
@@ -199,10 +200,10 @@ step_runs v u a p is grows none =
     let st : Actor = (present v).actors a in
     let op : OpId = last_op (present v) a in
     let stays : stepped_actor (present v).counts (present v).store st op ≡ ended_actor
-        (acted_actor (present v).counts (present v).store st (actor_asks st op)) None = ap
-        (ended_actor (acted_actor (present v).counts (present v).store st (actor_asks st op))) none in
+    (acted_actor (present v).counts (present v).store st (actor_asks st op)) None = ap
+    (ended_actor (acted_actor (present v).counts (present v).store st (actor_asks st op))) none in
     subst (λ (x : Actor). IsSome x.running) (sym (own_after v u a grows ∙ stays))
-        (runs_by (present v).counts (present v).store st p (actor_asks st op) is)
+    (runs_by (present v).counts (present v).store st p (actor_asks st op) is)
 
 -- ---- the room that the actor's own history has
 
@@ -284,8 +285,8 @@ module _ (w v u : Life) (a : ℕ) (goes : Goes w v a) where
     goes_nearer keeps =
         room_by v u a (actor_asks ((present v).actors a) (last_op (present v) a))
         (grows ∙ ap (λ (o : Option Answer). grown v
-            (transaction (present v).store (last_op (present v) a) (actor_asks ((present v).actors a) (last_op (present v) a)) ++ ending
-            (last_op (present v) a) o)) none)
+        (transaction (present v).store (last_op (present v) a) (actor_asks ((present v).actors a) (last_op (present v) a)) ++ ending
+        (last_op (present v) a) o)) none)
         (step_asks v a own.0 goes.run own.1 none) keeps
 
   done_by : (x : Answer) → Stepped v u (last_op (present v) a) (Done x) → RanToEnd w u (last_op (present v) a) x

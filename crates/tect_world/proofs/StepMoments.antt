@@ -1,6 +1,6 @@
 -- what a step of a client notes, and what the places then keep
-use Rattle.std.proofs.Common.{◌≡◌, ◌≢◌, ℕ, ◌+◌, ◌<◌, ◌≤◌, ◌⊎◌, inl, inr, Bool, true, false, eqb, if◌then◌else◌, Option, Some, None, List,
-    [], ◌∷◌, ◌++◌, length, refl, sym, ap, ◌∙◌, subst, append_assoc, arith}
+use Rattle.std.proofs.Common.{◌≡◌, ◌≢◌, ℕ, ◌+◌, ◌<◌, ◌≤◌, ◌⊎◌, inl, inr, Bool, true, false, eqb, if◌then◌else◌, Option, Some, None, List}
+use Rattle.std.proofs.Common.{[], ◌∷◌, ◌++◌, length, refl, sym, ap, ◌∙◌, subst, append_assoc, arith}
 use Rattle.std.proofs.lemmas.List.{append-nil, length-set}
 use Rattle.tect_ids.specs.declared.ids.OpId.{OpId}
 use Rattle.tect_ids.specs.declared.answer.Answer.{Answer}
@@ -15,8 +15,8 @@ use Rattle.world_runs.specs.declared.event.Event.{Event}
 use Rattle.world_runs.specs.Moments.{Actor, program_ask}
 use Rattle.clients.specs.Lives.{ClientLife, state_in}
 use Rattle.program_rules.specs.Asking.{WasRefused}
-use Rattle.clients.specs.Steps.{Tried, Unasked, Did, Denied, Asks, DidThere, is_later, entry_in, tried_life, ended_with, ended_life,
-    tried_events, end_events}
+use Rattle.clients.specs.Steps.{Tried, Unasked, Did, Denied, Asks, DidThere, is_later, entry_in, tried_life, ended_with, ended_life}
+use Rattle.clients.specs.Steps.{tried_events, end_events}
 use Rattle.kept_shards.specs.KeptStore.{KeptStore, committed, entries_at}
 use Rattle.kept_shards.specs.KeptStore as kept
 use Rattle.tect_world.specs.ClientSteps.{marks_for}
@@ -53,7 +53,7 @@ pub step_noted : (l : ClientLife) (stamp : ℕ) (t : Tried) (op : OpId) (x : Opt
 step_noted l stamp Unasked op x = end_noted l l.silent op x refl
 step_noted l stamp (Did q y) op x =
     end_noted (tried_life l stamp (Did q y)) l.silent op x refl ∙ append_assoc l.moments (Act (entry_in l stamp q y) ∷ [])
-        (end_moments stamp l.actor l.silent op x)
+    (end_moments stamp l.actor l.silent op x)
 step_noted l stamp (Denied q e) op x = end_noted l l.silent op x refl
 
 -- no more than there are events
@@ -109,14 +109,14 @@ noted_all a [] [] few = refl
 noted_all a [] (m ∷ ms) few = absurd (omega (arith, few))
 noted_all a (e ∷ es) [] few =
     ap (λ (xs : List Moment). xs ++ moments_in_order (marks_for a es)
-        (λ b. if eqb b a then later_moments (moments_of_one a [] b) else moments_of_one a [] b)) (first_none (eqb a a))
+    (λ b. if eqb b a then later_moments (moments_of_one a [] b) else moments_of_one a [] b)) (first_none (eqb a a))
     ∙ ap (λ (f : ℕ → List Moment). moments_in_order (marks_for a es) f) (λ i b. later_none (eqb b a) (eqb b a) i) ∙ noted_all a es []
-        (omega arith)
+    (omega arith)
 noted_all a (e ∷ es) (m ∷ ms) few =
     ap (λ (t : Bool). first_moment (if t then m ∷ ms else []) ++ moments_in_order (marks_for a es)
-        (λ b. if eqb b a then later_moments (moments_of_one a (m ∷ ms) b) else moments_of_one a (m ∷ ms) b)) (same a)
+    (λ b. if eqb b a then later_moments (moments_of_one a (m ∷ ms) b) else moments_of_one a (m ∷ ms) b)) (same a)
     ∙ ap (λ (f : ℕ → List Moment). m ∷ moments_in_order (marks_for a es) f) (λ i b. later_one (eqb b a) m ms i) ∙ ap
-        (λ (xs : List Moment). m ∷ xs) (noted_all a es ms (omega (arith, few)))
+    (λ (xs : List Moment). m ∷ xs) (noted_all a es ms (omega (arith, few)))
 
 -- ---- what the places keep after a step
 
@@ -125,7 +125,7 @@ module _ (w v : KeptStore) (l : ClientLife) (stamp : ℕ) (ns : List Moment) (is
   unchanged : v ≡ w → AreNoted l.clock v.entries (ns ++ [])
   unchanged same =
       subst (λ (ms : List Moment). AreNoted l.clock v.entries ms) (sym (append-nil ns))
-          (subst (λ (k : KeptStore). AreNoted l.clock k.entries ns) (sym same) is)
+      (subst (λ (k : KeptStore). AreNoted l.clock k.entries ns) (sym same) is)
 
   pub tried_kept : (t : Tried) → DidThere kept.Did w v l.clock (entry_in l stamp) t → is_later l.clock stamp t
       → AreNoted (tried_life l stamp t).clock v.entries (ns ++ tried_moments l stamp t)
@@ -152,7 +152,7 @@ end_kept : (m : ClientLife) (silent : List Event) (op : OpId) (x : Option Answer
 end_kept m silent op None entries ns is are = subst (λ (ms : List Moment). AreNoted m.clock entries ms) (sym (append-nil ns)) are
 end_kept m [] op (Some a) entries ns is are =
     subst (λ (k : ℕ). AreNoted k entries (ns ++ Local (m.clock + 1) m.actor (notes.Ended op a) ∷ []))
-        (sym (ap (λ (s : List Event). (ended_with m s op a).clock) is))
+    (sym (ap (λ (s : List Event). (ended_with m s op a).clock) is))
     (noted_local m.clock (m.clock + 1) m.actor (notes.Ended op a) entries ns are (omega arith))
 end_kept m (e ∷ es) op (Some a) entries ns is are =
     subst (λ (k : ℕ). AreNoted k entries (ns ++ [])) (sym (ap (λ (s : List Event). (ended_with m s op a).clock) is))
@@ -169,7 +169,7 @@ step_kept w v l stamp ns is within t op x there later = by_tried t (tried_kept w
     joined m ts silent actor are =
         subst (λ (ms : List Moment). AreNoted (ended_life m op x).clock v.entries ms)
         (append_assoc ns ts (end_moments m.clock m.actor l.silent op x) ∙ ap (λ (k : ℕ). ns ++ (ts ++ end_moments m.clock k l.silent op x))
-            actor)
+        actor)
         (end_kept m l.silent op x v.entries (ns ++ ts) silent are)
 
     by_tried : (t : Tried) → AreNoted (tried_life l stamp t).clock v.entries (ns ++ tried_moments l stamp t)

@@ -1,6 +1,6 @@
 -- what a client notes where it stops, and what an op that runs tells
-use Rattle.std.proofs.Common.{◌≡◌, ℕ, ◌+◌, ◌<◌, ◌≤◌, ◌⊎◌, inl, inr, Option, Some, None, List, [], ◌∷◌, ◌++◌, length, refl, sym, ap, ◌∙◌,
-    subst, append_assoc, arith}
+use Rattle.std.proofs.Common.{◌≡◌, ℕ, ◌+◌, ◌<◌, ◌≤◌, ◌⊎◌, inl, inr, Option, Some, None, List, [], ◌∷◌, ◌++◌, length, refl, sym, ap, ◌∙◌}
+use Rattle.std.proofs.Common.{subst, append_assoc, arith}
 use Rattle.std.proofs.lemmas.List.{append-nil, map-append}
 use Rattle.tect_ids.specs.declared.ids.Counts.{Counts}
 use Rattle.tect_ids.specs.declared.ids.OpId.{OpId}
@@ -44,7 +44,7 @@ pub noted_event : (ms : List Moment) (m : Moment) (ss : List Event) → ss ≡ [
 noted_event ms m ss none =
     ap (λ (es : List Event). events_of (ms ++ m ∷ []) ++ es) none ∙ append-nil (events_of (ms ++ m ∷ [])) ∙ map-append event_of ms (m ∷ [])
     ∙ ap (λ (es : List Event). es ++ event_of m ∷ [])
-        (sym (append-nil (events_of ms)) ∙ ap (λ (es : List Event). events_of ms ++ es) (sym none))
+    (sym (append-nil (events_of ms)) ∙ ap (λ (es : List Event). events_of ms ++ es) (sym none))
 
 -- an op that runs was not refused
 pub none_silent : (ss : List Event) (ms : List Moment) (m : Moment) (op : OpId) (o : Option Program)

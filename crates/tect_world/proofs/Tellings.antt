@@ -24,7 +24,7 @@ silent_after a noted silent b = if eqb b a then later_silent (noted b) (silent b
 
 later_both : (t : Bool) (ms : List Moment) (ss : List Event)
     → (if t then later_events (events_of ms ++ ss) else events_of ms ++ ss) ≡ events_of (if t then later_moments ms else ms) ++
-        (if t then later_silent ms ss else ss)
+    (if t then later_silent ms ss else ss)
 later_both true [] ss = refl
 later_both true (m ∷ ms) ss = refl
 later_both false ms ss = refl
@@ -52,8 +52,8 @@ notes_in_order [] noted silent all = tt
 notes_in_order (Dump ∷ ms) noted silent all = unnoted_first Dumped _ _ (inr refl) (notes_in_order ms noted silent all)
 notes_in_order (Actor a ∷ ms) noted silent all =
     let rest : Notes (in_order ms (λ b. events_of (without a noted b) ++ silent_after a noted silent b))
-        (moments_in_order ms (without a noted)) =
+    (moments_in_order ms (without a noted)) =
     notes_in_order ms (without a noted) (silent_after a noted silent) (λ b. still_silent (eqb b a) (noted b) (silent b) (all b)) in
     next_notes (noted a) (silent a) _ _ (all a)
     (subst (λ (f : ℕ → List Event). Notes (in_order ms f) (moments_in_order ms (without a noted)))
-        (λ i b. sym (later_both (eqb b a) (noted b) (silent b)) i) rest)
+    (λ i b. sym (later_both (eqb b a) (noted b) (silent b)) i) rest)

@@ -1,6 +1,6 @@
 -- the world after the code of each call
-use Rattle.std.proofs.Common.{◌≡◌, ◌≢◌, ℕ, ◌+◌, ◌-◌, ◌<◌, ◌≤◌, ◌^◌, ◌⊎◌, inl, inr, Bool, true, false, eqb, if◌then◌else◌, Option, None,
-    List, [], ◌∷◌, ◌++◌, length, get_or, set, refl, sym, ap, ◌∙◌, subst, append_assoc, arith, length-append}
+use Rattle.std.proofs.Common.{◌≡◌, ◌≢◌, ℕ, ◌+◌, ◌-◌, ◌<◌, ◌≤◌, ◌^◌, ◌⊎◌, inl, inr, Bool, true, false, eqb, if◌then◌else◌, Option, None}
+use Rattle.std.proofs.Common.{List, [], ◌∷◌, ◌++◌, length, get_or, set, refl, sym, ap, ◌∙◌, subst, append_assoc, arith, length-append}
 use Rattle.std.specs.Prelude.{OnOk, OnErr, MatchResult, Result, Ok, Err}
 use Rattle.std.proofs.lemmas.List.{append-nil}
 use Rattle.tect_ids.specs.declared.ids.Counts.{Counts}
@@ -17,7 +17,7 @@ use Rattle.entry_words.specs.declared.entry.Moment.TheVariants.{Local}
 use Rattle.entry_words.specs.declared.entry.Note.TheVariants as notes
 use Rattle.entry_words.specs.Moments.{running_in}
 use Rattle.world_runs.specs.declared.event.Event.{Event}
-use Rattle.world_runs.specs.declared.event.Event.TheVariants.{Began, Refused, Stopped}
+use Rattle.world_runs.specs.declared.event.Event.TheVariants.{Began, NotBegun, Stopped}
 use Rattle.world_runs.specs.Moments.{Actor, program_of, idle_actor}
 use Rattle.world_runs.specs.Moments as runs
 use Rattle.world_runs.specs.Report.{transactions}
@@ -43,8 +43,8 @@ use Rattle.tect_world.specs.Clients.{client_at, raised, IsClientOf}
 use Rattle.tect_world.specs.ClientSteps.{StepsOnce, BeginsOnce, StopsOnce, StaysSo, marks_for, stepped_events}
 use Rattle.tect_world.specs.Inside.{life_of, noted_in, IsWorld}
 use Rattle.tect_world.specs.Noted.{AreNoted}
-use Rattle.tect_world.specs.Life.{present, grown, last_op, next_op, actor_asks, actor_answer, actor_events, transaction, step_answer,
-    step_events}
+use Rattle.tect_world.specs.Life.{present, grown, last_op, next_op, actor_asks, actor_answer, actor_events, transaction, step_answer}
+use Rattle.tect_world.specs.Life.{step_events}
 use Rattle.tect_world.specs.Steps.{HasBegun, FailsWith, Stepped}
 use Rattle.tect_world.proofs.Lives.{Grows, grows, stays, world_run, world_store, world_owns, world_state}
 use Rattle.tect_world.proofs.Marking.{told_all, marked_all, step_few, marks_length}
@@ -78,7 +78,7 @@ module _ (old : Inside) (a : ℕ) (before : ClientLife) (is : IsWorld old) (low 
   own_count =
       ap (transactions (events_in before)) own_op
       ∙ ap (λ (es : List Event). transactions es (last_op (present (life_of old)) a))
-          (ap events_in same_client ∙ sym (world_owns old is a low high))
+      (ap events_in same_client ∙ sym (world_owns old is a low high))
       ∙ transactions_own (life_of old).history (last_op (present (life_of old)) a)
 
   abbrev r : ClientLife
@@ -174,7 +174,7 @@ module _ (old : Inside) (a : ℕ) (before : ClientLife) (is : IsWorld old) (low 
         held = entries_stay old.shards new.shards r o.step.stamp (noted_in old) noted_now within o.step.tried o.step.there;
         noted = subst (λ (k : ℕ). AreNoted k new.shards.entries (noted_in old ++ noted_then)) clock_then
             (step_kept old.shards new.shards r o.step.stamp (noted_in old) noted_now within o.step.tried (op_in r) o.step.answer
-                o.step.there o.step.later);
+            o.step.there o.step.later);
         items = items;
         counts = counts;
         events = o.step.events ∙ ap (λ (l : ClientLife). events_in l ++ es) same_client;
@@ -207,16 +207,16 @@ module _ (old : Inside) (a : ℕ) (before : ClientLife) (is : IsWorld old) (low 
       own_run =
           let all : OwnRun s.counts idle_actor (events_in r ++ es) = rw (← o.step.events) life.run in
           let rest : OwnRun s.counts (own_state s.counts idle_actor (events_in r)) es = own_run-rest s.counts idle_actor (events_in r) es
-              all in
+          all in
           subst (λ (k : Counts). OwnRun c (own_state k idle_actor (events_in r)) es) (sym mine.counts)
           (subst (λ (k : Counts). OwnRun k (own_state k idle_actor (events_in r)) es) counts_kept rest)
 
       came : Outcome c (present (life_of old)).store (state_in r) (op_in r) own_prog es o.step.answer
       came =
           outcome c (present (life_of old)).store (state_in r) (op_in r) own_prog r.silent refused_so o.step.tried o.step.answer o.step.asks
-              replied
+          replied
           (subst (λ (k : Counts). EndsSo (state_after k (state_in r) o.step.tried) o.step.tried o.step.answer) mine.counts o.step.ends)
-              own_run
+          own_run
 
       counts_here : c ≡ (present (life_of old)).counts
       counts_here = sym (counts_stay (runs.opening c) (life_of old).history)
@@ -237,8 +237,11 @@ module _ (old : Inside) (a : ℕ) (before : ClientLife) (is : IsWorld old) (low 
 
       pub step_is : Stepped (life_of old) (life_of new) (last_op (present (life_of old)) a) turned
       step_is = elim came [
-        | inl h ↦ inl (grew (step_events (present (life_of old)) (last_op (present (life_of old)) a)) (h.0 ∙ events_here), o.step.told ∙ ap
-            turned_by (h.1 ∙ answer_here))
+        | inl h ↦ inl (
+          grew (step_events (present (life_of old)) (last_op (present (life_of old)) a)) (h.0 ∙ events_here),
+          o.step.told ∙ ap
+              turned_by (h.1 ∙ answer_here),
+        )
         | inr h ↦
             let x : Answer = h.0 in
             let done : turned ≡ Done x = o.step.told ∙ ap turned_by h.3 in
@@ -251,8 +254,8 @@ module _ (old : Inside) (a : ℕ) (before : ClientLife) (is : IsWorld old) (low 
           fails x (inl e) = inl (grew (failed (last_op (present (life_of old)) a) x) (e ∙ ap (λ (p : OpId). failed p x) own_op))
           fails x (inr e) =
               inr (grew (transaction (present (life_of old)).store (last_op (present (life_of old)) a)
-                  (actor_asks ((present (life_of old)).actors a) (last_op (present (life_of old)) a)) ++ failed
-                  (last_op (present (life_of old)) a) x)
+              (actor_asks ((present (life_of old)).actors a) (last_op (present (life_of old)) a)) ++ failed
+              (last_op (present (life_of old)) a) x)
               (e ∙ (λ i. transaction (present (life_of old)).store (own_op i) (asks_here i) ++ failed (own_op i) x)))
 
     -- ---- a begin, a stop, and no begin
@@ -260,16 +263,16 @@ module _ (old : Inside) (a : ℕ) (before : ClientLife) (is : IsWorld old) (low 
     pub one_grows : (e : Event) → new.shards ≡ old.shards → events_in s ≡ events_in before ++ e ∷ [] → s.actor ≡ before.actor
         → s.counts ≡ before.counts → r.clock ≤ s.clock → s.clock ≤ r.clock + 1
         → new.clock ≡ s.clock → new.order.items ≡ os ++ marks.Actor before.actor ∷ [] → RepliesAre old.shards.store (e ∷ [])
-            → old.shards.store ≡ stored_after old.shards.store (e ∷ [])
+        → old.shards.store ≡ stored_after old.shards.store (e ∷ [])
         → (kept : List Moment) → s.moments ≡ before.moments ++ kept → length kept ≤ 1 → (kept ≡ []) ⊎ (before.silent ≡ [])
-            → AreNoted s.clock old.shards.entries (noted_in old ++ kept)
+        → AreNoted s.clock old.shards.entries (noted_in old ++ kept)
         → Grows old new a s (e ∷ []) (marks_for a (e ∷ []))
     one_grows e shards events actor counts rises soon clock pushed replies store kept moments few fresh noted =
         let order_is : new.order.items ≡ old.order.items ++ marks.Actor a ∷ [] =
         pushed ∙ ap (λ (ms : List Mark). ms ++ marks.Actor before.actor ∷ []) order ∙ ap (λ (n : ℕ). old.order.items ++ marks.Actor n ∷ [])
-            mine.actor in
+        mine.actor in
         let order_length : length new.order.items ≡ length old.order.items + 1 = ap length order_is ∙ length-append old.order.items
-            (marks.Actor a ∷ []) in
+        (marks.Actor a ∷ []) in
         record {
           kept = kept;
           moments = moments ∙ ap (λ (l : ClientLife). l.moments ++ kept) same_client;
@@ -306,23 +309,23 @@ module _ (old : Inside) (a : ℕ) (before : ClientLife) (is : IsWorld old) (low 
           subst (λ (x : ClientLife). RunsIn x.silent (running_in None x.moments) (state_in s).running) begun life.going in
           let none : r.silent ≡ [] = none_silent r.silent r.moments note (next_op_in r) (state_in s).running going refl in
           one_grows (Began (next_op_in r) command) shards (ap events_in begun ∙ noted_event r.moments note r.silent none)
-              (ap (λ (l : ClientLife). l.actor) begun) (ap (λ (l : ClientLife). l.counts) begun)
+          (ap (λ (l : ClientLife). l.actor) begun) (ap (λ (l : ClientLife). l.counts) begun)
           (rw begun (omega arith)) (rw begun (omega arith)) clock pushed tt refl (note ∷ []) (ap (λ (l : ClientLife). l.moments) begun)
-              (omega arith) (inr none)
+          (omega arith) (inr none)
           (subst (λ (k : ℕ). AreNoted k old.shards.entries (noted_in old ++ note ∷ [])) (sym (ap (λ (l : ClientLife). l.clock) begun))
           (noted_local r.clock (r.clock + 1) r.actor (notes.Began (next_op_in r) command) old.shards.entries (noted_in old) noted_now
-              (omega arith)))
+          (omega arith)))
 
       refused_grows : s ≡ refused_life r command → new.clock ≡ s.clock → new.order.items ≡ os ++ marks.Actor before.actor ∷ []
-          → Grows old new a s (Refused (next_op_in r) command ∷ []) (marks_for a (Refused (next_op_in r) command ∷ []))
+          → Grows old new a s (NotBegun (next_op_in r) command ∷ []) (marks_for a (NotBegun (next_op_in r) command ∷ []))
       refused_grows refused clock pushed =
-          one_grows (Refused (next_op_in r) command) shards
-              (ap events_in refused ∙ sym (append_assoc (events_of r.moments) r.silent (Refused (next_op_in r) command ∷ [])))
+          one_grows (NotBegun (next_op_in r) command) shards
+          (ap events_in refused ∙ sym (append_assoc (events_of r.moments) r.silent (NotBegun (next_op_in r) command ∷ [])))
           (ap (λ (l : ClientLife). l.actor) refused) (ap (λ (l : ClientLife). l.counts) refused) (rw refused (omega arith))
-              (rw refused (omega arith)) clock pushed tt refl
+          (rw refused (omega arith)) clock pushed tt refl
           [] (ap (λ (l : ClientLife). l.moments) refused ∙ sym (append-nil before.moments)) (omega arith) (inl refl)
           (subst (λ (k : ℕ). AreNoted k old.shards.entries (noted_in old ++ [])) (sym (ap (λ (l : ClientLife). l.clock) refused))
-              (none_more r.clock old.shards.entries (noted_in old) noted_now))
+          (none_more r.clock old.shards.entries (noted_in old) noted_now))
 
       pub begin_world : BeginsOnce before s command old.clock new.clock os new.order.items → IsWorld new
           × HasBegun (life_of old) (life_of new) (next_op (present (life_of old)) a) command
@@ -330,14 +333,20 @@ module _ (old : Inside) (a : ℕ) (before : ClientLife) (is : IsWorld old) (low 
         | inl h ↦
             let g = begun_grows h.1 b.clock b.order in (
               stays old new a s (Began (next_op_in r) command ∷ []) _ is low high g,
-              record { begin = Began (next_op_in r) command; begins = (own_next, refl);
-                  history = grows old new a s (Began (next_op_in r) command ∷ []) _ is low high g },
+              record {
+                begin = Began (next_op_in r) command;
+                begins = (own_next, refl);
+                history = grows old new a s (Began (next_op_in r) command ∷ []) _ is low high g;
+              },
             )
         | inr h ↦
             let g = refused_grows h.1 b.clock b.order in (
-              stays old new a s (Refused (next_op_in r) command ∷ []) _ is low high g,
-              record { begin = Refused (next_op_in r) command; begins = (own_next, refl);
-                  history = grows old new a s (Refused (next_op_in r) command ∷ []) _ is low high g },
+              stays old new a s (NotBegun (next_op_in r) command ∷ []) _ is low high g,
+              record {
+                begin = NotBegun (next_op_in r) command;
+                begins = (own_next, refl);
+                history = grows old new a s (NotBegun (next_op_in r) command ∷ []) _ is low high g;
+              },
             )
       ]
 
@@ -352,16 +361,19 @@ module _ (old : Inside) (a : ℕ) (before : ClientLife) (is : IsWorld old) (low 
         held = ap (λ (w : KeptStore). length w.entries) shards;
         noted = subst (λ (w : KeptStore). AreNoted new.clock w.entries (noted_in old ++ [])) (sym shards)
             (subst (λ (k : ℕ). AreNoted k old.shards.entries (noted_in old ++ [])) (sym o.clock)
-                (none_more old.clock old.shards.entries (noted_in old) is.noted));
+            (none_more old.clock old.shards.entries (noted_in old) is.noted));
         items = items;
         counts = ap (λ (w : KeptStore). w.counts) shards;
         events = ap events_in o.stays ∙ ap events_in same_client ∙ sym (append-nil (events_in (client_at c old.clients.items a)));
         order = o.order ∙ order ∙ sym (append-nil old.order.items);
         told = refl;
         marked = λ b. none_marked (eqb b a);
-        mine = record { actor = ap (λ (l : ClientLife). l.actor) o.stays ∙ mine.actor;
-            counts = ap (λ (l : ClientLife). l.counts) o.stays ∙ mine.counts; life = life;
-            early = omega (arith, ap (λ (l : ClientLife). l.clock) o.stays, clock_is, o.clock) };
+        mine = record {
+          actor = ap (λ (l : ClientLife). l.actor) o.stays ∙ mine.actor;
+          counts = ap (λ (l : ClientLife). l.counts) o.stays ∙ mine.counts;
+          life = life;
+          early = omega (arith, ap (λ (l : ClientLife). l.clock) o.stays, clock_is, o.clock);
+        };
         later = omega (arith, o.clock);
         places = λ p. let before = is.places p
             in let same : clock_at new.shards p ≡ clock_at old.shards p = ap (λ (w : KeptStore). clock_at w p) shards
@@ -407,7 +419,7 @@ module _ (old : Inside) (a : ℕ) (before : ClientLife) (is : IsWorld old) (low 
       stop_grows =
           let stop : IsStop r s = rw o.stops (stop_by r r.silent refl) in
           one_grows (Stopped (op_in r)) shards stop.events stop.actor stop.counts stop.low stop.high o.clock o.order tt refl stop.kept
-              stop.moments stop.few stop.fresh
+          stop.moments stop.few stop.fresh
           (stop.noted old.shards.entries (noted_in old) noted_now)
 
       pub stop_stays : IsWorld new

@@ -4,7 +4,7 @@ use Rattle.tect_ids.specs.declared.ids.OpId.{OpId}
 use Rattle.tect_ids.specs.declared.answer.Answer.{Answer}
 use Rattle.tect_ids.specs.declared.command.Command.{Command}
 use Rattle.world_runs.specs.declared.event.Event.{Event}
-use Rattle.world_runs.specs.declared.event.Event.TheVariants.{Began, Refused, Acted, Ended, Stopped, Failed, Dumped}
+use Rattle.world_runs.specs.declared.event.Event.TheVariants.{Began, NotBegun, Acted, Ended, Stopped, Failed, Dumped}
 use Rattle.world_runs.specs.Follows.{Acts, IsBeginOf}
 use Rattle.program_rules.specs.Lacks.{IsLack}
 use Rattle.clients.specs.declared.turned.Turned.{Turned}
@@ -23,7 +23,7 @@ abbrev pub EndsWith : OpId → Event → Answer → Type 0
 EndsWith op (Ended other a) x = (other ≡ op) × (a ≡ x)
 EndsWith op (Failed other a) x = (other ≡ op) × (a ≡ x)
 EndsWith op (Began other c) x = ⊥
-EndsWith op (Refused other c) x = ⊥
+EndsWith op (NotBegun other c) x = ⊥
 EndsWith op (Acted other q r) x = ⊥
 EndsWith op (Stopped other) x = ⊥
 EndsWith op Dumped x = ⊥

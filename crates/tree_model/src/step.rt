@@ -58,7 +58,7 @@ pub enum TreeStep {
 
 /// What a step shows where it is not refused.
 #[derive(Debug, Drop)]
-pub enum Shown {
+pub enum StepValue {
     Done,
     Parent { parent: DirId, sealed: bool },
     Node { node: Node },
@@ -81,6 +81,6 @@ pub enum Refusal {
 /// What the tree says to a step.
 #[derive(Debug, Drop)]
 pub enum TreeReply {
-    Ok { shown: Shown },
+    Ok { value: StepValue },
     Refused { why: Refusal },
 }

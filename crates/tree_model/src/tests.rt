@@ -1,4 +1,4 @@
-use crate::{Shown, Tree, TreeReply, TreeStep};
+use crate::{StepValue, Tree, TreeReply, TreeStep};
 use std::alloc::Global;
 use std::test::Fail;
 use tect_ids::{BadName, DirId, FileId, Key, Name, Node, Over, ROOT};
@@ -17,7 +17,12 @@ fn key(alloc: Global) -> Result<Key, BadName> {
 /// Whether the tree says to the step that it is done.
 fn does(tree: &mut Tree, step: &TreeStep) -> Result<bool, Fail> {
     let reply = tree.play(step)?;
-    Ok(matches!(&reply, TreeReply::Ok { shown: Shown::Done }))
+    Ok(matches!(
+        &reply,
+        TreeReply::Ok {
+            value: StepValue::Done
+        }
+    ))
 }
 
 fn makes(tree: &mut Tree) -> Result<bool, Fail> {
@@ -55,7 +60,7 @@ fn swaps_a_for_b(tree: &mut Tree) -> Result<bool, Fail> {
 fn count_in_root(tree: &mut Tree) -> Result<usize, Fail> {
     match tree.play(&TreeStep::List { dir: ROOT })? {
         TreeReply::Ok {
-            shown: Shown::Entries { items, .. },
+            shown: StepValue::Entries { items, .. },
         } => Ok(items.len()),
         _ => Err(Fail::new(format_args!("no listing"))),
     }

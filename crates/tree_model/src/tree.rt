@@ -6,7 +6,7 @@ ghost use Rattle.tree_model.specs.Tree.{opening_tree, tree_reply, tree_change, t
 ghost use Rattle.tree_model.specs.Tree.{unbind_reply, at_name, as_listed, set_name};
 ghost use Rattle.tect_ids.specs.declared.ids.Node.{Node as AnyNode};
 
-use crate::step::{Refusal, Shown, TreeDir, TreeFile, TreeReply, TreeStep};
+use crate::step::{Refusal, StepValue, TreeDir, TreeFile, TreeReply, TreeStep};
 use key_maps::{DirMap, EntryTable, FileMap, NodeMap};
 use std::alloc::Global;
 use std::marker::Model;
@@ -102,7 +102,7 @@ impl Tree {
         ensures { result ≡ tree_reply self.now (TreeStep.Check dir) }
     {
         match self.dirs.get(dir) {
-            Some(found) => shows(Shown::Parent {
+            Some(found) => shows(StepValue::Parent {
                 parent: found.parent,
                 sealed: found.sealed,
             }),
@@ -117,7 +117,7 @@ impl Tree {
             return refuses(Refusal::NoDir);
         }
         match self.entries.get(key) {
-            Some(node) => shows(Shown::Node { node: *node }),
+            Some(node) => shows(StepValue::Node { node: *node }),
             None => refuses(Refusal::NoName),
         }
     }
@@ -128,7 +128,7 @@ impl Tree {
         let Some(found) = self.dirs.get(dir) else {
             return Ok(refuses(Refusal::NoDir));
         };
-        Ok(shows(Shown::Entries {
+        Ok(shows(StepValue::Entries {
             sealed: found.sealed,
             items: self.listed(dir)?,
         }))
@@ -149,11 +149,11 @@ impl Tree {
     }
 
     fn make(&self, node: Node) -> TreeReply
-        ensures { result ≡ unless (is_some (get self.now.made node)) Refusal.Exists (TreeReply.Ok Shown.Done) }
+        ensures { result ≡ unless (is_some (get self.now.made node)) Refusal.Exists (TreeReply.Ok StepValue.Done) }
     {
         match self.made.get(node) {
             Some(()) => refuses(Refusal::Exists),
-            None => shows(Shown::Done),
+            None => shows(StepValue::Done),
         }
     }
 
@@ -169,9 +169,9 @@ impl Tree {
         match (self.entries.get(key), over) {
             (Some(_), Over::Absent) => refuses(Refusal::Exists),
             (Some(Node::Dir(_)), Over::File) => refuses(Refusal::IsDir),
-            (Some(Node::File(_)), Over::File) => shows(Shown::Done),
+            (Some(Node::File(_)), Over::File) => shows(StepValue::Done),
             (None, _) if self.entries.count(key.dir) >= ENTRY_LIMIT => refuses(Refusal::Full),
-            (None, _) => shows(Shown::Done),
+            (None, _) => shows(StepValue::Done),
         }
     }
 
@@ -221,7 +221,7 @@ impl Tree {
         ensures { result ≡ tree_reply self.now (TreeStep.GrantDir dir) }
     {
         match self.dirs.get(dir) {
-            Some(_) => shows(Shown::Done),
+            Some(_) => shows(StepValue::Done),
             None => refuses(Refusal::NoDir),
         }
     }
@@ -230,7 +230,7 @@ impl Tree {
         ensures { result ≡ tree_reply self.now (TreeStep.GrantFile file) }
     {
         match self.files.get(file) {
-            Some(_) => shows(Shown::Done),
+            Some(_) => shows(StepValue::Done),
             None => refuses(Refusal::NoFile),
         }
     }
@@ -328,7 +328,7 @@ fn swap_over(now: Option<Node>, node: Node) -> TreeReply
     ensures { result ≡ swap_reply now node }
 {
     match (now, node) {
-        (None, _) | (Some(Node::File(_)), Node::File(_)) => shows(Shown::Done),
+        (None, _) | (Some(Node::File(_)), Node::File(_)) => shows(StepValue::Done),
         (Some(Node::Dir(_)), _) => refuses(Refusal::IsDir),
         (Some(Node::File(_)), Node::Dir(_)) => refuses(Refusal::Exists),
     }
@@ -341,16 +341,16 @@ fn unbind_from(now: Option<Node>, want: Want) -> TreeReply
     match (now, want) {
         (None, Want::AnyFile) => refuses(Refusal::NoName),
         (Some(Node::Dir(_)), Want::AnyFile) => refuses(Refusal::IsDir),
-        (Some(Node::File(_)), Want::AnyFile) => shows(Shown::Done),
-        (Some(node), Want::Exactly(wanted)) if node == wanted => shows(Shown::Done),
+        (Some(Node::File(_)), Want::AnyFile) => shows(StepValue::Done),
+        (Some(node), Want::Exactly(wanted)) if node == wanted => shows(StepValue::Done),
         (_, Want::Exactly(_)) => refuses(Refusal::Changed { now }),
     }
 }
 
-fn shows(shown: Shown) -> TreeReply
-    ensures { result ≡ TreeReply.Ok shown }
+fn shows(value: StepValue) -> TreeReply
+    ensures { result ≡ TreeReply.Ok value }
 {
-    TreeReply::Ok { shown }
+    TreeReply::Ok { value }
 }
 
 fn refuses(why: Refusal) -> TreeReply

@@ -22,7 +22,7 @@ use Rattle.program_rules.specs.Paths.{but_last}
 use Rattle.program_rules.specs.Programs.{root, way, object_number, phase_hear, phase_answer, first_phase, from_root}
 use Rattle.world_runs.specs.Served.{IsServed}
 use Rattle.world_runs.specs.declared.event.Event.{Event}
-use Rattle.world_runs.specs.declared.event.Event.TheVariants.{Began, Refused, Acted, Ended, Stopped, Failed, Dumped}
+use Rattle.world_runs.specs.declared.event.Event.TheVariants.{Began, NotBegun, Acted, Ended, Stopped, Failed, Dumped}
 use Rattle.program_rules.specs.Lacks.{no_room}
 use Rattle.world_runs.specs.Moments.{Actor, WorldState, opening, May, CanBegin, after, after_all, RunFrom, IsWorldRun, asked}
 use Rattle.world_runs.specs.Moments.{program_answer, program_of, heard, with_actor}
@@ -45,16 +45,20 @@ steps_more h e = tree_steps-append h (e ∷ []) ∙ ap (λ l. tree_steps h ++ l)
 
 command_more : (h : List Event) (e : Event) (op : OpId) → command_of (h ++ e ∷ []) op ≡ or_later (command_of h op) (begun_by e op)
 command_more [] e op = elim (begun_by e op) as (λ o. or_later o None ≡ o) [ None ↦ refl | Some c ↦ refl ]
-command_more (d ∷ ds) e op = elim (begun_by d op) as (λ o. or_later o (command_of (ds ++ e ∷ []) op) ≡ or_later (or_later o (command_of ds op)) (begun_by e op)) [ None ↦ command_more ds e op | Some c ↦ refl ]
+command_more (d ∷ ds) e op = elim (begun_by d op) as
+    (λ o. or_later o (command_of (ds ++ e ∷ []) op) ≡ or_later (or_later o (command_of ds op)) (begun_by e op))
+    [ None ↦ command_more ds e op | Some c ↦ refl ]
 
 -- who was refused was so still
 refused_still : (h es : List Event) (op : OpId) → was_refused h op ≡ true → was_refused (h ++ es) op ≡ true
 refused_still [] es op is = absurd (let k : false ≡ true = is in cc)
-refused_still (d ∷ ds) es op is = elim (refuses op d) as (λ b. (b || was_refused ds op) ≡ true → (b || was_refused (ds ++ es) op) ≡ true) [ true ↦ λ k. refl | false ↦ λ k. refused_still ds es op k ] is
+refused_still (d ∷ ds) es op is = elim (refuses op d) as (λ b. (b || was_refused ds op) ≡ true → (b || was_refused (ds ++ es) op) ≡ true)
+    [ true ↦ λ k. refl | false ↦ λ k. refused_still ds es op k ] is
 
-refused_now : (h : List Event) (op : OpId) (c : Command) → was_refused (h ++ Refused op c ∷ []) op ≡ true
+refused_now : (h : List Event) (op : OpId) (c : Command) → was_refused (h ++ NotBegun op c ∷ []) op ≡ true
 refused_now [] op c = let itself : op_eq op op ≡ true = grind (arith, op_eq_cases op op) in rw itself refl
-refused_now (d ∷ ds) op c = elim (refuses op d) as (λ b. (b || was_refused (ds ++ Refused op c ∷ []) op) ≡ true) [ true ↦ refl | false ↦ refused_now ds op c ]
+refused_now (d ∷ ds) op c = elim (refuses op d) as (λ b. (b || was_refused (ds ++ NotBegun op c ∷ []) op) ≡ true)
+    [ true ↦ refl | false ↦ refused_now ds op c ]
 
 -- the command began, and was told so far
 abbrev WasBegun : List Event → Program → Type 0
@@ -81,12 +85,17 @@ tells_stay : (h : List Event) (e : Event) (o : Option Program) → ((p : Program
     → Tells (h ++ e ∷ []) o
 tells_stay h e None other t = tt
 tells_stay h e (Some p) other (inl t) =
-    inl (command_more h e p.op ∙ ap (λ z. or_later z (begun_by e p.op)) t.0, rw (steps_more h e) (phase_stays (tree_steps h) (told_of e) p.op p.command p.phase (other p refl) t.1))
+    inl (
+      command_more h e p.op ∙ ap (λ z. or_later z (begun_by e p.op)) t.0,
+      rw (steps_more h e)
+          (phase_stays (tree_steps h) (told_of e) p.op p.command p.phase (other p refl) t.1),
+    )
 tells_stay h e (Some p) other (inr t) = inr (refused_still h (e ∷ []) p.op t.0, t.1)
 
 tracked_more : (h : List Event) (m : WorldState) (e : Event) → Tracks m (tree_after opening_tree (tree_steps h)) → May m e
     → Tracks (after m e) (tree_after opening_tree (tree_steps (h ++ e ∷ [])))
-tracked_more h m e tracks may = rw (steps_more h e, tree_after-append opening_tree (tree_steps h) (told_of e)) (event_tracked m _ e tracks may).0
+tracked_more h m e tracks may = rw (steps_more h e, tree_after-append opening_tree (tree_steps h) (told_of e))
+    (event_tracked m _ e tracks may).0
 
 -- ---- an event that is no step
 
@@ -129,7 +138,8 @@ module _ (h : List Event) (m : WorldState) (t : AllTold h m) (e : Event) (no_ste
 
 -- ---- a command begins
 
-module _ (h : List Event) (m : WorldState) (t : AllTold h m) (op : OpId) (c : Command) (can : CanBegin (m.actors op.actor) op) (served : IsServed c) where
+module _ (h : List Event) (m : WorldState) (t : AllTold h m) (op : OpId) (c : Command) (can : CanBegin (m.actors op.actor) op)
+    (served : IsServed c) where
   -- the event
   abbrev began : Event
   began = Began op c
@@ -176,7 +186,8 @@ module _ (h : List Event) (m : WorldState) (t : AllTold h m) (op : OpId) (c : Co
   begun_told : AllTold (h ++ began ∷ []) (after m began)
   begun_told = record {
     tracks = tracked_more h m began t.tracks (can, served);
-    tells = λ b. changed (λ st. Tells (h ++ began ∷ []) st.running) m.actors op.actor _ b (λ p. inl (begun_here, first_phase_tells c served)) (λ p. quiet_tells h m t began refl b);
+    tells = λ b. changed (λ st. Tells (h ++ began ∷ []) st.running) m.actors op.actor _ b
+        (λ p. inl (begun_here, first_phase_tells c served)) (λ p. quiet_tells h m t began refl b);
     unbegun = λ o. changed (λ st. st.number < o.number → command_of (h ++ began ∷ []) o ≡ None) m.actors op.actor _ o.actor
         (λ p u. command_more h began o ∙ rw (t.unbegun o (earlier o p u)) (not_later o (earlier o p u) (inr u)))
         (λ p u. command_more h began o ∙ rw (t.unbegun o u) (not_later o u (inl p)));
@@ -187,10 +198,11 @@ module _ (h : List Event) (m : WorldState) (t : AllTold h m) (op : OpId) (c : Co
 
 -- ---- a command is refused
 
-module _ (h : List Event) (m : WorldState) (t : AllTold h m) (op : OpId) (c : Command) (can : CanBegin (m.actors op.actor) op) (served : IsServed c) where
+module _ (h : List Event) (m : WorldState) (t : AllTold h m) (op : OpId) (c : Command) (can : CanBegin (m.actors op.actor) op)
+    (served : IsServed c) where
   -- the event
   abbrev refusal : Event
-  refusal = Refused op c
+  refusal = NotBegun op c
 
   before_it : (o : OpId) → o.actor ≡ op.actor → op.number < o.number → (m.actors o.actor).number < o.number
   before_it o p u = rw p (omega (arith, can.next, u))
@@ -198,7 +210,8 @@ module _ (h : List Event) (m : WorldState) (t : AllTold h m) (op : OpId) (c : Co
   refused_told : AllTold (h ++ refusal ∷ []) (after m refusal)
   refused_told = record {
     tracks = tracked_more h m refusal t.tracks (can, served);
-    tells = λ b. changed (λ st. Tells (h ++ refusal ∷ []) st.running) m.actors op.actor _ b (λ p. inr (refused_now h op c, refl)) (λ p. quiet_tells h m t refusal refl b);
+    tells = λ b. changed (λ st. Tells (h ++ refusal ∷ []) st.running) m.actors op.actor _ b (λ p. inr (refused_now h op c, refl))
+        (λ p. quiet_tells h m t refusal refl b);
     unbegun = λ o. changed (λ st. st.number < o.number → command_of (h ++ refusal ∷ []) o ≡ None) m.actors op.actor _ o.actor
         (λ p u. command_more h refusal o ∙ rw (t.unbegun o (before_it o p u)) refl)
         (λ p u. command_more h refusal o ∙ rw (t.unbegun o u) refl);
@@ -256,8 +269,11 @@ module _ (h : List Event) (m : WorldState) (t : AllTold h m) (op : OpId) (q : An
       (phase_hear (request_place m.counts q) op (object_number op.actor (m.actors op.actor).serial) p.command p.phase x)
   heard_tells =
       let so_far : PhaseTells (tree_steps h) op p.command p.phase = rw asking.its at before.1 in
-      let heard : HeardTells m.store tree.made (request_place m.counts q) (object_number op.actor (m.actors op.actor).serial) (tree_steps h) op p.command p.phase (Some q) =
-      rw asking.asks at (phase_tells m.store tree.made all (request_place m.counts q) (object_number op.actor (m.actors op.actor).serial) (tree_steps h) op p.command p.phase so_far) in
+      let heard : HeardTells m.store tree.made (request_place m.counts q) (object_number op.actor (m.actors op.actor).serial) (tree_steps h)
+      op p.command p.phase (Some q) =
+      rw asking.asks at
+      (phase_tells m.store tree.made all (request_place m.counts q) (object_number op.actor (m.actors op.actor).serial) (tree_steps h)
+      op p.command p.phase so_far) in
       heard new allowed
 
   own_tells : Tells (h ++ did ∷ []) (heard m.counts (m.actors op.actor).serial q x (m.actors op.actor).running)
@@ -282,7 +298,8 @@ module _ (h : List Event) (m : WorldState) (t : AllTold h m) (op : OpId) (q : An
 
   did_unasked : (o : OpId) → (m.actors o.actor).number < o.number → of_op o (tree_steps (h ++ did ∷ [])) ≡ []
   did_unasked o late =
-      rw (steps_more h did, of_op-append o (tree_steps h) (told_of did), t.unasked o late) (other_step o op (tree_step q x) (says x) (differs (op_eq op o) refl))
+      rw (steps_more h did, of_op-append o (tree_steps h) (told_of did), t.unasked o late)
+      (other_step o op (tree_step q x) (says x) (differs (op_eq op o) refl))
     where
       differs : (b : Bool) → op_eq op o ≡ b → op_eq op o ≡ false
       differs false e = e
@@ -303,17 +320,22 @@ module _ (h : List Event) (m : WorldState) (t : AllTold h m) (op : OpId) (q : An
 
 event_told : (h : List Event) (m : WorldState) (e : Event) → AllTold h m → May m e → AllTold (h ++ e ∷ []) (after m e)
 event_told h m (Began op c) t may = begun_told h m t op c may.0 may.1
-event_told h m (Refused op c) t may = refused_told h m t op c may.0 may.1
-event_told h m (Acted op q x) t may = subst (λ (y : AnyReply). AllTold (h ++ Acted op q y ∷ []) (after m (Acted op q y))) (sym may.1) (acted_told h m t op q may.0)
-event_told h m (Ended op a) t may = rests h m t (Ended op a) refl op.actor _ refl refl (λ o. refl) (tracked_more h m (Ended op a) t.tracks may)
-event_told h m (Stopped op) t may = rests h m t (Stopped op) refl op.actor _ refl refl (λ o. refl) (tracked_more h m (Stopped op) t.tracks may)
-event_told h m (Failed op a) t may = rests h m t (Failed op a) refl op.actor _ refl refl (λ o. refl) (tracked_more h m (Failed op a) t.tracks may)
+event_told h m (NotBegun op c) t may = refused_told h m t op c may.0 may.1
+event_told h m (Acted op q x) t may = subst (λ (y : AnyReply). AllTold (h ++ Acted op q y ∷ []) (after m (Acted op q y))) (sym may.1)
+    (acted_told h m t op q may.0)
+event_told h m (Ended op a) t may = rests h m t (Ended op a) refl op.actor _ refl refl (λ o. refl)
+    (tracked_more h m (Ended op a) t.tracks may)
+event_told h m (Stopped op) t may = rests h m t (Stopped op) refl op.actor _ refl refl (λ o. refl)
+    (tracked_more h m (Stopped op) t.tracks may)
+event_told h m (Failed op a) t may = rests h m t (Failed op a) refl op.actor _ refl refl (λ o. refl)
+    (tracked_more h m (Failed op a) t.tracks may)
 event_told h m Dumped t may = stays h m t Dumped refl (λ o. refl) (tracked_more h m Dumped t.tracks may)
 
 run_told : (h : List Event) (m : WorldState) (es : List Event) → AllTold h m → RunFrom m es → AllTold (h ++ es) (after_all m es)
 run_told h m [] t run = rw append-nil t
 run_told h m (e ∷ es) t run =
-    let more : AllTold ((h ++ e ∷ []) ++ es) (after_all (after m e) es) = run_told (h ++ e ∷ []) (after m e) es (event_told h m e t run.0) run.1 in
+    let more : AllTold ((h ++ e ∷ []) ++ es) (after_all (after m e) es) = run_told (h ++ e ∷ []) (after m e) es (event_told h m e t run.0)
+    run.1 in
     rw (append_assoc h (e ∷ []) es) at more
 
 opening_told : (counts : Counts) → AllTold [] (opening counts)
@@ -334,7 +356,8 @@ may_at m (d ∷ es) (suc place) e run is = may_at (after m d) es place e run.1 i
 
 told_at : (counts : Counts) (events : List Event) (place : ℕ) → IsWorldRun counts events
     → AllTold (take place events) (after_all (opening counts) (take place events))
-told_at counts events place run = run_told [] (opening counts) (take place events) (opening_told counts) (run-take (opening counts) events place run)
+told_at counts events place run = run_told [] (opening counts) (take place events) (opening_told counts)
+    (run-take (opening counts) events place run)
 
 -- a command that has come to its answer
 explains : (h : List Event) (op : OpId) (c : Command) (at : Phase) (a : Answer) → command_of h op ≡ Some c → phase_answer at ≡ Some a
@@ -365,16 +388,19 @@ explained h op a None e t = absurd (let z : None ≡ Some a = e in cc)
 explained h op a (Some p) e t = at (op_eq p.op op) refl e
   where
     at : (b : Bool) → op_eq p.op op ≡ b → program_answer (if b then Some p else None) ≡ Some a → Explains h op a ⊎ HadNoRoom h op a
-    at true is e = let same : p.op ≡ op = grind (arith, op_eq_cases p.op op) in subst (λ (o : OpId). Explains h o a ⊎ HadNoRoom h o a) same (answer_told h p a e t)
+    at true is e = let same : p.op ≡ op = grind (arith, op_eq_cases p.op op)
+        in subst (λ (o : OpId). Explains h o a ⊎ HadNoRoom h o a) same (answer_told h p a e t)
     at false is e = absurd (let z : None ≡ Some a = e in cc)
 
 pub run_headline : (counts : Counts) (events : List Event) → IsWorldRun counts events → Headline events
 run_headline counts events run = record {
   tree = (world_tracked counts events run).1;
   begins = λ place op c is.
-      let may : May (after_all (opening counts) (take place events)) (Began op c) = may_at (opening counts) events place (Began op c) run is in
+      let may : May (after_all (opening counts) (take place events)) (Began op c) = may_at (opening counts) events place (Began op c) run is
+      in
       (told_at counts events place run).unasked op (omega (arith, (may.0).next));
   answers = λ place op a is.
-      let may : May (after_all (opening counts) (take place events)) (Ended op a) = may_at (opening counts) events place (Ended op a) run is in
+      let may : May (after_all (opening counts) (take place events)) (Ended op a) = may_at (opening counts) events place (Ended op a) run is
+      in
       explained (take place events) op a _ may ((told_at counts events place run).tells op.actor);
 }

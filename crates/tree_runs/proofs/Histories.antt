@@ -11,7 +11,8 @@ use Rattle.tree_runs.proofs.Runs.{Asks, asks_of}
 
 pub tree_steps-append : (es fs : List Event) → tree_steps (es ++ fs) ≡ tree_steps es ++ tree_steps fs
 tree_steps-append [] fs = refl
-tree_steps-append (e ∷ es) fs = ap (λ l. told_of e ++ l) (tree_steps-append es fs) ∙ sym (append_assoc (told_of e) (tree_steps es) (tree_steps fs))
+tree_steps-append (e ∷ es) fs = ap (λ l. told_of e ++ l) (tree_steps-append es fs) ∙ sym
+    (append_assoc (told_of e) (tree_steps es) (tree_steps fs))
 
 -- the op of an event is its actor's last
 pub record IsLast (m : WorldState) (op : OpId) : Type 0 where

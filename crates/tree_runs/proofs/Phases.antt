@@ -62,7 +62,8 @@ made_next s made op q = (tree_after (view s made) (told_as op (tree_step q (stor
 -- a request makes nothing, or just what has the number
 abbrev pub Makes : Store → Made → OpId → ℕ → AnyReq → Type 0
 Makes s made op i q =
-    ((made_next s made op q ≡ made) × (is_made (store_reply s q) ≡ false)) ⊎ ((is_made (store_reply s q) ≡ true) × MakesNoOther i made (made_next s made op q))
+    ((made_next s made op q ≡ made) × (is_made (store_reply s q) ≡ false))
+    ⊎ ((is_made (store_reply s q) ≡ true) × MakesNoOther i made (made_next s made op q))
 
 -- a step that makes nothing
 made_same : (t : Tree) (st : TreeStep) (x : TreeReply) → (tree_change t st).made ≡ t.made → (tree_next t st x).made ≡ t.made
@@ -105,7 +106,8 @@ module _ (s : Store) (made : Made) (op : OpId) where
 
   pub grant_same : (n : Node) (h : Hold) (k : Key) → MakesNothing s made op (grant_ask n h k)
   grant_same (nodes.Dir d) h k = (refused_same (view s made) op (step.GrantDir d) _ refl _ (granted_step (step.GrantDir d) _), grind arith)
-  grant_same (nodes.File f) h k = (refused_same (view s made) op (step.GrantFile f) _ refl _ (granted_step (step.GrantFile f) _), grind arith)
+  grant_same (nodes.File f) h k =
+      (refused_same (view s made) op (step.GrantFile f) _ refl _ (granted_step (step.GrantFile f) _), grind arith)
 
   pub release_same : (n : Node) (h : Hold) → MakesNothing s made op (release_ask n h)
   release_same (nodes.Dir d) h = (refl, grind arith)
@@ -141,12 +143,13 @@ module _ (s : Store) (made : Made) (op : OpId) (i : ℕ) (all : AllMade s made) 
 -- ---- by phases
 
 -- what holds of a request of a command, and of the command after it
-pub record Acts (s : Store) (made : Made) (number own : ℕ) (place : Place) (op : OpId) (c : Command) (at : Phase) (q : AnyReq) : Type 0 where
-  pub new : MakesNew made q
-  pub makes : Makes s made op (object_number op.actor own) q
-  pub serial : next_serial own (store_reply s q) ≤ number + 1
-  pub knows : PhaseKnows number (next_serial own (store_reply s q)) c
-      (phase_hear place op (object_number op.actor own) c at (store_reply s q))
+pub record Acts (s : Store) (made : Made) (number own : ℕ) (place : Place) (op : OpId) (c : Command) (at : Phase) (q : AnyReq) : Type 0
+  where
+    pub new : MakesNew made q
+    pub makes : Makes s made op (object_number op.actor own) q
+    pub serial : next_serial own (store_reply s q) ≤ number + 1
+    pub knows : PhaseKnows number (next_serial own (store_reply s q)) c
+        (phase_hear place op (object_number op.actor own) c at (store_reply s q))
 
 -- the same of what may be a request
 abbrev pub ActsIf : Store → Made → ℕ → ℕ → Place → OpId → Command → Phase → Option AnyReq → Type 0
@@ -215,130 +218,145 @@ module _ (number m : ℕ) (place : Place) (c : Command) where
   granted_knows k n x false e = tt
 
 module _ (s : Store) (made : Made) (all : AllMade s made) (number own : ℕ) (few : own ≤ number + 1) (place : Place) (op : OpId)
-    (new_dir : get made (dir_at (object_number op.actor own)) ≡ None) (new_file : get made (file_at (object_number op.actor own)) ≡ None) where
-  -- the number of the next object that the actor makes
-  abbrev i : ℕ
-  i = object_number op.actor own
+    (new_dir : get made (dir_at (object_number op.actor own)) ≡ None) (new_file : get made (file_at (object_number op.actor own)) ≡ None)
+  where
+    -- the number of the next object that the actor makes
+    abbrev i : ℕ
+    i = object_number op.actor own
 
-  -- the actor's serial after the request
-  abbrev after_it : AnyReq → ℕ
-  after_it q = next_serial own (store_reply s q)
+    -- the actor's serial after the request
+    abbrev after_it : AnyReq → ℕ
+    after_it q = next_serial own (store_reply s q)
 
-  -- what the store replies
-  abbrev heard_by : AnyReq → AnyReply
-  heard_by q = store_reply s q
+    -- what the store replies
+    abbrev heard_by : AnyReq → AnyReply
+    heard_by q = store_reply s q
 
-  -- what holds of a request of the command at the phase
-  abbrev Act : Command → Phase → AnyReq → Type 0
-  Act c at q = Acts s made number own place op c at q
+    -- what holds of a request of the command at the phase
+    abbrev Act : Command → Phase → AnyReq → Type 0
+    Act c at q = Acts s made number own place op c at q
 
-  -- the same of what may be a request
-  abbrev ActIf : Command → Phase → Option AnyReq → Type 0
-  ActIf c at q = ActsIf s made number own place op c at q
+    -- the same of what may be a request
+    abbrev ActIf : Command → Phase → Option AnyReq → Type 0
+    ActIf c at q = ActsIf s made number own place op c at q
 
-  serial_kept : (q : AnyReq) → Makes s made op i q → own ≤ number → after_it q ≤ number + 1
-  serial_kept q (inl m) e = rw m.1 (omega arith)
-  serial_kept q (inr m) e = rw m.0 (omega arith)
+    serial_kept : (q : AnyReq) → Makes s made op i q → own ≤ number → after_it q ≤ number + 1
+    serial_kept q (inl m) e = rw m.1 (omega arith)
+    serial_kept q (inr m) e = rw m.0 (omega arith)
 
-  -- a command's own first request
-  own_acts : (c : Command) (d : DirId) (q : AnyReq) → own ≤ number → MakesNew made q → Makes s made op i q
-      → PhaseKnows number (after_it q) c (first_hear place i d c (store_reply s q)) → Act c (Walk d []) q
-  own_acts c d q left new makes knows = record { new = new; makes = makes; serial = serial_kept q makes left; knows = knows }
+    -- a command's own first request
+    own_acts : (c : Command) (d : DirId) (q : AnyReq) → own ≤ number → MakesNew made q → Makes s made op i q
+        → PhaseKnows number (after_it q) c (first_hear place i d c (store_reply s q)) → Act c (Walk d []) q
+    own_acts c d q left new makes knows = record { new = new; makes = makes; serial = serial_kept q makes left; knows = knows }
 
-  look_first : (d : DirId) (p : List (List ℕ)) → own ≤ number → Act (commands.Look p) (Walk d []) (look_ask d p)
-  look_first d [] left =
-      let q : AnyReq = any.Name (names.CheckDir d) in
-      own_acts (commands.Look []) d q left tt (inl (check_same s made op d)) (look_knows number (after_it q) place (commands.Look []) d [] (heard_by q))
-  look_first d (n ∷ ns) left =
-      let q : AnyReq = any.Name (names.Look (key_in d (last_name (n ∷ ns)))) in
-      own_acts (commands.Look (n ∷ ns)) d q left tt (inl (look_same s made op _)) (look_knows number (after_it q) place (commands.Look (n ∷ ns)) d (n ∷ ns) (heard_by q))
+    look_first : (d : DirId) (p : List (List ℕ)) → own ≤ number → Act (commands.Look p) (Walk d []) (look_ask d p)
+    look_first d [] left =
+        let q : AnyReq = any.Name (names.CheckDir d) in
+        own_acts (commands.Look []) d q left tt (inl (check_same s made op d))
+        (look_knows number (after_it q) place (commands.Look []) d [] (heard_by q))
+    look_first d (n ∷ ns) left =
+        let q : AnyReq = any.Name (names.Look (key_in d (last_name (n ∷ ns)))) in
+        own_acts (commands.Look (n ∷ ns)) d q left tt (inl (look_same s made op _))
+        (look_knows number (after_it q) place (commands.Look (n ∷ ns)) d (n ∷ ns) (heard_by q))
 
-  create_first : (d : DirId) (p : List (List ℕ)) → own ≤ number
-      → ActIf (commands.Create p) (Walk d []) (first_ask op i d (commands.Create p))
-  create_first d [] left = tt
-  create_first d (n ∷ ns) left =
-      let k : Key = key_in d (last_name (n ∷ ns)) in
-      let q : AnyReq = any.File (files.MakeFile record { 0 = i } (own_hold op) k None) in
-      own_acts (commands.Create (n ∷ ns)) d q left new_file
-      (make_file_makes s made op i all record { 0 = i } (own_hold op) k refl new_file) (made_knows number (after_it q) place (commands.Create (n ∷ ns)) k (nodes.File record { 0 = i }) over.File (heard_by q) (is_made (heard_by q)))
+    create_first : (d : DirId) (p : List (List ℕ)) → own ≤ number
+        → ActIf (commands.Create p) (Walk d []) (first_ask op i d (commands.Create p))
+    create_first d [] left = tt
+    create_first d (n ∷ ns) left =
+        let k : Key = key_in d (last_name (n ∷ ns)) in
+        let q : AnyReq = any.File (files.MakeFile record { 0 = i } (own_hold op) k None) in
+        own_acts (commands.Create (n ∷ ns)) d q left new_file
+        (make_file_makes s made op i all record { 0 = i } (own_hold op) k refl new_file)
+        (made_knows number (after_it q) place (commands.Create (n ∷ ns)) k (nodes.File record { 0 = i }) over.File (heard_by q)
+        (is_made (heard_by q)))
 
-  mkdir_first : (d : DirId) (p : List (List ℕ)) → own ≤ number → ActIf (commands.Mkdir p) (Walk d []) (first_ask op i d (commands.Mkdir p))
-  mkdir_first d [] left = tt
-  mkdir_first d (n ∷ ns) left =
-      let k : Key = key_in d (last_name (n ∷ ns)) in
-      let q : AnyReq = any.Name (names.MakeDir record { 0 = i } d (own_hold op) k) in
-      own_acts (commands.Mkdir (n ∷ ns)) d q left new_dir
-      (make_dir_makes s made op i all record { 0 = i } d (own_hold op) k refl new_dir) (made_knows number (after_it q) place (commands.Mkdir (n ∷ ns)) k (nodes.Dir record { 0 = i }) over.Absent (heard_by q) (is_made (heard_by q)))
+    mkdir_first : (d : DirId) (p : List (List ℕ)) → own ≤ number → ActIf (commands.Mkdir p) (Walk d []) (first_ask op i d (commands.Mkdir p))
+    mkdir_first d [] left = tt
+    mkdir_first d (n ∷ ns) left =
+        let k : Key = key_in d (last_name (n ∷ ns)) in
+        let q : AnyReq = any.Name (names.MakeDir record { 0 = i } d (own_hold op) k) in
+        own_acts (commands.Mkdir (n ∷ ns)) d q left new_dir
+        (make_dir_makes s made op i all record { 0 = i } d (own_hold op) k refl new_dir)
+        (made_knows number (after_it q) place (commands.Mkdir (n ∷ ns)) k (nodes.Dir record { 0 = i }) over.Absent (heard_by q)
+        (is_made (heard_by q)))
 
-  delete_first : (d : DirId) (p : List (List ℕ)) → own ≤ number
-      → ActIf (commands.Delete p) (Walk d []) (first_ask op i d (commands.Delete p))
-  delete_first d [] left = tt
-  delete_first d (n ∷ ns) left =
-      let k : Key = key_in d (last_name (n ∷ ns)) in
-      let q : AnyReq = any.Name (names.Unbind k AnyFile) in
-      own_acts (commands.Delete (n ∷ ns)) d q left tt (inl (unbind_same s made op k AnyFile)) (unbound_knows number (after_it q) place (commands.Delete (n ∷ ns)) k (heard_by q) (as_unbound (heard_by q)))
+    delete_first : (d : DirId) (p : List (List ℕ)) → own ≤ number
+        → ActIf (commands.Delete p) (Walk d []) (first_ask op i d (commands.Delete p))
+    delete_first d [] left = tt
+    delete_first d (n ∷ ns) left =
+        let k : Key = key_in d (last_name (n ∷ ns)) in
+        let q : AnyReq = any.Name (names.Unbind k AnyFile) in
+        own_acts (commands.Delete (n ∷ ns)) d q left tt (inl (unbind_same s made op k AnyFile))
+        (unbound_knows number (after_it q) place (commands.Delete (n ∷ ns)) k (heard_by q) (as_unbound (heard_by q)))
 
-  rename_first : (d : DirId) (p to : List (List ℕ)) → own ≤ number
-      → ActIf (commands.Rename p to) (Walk d []) (first_ask op i d (commands.Rename p to))
-  rename_first d [] to left = tt
-  rename_first d (n ∷ ns) to left =
-      let k : Key = key_in d (last_name (n ∷ ns)) in
-      let q : AnyReq = any.Name (names.Look k) in
-      own_acts (commands.Rename (n ∷ ns) to) d q left tt (inl (look_same s made op k)) (source_knows number (after_it q) place (commands.Rename (n ∷ ns) to) k (heard_by q) (as_found (heard_by q)))
+    rename_first : (d : DirId) (p to : List (List ℕ)) → own ≤ number
+        → ActIf (commands.Rename p to) (Walk d []) (first_ask op i d (commands.Rename p to))
+    rename_first d [] to left = tt
+    rename_first d (n ∷ ns) to left =
+        let k : Key = key_in d (last_name (n ∷ ns)) in
+        let q : AnyReq = any.Name (names.Look k) in
+        own_acts (commands.Rename (n ∷ ns) to) d q left tt (inl (look_same s made op k))
+        (source_knows number (after_it q) place (commands.Rename (n ∷ ns) to) k (heard_by q) (as_found (heard_by q)))
 
-  first_acts : (c : Command) (d : DirId) → own ≤ number → ActIf c (Walk d []) (first_ask op i d c)
-  first_acts (commands.Look p) d left = look_first d p left
-  first_acts (commands.List p) d left =
-      let q : AnyReq = any.Name (names.List d) in
-      own_acts (commands.List p) d q left tt (inl (list_same s made op d)) (entries_knows number (after_it q) place (commands.List p) (heard_by q) (as_listing (heard_by q)))
-  first_acts (commands.Create p) d left = create_first d p left
-  first_acts (commands.Mkdir p) d left = mkdir_first d p left
-  first_acts (commands.Delete p) d left = delete_first d p left
-  first_acts (commands.Rename p to) d left = rename_first d p to left
-  first_acts _ d left = tt
+    first_acts : (c : Command) (d : DirId) → own ≤ number → ActIf c (Walk d []) (first_ask op i d c)
+    first_acts (commands.Look p) d left = look_first d p left
+    first_acts (commands.List p) d left =
+        let q : AnyReq = any.Name (names.List d) in
+        own_acts (commands.List p) d q left tt (inl (list_same s made op d))
+        (entries_knows number (after_it q) place (commands.List p) (heard_by q) (as_listing (heard_by q)))
+    first_acts (commands.Create p) d left = create_first d p left
+    first_acts (commands.Mkdir p) d left = mkdir_first d p left
+    first_acts (commands.Delete p) d left = delete_first d p left
+    first_acts (commands.Rename p to) d left = rename_first d p to left
+    first_acts _ d left = tt
 
-  -- a request that makes nothing
-  other_acts : (c : Command) (at : Phase) (q : AnyReq) → MakesNew made q → MakesNothing s made op q
-      → PhaseKnows number (after_it q) c (phase_hear place op i c at (store_reply s q)) → Act c at q
-  other_acts c at q new makes knows = record { new = new; makes = inl makes; serial = rw makes.1 few; knows = knows }
+    -- a request that makes nothing
+    other_acts : (c : Command) (at : Phase) (q : AnyReq) → MakesNew made q → MakesNothing s made op q
+        → PhaseKnows number (after_it q) c (phase_hear place op i c at (store_reply s q)) → Act c at q
+    other_acts c at q new makes knows = record { new = new; makes = inl makes; serial = rw makes.1 few; knows = knows }
 
-  grant_new : (n : Node) (h : Hold) (k : Key) → MakesNew made (grant_ask n h k)
-  grant_new (nodes.Dir d) h k = tt
-  grant_new (nodes.File f) h k = tt
+    grant_new : (n : Node) (h : Hold) (k : Key) → MakesNew made (grant_ask n h k)
+    grant_new (nodes.Dir d) h k = tt
+    grant_new (nodes.File f) h k = tt
 
-  release_new : (n : Node) (h : Hold) → MakesNew made (release_ask n h)
-  release_new (nodes.Dir d) h = tt
-  release_new (nodes.File f) h = tt
+    release_new : (n : Node) (h : Hold) → MakesNew made (release_ask n h)
+    release_new (nodes.Dir d) h = tt
+    release_new (nodes.File f) h = tt
 
-  walk_acts : (c : Command) (d : DirId) (n : List ℕ) (ns : List (List ℕ)) → own ≤ number
-      → Act c (Walk d (n ∷ ns)) (any.Name (names.Look (key_in d n)))
-  walk_acts c d n ns left =
-      let q : AnyReq = any.Name (names.Look (key_in d n)) in
-      let none : MakesNothing s made op q = look_same s made op (key_in d n) in
-      other_acts c (Walk d (n ∷ ns)) q tt none (walked_knows number (after_it q) place c (key_in d n) ns (heard_by q) (as_found (heard_by q)) (rw none.1 left))
+    walk_acts : (c : Command) (d : DirId) (n : List ℕ) (ns : List (List ℕ)) → own ≤ number
+        → Act c (Walk d (n ∷ ns)) (any.Name (names.Look (key_in d n)))
+    walk_acts c d n ns left =
+        let q : AnyReq = any.Name (names.Look (key_in d n)) in
+        let none : MakesNothing s made op q = look_same s made op (key_in d n) in
+        other_acts c (Walk d (n ∷ ns)) q tt none
+        (walked_knows number (after_it q) place c (key_in d n) ns (heard_by q) (as_found (heard_by q)) (rw none.1 left))
 
-  grant_acts : (c : Command) (k : Key) (n : Node) → name_eq k.name (new_name c) ≡ false → (to : List (List ℕ))
-      → ActIf c (Grant k n) (at_last to (λ t. grant_ask n (own_hold op) (key_in k.dir t)))
-  grant_acts c k n other [] = tt
-  grant_acts c k n other (t ∷ ts) =
-      let q : AnyReq = grant_ask n (own_hold op) (key_in k.dir (last_name (t ∷ ts))) in
-      other_acts c (Grant k n) q (grant_new n _ _) (grant_same s made op n _ _) (granted_knows number (after_it q) place c k n (heard_by q) (is_granted (heard_by q)) other)
+    grant_acts : (c : Command) (k : Key) (n : Node) → name_eq k.name (new_name c) ≡ false → (to : List (List ℕ))
+        → ActIf c (Grant k n) (at_last to (λ t. grant_ask n (own_hold op) (key_in k.dir t)))
+    grant_acts c k n other [] = tt
+    grant_acts c k n other (t ∷ ts) =
+        let q : AnyReq = grant_ask n (own_hold op) (key_in k.dir (last_name (t ∷ ts))) in
+        other_acts c (Grant k n) q (grant_new n _ _) (grant_same s made op n _ _)
+        (granted_knows number (after_it q) place c k n (heard_by q) (is_granted (heard_by q)) other)
 
-  swap_acts : (c : Command) (k : Key) (n : Node) → name_eq k.name (new_name c) ≡ false → (to : List (List ℕ)) → new_path c ≡ to
-      → ActIf c (Swap k n) (at_last to (λ t. any.Name (names.Swap k.dir k.name t n (own_hold op))))
-  swap_acts c k n other [] is = tt
-  swap_acts c k n other (t ∷ ts) is =
-      let q : AnyReq = any.Name (names.Swap k.dir k.name (last_name (t ∷ ts)) n (own_hold op)) in
-      let two : name_eq k.name (last_name (t ∷ ts)) ≡ false = rw is at other in
-      other_acts c (Swap k n) q two (swap_same s made op k.dir k.name (last_name (t ∷ ts)) n (own_hold op)) (swapped_knows number (after_it q) place c op k n (heard_by q) (as_swapped (heard_by q)))
+    swap_acts : (c : Command) (k : Key) (n : Node) → name_eq k.name (new_name c) ≡ false → (to : List (List ℕ)) → new_path c ≡ to
+        → ActIf c (Swap k n) (at_last to (λ t. any.Name (names.Swap k.dir k.name t n (own_hold op))))
+    swap_acts c k n other [] is = tt
+    swap_acts c k n other (t ∷ ts) is =
+        let q : AnyReq = any.Name (names.Swap k.dir k.name (last_name (t ∷ ts)) n (own_hold op)) in
+        let two : name_eq k.name (last_name (t ∷ ts)) ≡ false = rw is at other in
+        other_acts c (Swap k n) q two (swap_same s made op k.dir k.name (last_name (t ∷ ts)) n (own_hold op))
+        (swapped_knows number (after_it q) place c op k n (heard_by q) (as_swapped (heard_by q)))
 
-  pub phase_acts : (c : Command) (at : Phase) → PhaseKnows number own c at → ActIf c at (phase_ask op i c at)
-  phase_acts c (Walk d []) k = first_acts c d k
-  phase_acts c (Walk d (n ∷ ns)) k = walk_acts c d n ns k
-  phase_acts c (Bind k1 n o) k =
-      let q : AnyReq = any.Name (names.Bind k1 n (own_hold op) o) in
-      other_acts c (Bind k1 n o) q tt (bind_same s made op k1 n (own_hold op) o) (bound_knows number (after_it q) place c op k1 n (heard_by q) (as_bound (heard_by q)))
-  phase_acts c (Grant k1 n) k = grant_acts c k1 n k (new_path c)
-  phase_acts c (Swap k1 n) k = swap_acts c k1 n k (new_path c) refl
-  phase_acts c (Release n h old a) k = other_acts c (Release n h old a) (release_ask n h) (release_new n h) (release_same s made op n h) (then_knows number (after_it (release_ask n h)) place c a old)
-  phase_acts c (End a) k = tt
+    pub phase_acts : (c : Command) (at : Phase) → PhaseKnows number own c at → ActIf c at (phase_ask op i c at)
+    phase_acts c (Walk d []) k = first_acts c d k
+    phase_acts c (Walk d (n ∷ ns)) k = walk_acts c d n ns k
+    phase_acts c (Bind k1 n o) k =
+        let q : AnyReq = any.Name (names.Bind k1 n (own_hold op) o) in
+        other_acts c (Bind k1 n o) q tt (bind_same s made op k1 n (own_hold op) o)
+        (bound_knows number (after_it q) place c op k1 n (heard_by q) (as_bound (heard_by q)))
+    phase_acts c (Grant k1 n) k = grant_acts c k1 n k (new_path c)
+    phase_acts c (Swap k1 n) k = swap_acts c k1 n k (new_path c) refl
+    phase_acts c (Release n h old a) k = other_acts c (Release n h old a) (release_ask n h) (release_new n h) (release_same s made op n h)
+        (then_knows number (after_it (release_ask n h)) place c a old)
+    phase_acts c (End a) k = tt

@@ -45,7 +45,8 @@ abbrev pub HeardTells : Store → Made → Place → ℕ → List Told → OpId 
 HeardTells s made place i t op c at None = Unit {0}
 HeardTells s made place i t op c at (Some q) =
     MakesNew made q → IsTreeRun (tree_after opening_tree t) (told_as op (tree_step q (store_reply s q)) (says (store_reply s q)))
-    → PhaseTells (t ++ told_as op (tree_step q (store_reply s q)) (says (store_reply s q))) op c (phase_hear place op i c at (store_reply s q))
+    → PhaseTells (t ++ told_as op (tree_step q (store_reply s q)) (says (store_reply s q))) op c
+    (phase_hear place op i c at (store_reply s q))
 
 module _ (s : Store) (made : Made) (all : AllMade s made) (place : Place) (i : ℕ) (t : List Told) (op : OpId) where
   -- the steps tell of the command once the request is done
@@ -70,7 +71,8 @@ module _ (s : Store) (made : Made) (all : AllMade s made) (place : Place) (i : �
       → Allows (any.Name (names.CheckDir d))
       → After (commands.Look []) (any.Name (names.CheckDir d)) (checked place d (store_reply s (any.Name (names.CheckDir d))) b)
   check_tells d true e w run =
-      inl (here t op (commands.Look []) d [] (step.Check d) _ _ w run.0 (refl, done_yes (key_in d []) (answers.Found (Dir d)) _ (check_some s place d e)))
+      inl (here t op (commands.Look []) d [] (step.Check d) _ _ w run.0
+      (refl, done_yes (key_in d []) (answers.Found (Dir d)) _ (check_some s place d e)))
   check_tells d false e w run =
       let no : RefusesDir place (key_in d []) (store_reply s (any.Name (names.CheckDir d))) = check_none s place d (key_in d []) e in
       inl (here t op (commands.Look []) d [] (step.Check d) _ _ w run.0 (refl, done_no (key_in d []) (answers.Found (Dir d)) _ _ no.0 no.1))
@@ -78,7 +80,8 @@ module _ (s : Store) (made : Made) (all : AllMade s made) (place : Place) (i : �
   found_tells : (d : DirId) (n : List ℕ) (ns : List (List ℕ)) (o : Option Node)
       → as_found (store_reply s (any.Name (names.Look (key_in d (last_name (n ∷ ns)))))) ≡ o → Led (commands.Look (n ∷ ns)) d
       → Allows (any.Name (names.Look (key_in d (last_name (n ∷ ns)))))
-      → After (commands.Look (n ∷ ns)) (any.Name (names.Look (key_in d (last_name (n ∷ ns))))) (looked place (key_in d (last_name (n ∷ ns))) (store_reply s (any.Name (names.Look (key_in d (last_name (n ∷ ns)))))) o)
+      → After (commands.Look (n ∷ ns)) (any.Name (names.Look (key_in d (last_name (n ∷ ns)))))
+      (looked place (key_in d (last_name (n ∷ ns))) (store_reply s (any.Name (names.Look (key_in d (last_name (n ∷ ns)))))) o)
   found_tells d n ns None e w run =
       let k : Key = key_in d (last_name (n ∷ ns)) in
       let no : RefusesSo place k (store_reply s (any.Name (names.Look k))) = look_none s place k e in
@@ -103,25 +106,31 @@ module _ (s : Store) (made : Made) (all : AllMade s made) (place : Place) (i : �
   create_tells : (d : DirId) (p : List (List ℕ)) → Led (commands.Create p) d
       → Heard (commands.Create p) (Walk d []) (first_ask op i d (commands.Create p))
   create_tells d [] w = tt
-  create_tells d (n ∷ ns) w = λ new run. rw (make_file_made s made op i all record { 0 = i } (own_hold op) (key_in d (last_name (n ∷ ns))) new) (over_still t op (commands.Create (n ∷ ns)) d _ w, tt, refl)
+  create_tells d (n ∷ ns) w = λ new run. rw
+      (make_file_made s made op i all record { 0 = i } (own_hold op) (key_in d (last_name (n ∷ ns))) new)
+      (over_still t op (commands.Create (n ∷ ns)) d _ w, tt, refl)
 
   mkdir_tells : (d : DirId) (p : List (List ℕ)) → Led (commands.Mkdir p) d
       → Heard (commands.Mkdir p) (Walk d []) (first_ask op i d (commands.Mkdir p))
   mkdir_tells d [] w = tt
-  mkdir_tells d (n ∷ ns) w = λ new run. rw (make_dir_made s made op i all record { 0 = i } d (own_hold op) (key_in d (last_name (n ∷ ns))) new) (over_still t op (commands.Mkdir (n ∷ ns)) d _ w, tt, refl)
+  mkdir_tells d (n ∷ ns) w = λ new run. rw
+      (make_dir_made s made op i all record { 0 = i } d (own_hold op) (key_in d (last_name (n ∷ ns))) new)
+      (over_still t op (commands.Mkdir (n ∷ ns)) d _ w, tt, refl)
 
   unbound_tells : (d : DirId) (n : List ℕ) (ns : List (List ℕ)) (o : Option (Node × Hold))
       → as_unbound (store_reply s (any.Name (names.Unbind (key_in d (last_name (n ∷ ns))) AnyFile))) ≡ o
       → Led (commands.Delete (n ∷ ns)) d → Allows (any.Name (names.Unbind (key_in d (last_name (n ∷ ns))) AnyFile))
       → After (commands.Delete (n ∷ ns)) (any.Name (names.Unbind (key_in d (last_name (n ∷ ns))) AnyFile))
-      (unbound_heard place (key_in d (last_name (n ∷ ns))) (store_reply s (any.Name (names.Unbind (key_in d (last_name (n ∷ ns))) AnyFile))) o)
+      (unbound_heard place (key_in d (last_name (n ∷ ns))) (store_reply s (any.Name (names.Unbind (key_in d (last_name (n ∷ ns))) AnyFile)))
+      o)
   unbound_tells d n ns None e w run =
       let k : Key = key_in d (last_name (n ∷ ns)) in
       let no : RefusesSo place k (store_reply s (any.Name (names.Unbind k AnyFile))) = unbind_none s place k e in
       inl (here t op (commands.Delete (n ∷ ns)) d [] (step.Unbind k AnyFile) _ _ w run.0 (refl, done_no k answers.Done _ _ no.0 no.1))
   unbound_tells d n ns (Some x) e w run =
       let k : Key = key_in d (last_name (n ∷ ns)) in
-      here t op (commands.Delete (n ∷ ns)) d [] (step.Unbind k AnyFile) _ _ w run.0 (refl, done_yes k answers.Done _ (ok_done _ (unbind_some s place k x e)))
+      here t op (commands.Delete (n ∷ ns)) d [] (step.Unbind k AnyFile) _ _ w run.0
+      (refl, done_yes k answers.Done _ (ok_done _ (unbind_some s place k x e)))
 
   delete_tells : (d : DirId) (p : List (List ℕ)) → Led (commands.Delete p) d
       → Heard (commands.Delete p) (Walk d []) (first_ask op i d (commands.Delete p))
@@ -133,7 +142,8 @@ module _ (s : Store) (made : Made) (all : AllMade s made) (place : Place) (i : �
   rename_tells d [] to w = tt
   rename_tells d (n ∷ ns) to w = λ new run.
       let k : Key = key_in d (last_name (n ∷ ns)) in
-      source_tells t place op (n ∷ ns) to d (store_reply s (any.Name (names.Look k))) (as_found (store_reply s (any.Name (names.Look k)))) w run.0 (look_none s place k) (look_some s place k)
+      source_tells t place op (n ∷ ns) to d (store_reply s (any.Name (names.Look k))) (as_found (store_reply s (any.Name (names.Look k)))) w
+      run.0 (look_none s place k) (look_some s place k)
 
   first_tells : (c : Command) (d : DirId) → Led c d → Heard c (Walk d []) (first_ask op i d c)
   first_tells (commands.Look p) d w = look_tells d p w
@@ -154,30 +164,35 @@ module _ (s : Store) (made : Made) (all : AllMade s made) (place : Place) (i : �
       → Heard c (Walk d (n ∷ ns)) (Some (any.Name (names.Look (key_in d n))))
   next_tells c d n ns w = λ new run.
       let k : Key = key_in d n in
-      way_tells t place op c d n ns (store_reply s (any.Name (names.Look k))) (as_found (store_reply s (any.Name (names.Look k)))) w run.0 (look_none s place k) (look_some s place k)
+      way_tells t place op c d n ns (store_reply s (any.Name (names.Look k))) (as_found (store_reply s (any.Name (names.Look k)))) w run.0
+      (look_none s place k) (look_some s place k)
 
   bind_tells : (c : Command) (k : Key) (n : Node) (o : Over) → Told_of c (Bind k n o)
       → Heard c (Bind k n o) (Some (any.Name (names.Bind k n (own_hold op) o)))
   bind_tells c k n o p = λ new run.
       let x : AnyReply = store_reply s (any.Name (names.Bind k n (own_hold op) o)) in
-      bound_tells t place op c k n o x (as_bound x) run.0 (bind_none s place k n (own_hold op) o) (bind_some s place k n (own_hold op) o) p.0 p.1 p.2
+      bound_tells t place op c k n o x (as_bound x) run.0 (bind_none s place k n (own_hold op) o) (bind_some s place k n (own_hold op) o)
+      p.0 p.1 p.2
 
   grant_tells : (p to path : List (List ℕ)) (k : Key) (n : Node) → Told_of (commands.Rename p to) (Grant k n)
       → Heard (commands.Rename p to) (Grant k n) (at_last path (λ m. grant_ask n (own_hold op) (key_in k.dir m)))
   grant_tells p to [] k n h = tt
   grant_tells p to (m ∷ ms) k (Dir d) h = λ new run.
       let x : AnyReply = store_reply s (any.Name (names.Grant d (own_hold op) (key_in k.dir (last_name (m ∷ ms))))) in
-      dir_granted_tells t place op p to k d x (is_granted x) run (grant_none s place (Dir d) (own_hold op) (key_in k.dir (last_name (m ∷ ms))) k) h.0 h.2 h.3
+      dir_granted_tells t place op p to k d x (is_granted x) run
+      (grant_none s place (Dir d) (own_hold op) (key_in k.dir (last_name (m ∷ ms))) k) h.0 h.2 h.3
   grant_tells p to (m ∷ ms) k (File f) h = λ new run.
       let x : AnyReply = store_reply s (any.File (files.Grant f (own_hold op) (key_in k.dir (last_name (m ∷ ms))))) in
-      file_granted_tells t place op p to k f x (is_granted x) run (grant_none s place (File f) (own_hold op) (key_in k.dir (last_name (m ∷ ms))) k) h.0 h.2 h.3
+      file_granted_tells t place op p to k f x (is_granted x) run
+      (grant_none s place (File f) (own_hold op) (key_in k.dir (last_name (m ∷ ms))) k) h.0 h.2 h.3
 
   swap_tells : (p to : List (List ℕ)) (k : Key) (n : Node) → Told_of (commands.Rename p to) (Swap k n)
       → Heard (commands.Rename p to) (Swap k n) (at_last to (λ m. any.Name (names.Swap k.dir k.name m n (own_hold op))))
   swap_tells p [] k n h = tt
   swap_tells p (m ∷ ms) k n h = λ new run.
       let x : AnyReply = store_reply s (any.Name (names.Swap k.dir k.name (last_name (m ∷ ms)) n (own_hold op))) in
-      swapped_tells t place op p (m ∷ ms) k n x (as_swapped x) run.0 (swap_none s place k (last_name (m ∷ ms)) n (own_hold op)) (swap_some s place k (last_name (m ∷ ms)) n (own_hold op)) h.0 h.2 h.3
+      swapped_tells t place op p (m ∷ ms) k n x (as_swapped x) run.0 (swap_none s place k (last_name (m ∷ ms)) n (own_hold op))
+      (swap_some s place k (last_name (m ∷ ms)) n (own_hold op)) h.0 h.2 h.3
 
   any_grant_tells : (c : Command) (k : Key) (n : Node) → Told_of c (Grant k n)
       → Heard c (Grant k n) (at_last (new_path c) (λ m. grant_ask n (own_hold op) (key_in k.dir m)))

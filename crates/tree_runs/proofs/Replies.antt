@@ -17,7 +17,7 @@ use Rattle.store_rules.specs.declared.any.AnyReply.{AnyReply}
 use Rattle.store_rules.specs.declared.names.Replaced.{Replaced}
 use Rattle.store_rules.specs.Views.{as_parent, as_found, as_listing, as_bound, as_unbound, as_swapped, is_granted}
 use Rattle.store_rules.specs.Store.{Store, store_reply}
-use Rattle.tree_model.specs.declared.step.Shown.TheVariants as shown
+use Rattle.tree_model.specs.declared.step.StepValue.TheVariants as shown
 use Rattle.tree_model.specs.declared.step.Refusal.{Refusal}
 use Rattle.tree_model.specs.declared.step.Refusal.TheVariants as refusals
 use Rattle.tree_model.specs.declared.step.TreeReply.{TreeReply}

@@ -15,7 +15,7 @@ use Rattle.tect_ids.specs.declared.values.Want.{Want}
 use Rattle.tect_ids.specs.Keys.{key_cmp, name_eq}
 use Rattle.ordered_rows.specs.Maps.{set_at}
 use Rattle.key_maps.specs.Maps.{within}
-use Rattle.store_rules.specs.declared.names.Entry.{Entry}
+use Rattle.store_rules.specs.declared.names.DirectoryEntry.{DirectoryEntry}
 use Rattle.store_rules.specs.declared.names.NameReq.{NameReq}
 use Rattle.store_rules.specs.declared.names.NameReq.TheVariants as names
 use Rattle.store_rules.specs.declared.files.FileReq.{FileReq}
@@ -36,13 +36,14 @@ use Rattle.tree_runs.proofs.ValuesSeen.{entries-map_values, get-map_values, dir_
 use Rattle.tree_runs.proofs.ValuesSeen.{len_within_seen}
 
 -- a listing shows the nodes alone
-items_alike : (es : List (Key × Entry)) → map listed es ≡ map as_listed (map (seen_by shown_entry) es)
+items_alike : (es : List (Key × DirectoryEntry)) → map listed es ≡ map as_listed (map (seen_by shown_entry) es)
 items_alike [] = refl
 items_alike (e ∷ es) = ap (λ l. listed e ∷ l) (items_alike es)
 
-listing_alike : (m : FinMap key_cmp Entry) (d : DirId)
+listing_alike : (m : FinMap key_cmp DirectoryEntry) (d : DirId)
     → map listed (entries (within m d)) ≡ map as_listed (entries (within (map_values shown_entry m) d))
-listing_alike m d = items_alike (entries (within m d)) ∙ ap (map as_listed) (sym (ap entries (within_seen shown_entry m d) ∙ entries-map_values shown_entry (within m d)))
+listing_alike m d = items_alike (entries (within m d)) ∙ ap (map as_listed)
+    (sym (ap entries (within_seen shown_entry m d) ∙ entries-map_values shown_entry (within m d)))
 
 -- what the reply says
 abbrev said : Store → AnyReq → TreeReply
@@ -72,23 +73,27 @@ by_reading : (s : Store) (made : Made) (q : AnyReq) (st : TreeStep) → tree_ste
     → said s q ≡ tree_reply (view s made) st
     → store_changes s q ≡ false → tree_change (view s made) st ≡ view s made
     → StepShows s made q
-by_reading s made q st is allowed reads same = rw (is, reads) (allowed, unread (is_ok (said s q)) (tree_change (view s made) st) (view s made) s same refl)
+by_reading s made q st is allowed reads same = rw (is, reads)
+    (allowed, unread (is_ok (said s q)) (tree_change (view s made) st) (view s made) s same refl)
 
 check_shows : (s : Store) (made : Made) (d : DirId) → StepShows s made (any.Name (names.CheckDir d))
-check_shows s made d = by_reading s made (any.Name (names.CheckDir d)) (step.Check d) refl (grind (arith, get-map_values)) (grind arith) refl
+check_shows s made d = by_reading s made (any.Name (names.CheckDir d)) (step.Check d) refl (grind (arith, get-map_values)) (grind arith)
+    refl
 
 look_shows : (s : Store) (made : Made) (k : Key) → StepShows s made (any.Name (names.Look k))
 look_shows s made k = by_reading s made (any.Name (names.Look k)) (step.Look k) refl (grind (arith, get-map_values)) (grind arith) refl
 
 list_shows : (s : Store) (made : Made) (d : DirId) → StepShows s made (any.Name (names.List d))
-list_shows s made d = by_reading s made (any.Name (names.List d)) (step.List d) refl (grind (arith, get-map_values, listing_alike s.names.entries d)) (grind arith) refl
+list_shows s made d = by_reading s made (any.Name (names.List d)) (step.List d) refl
+    (grind (arith, get-map_values, listing_alike s.names.entries d)) (grind arith) refl
 
 make_dir_shows : (s : Store) (made : Made) (d p : DirId) (h : Hold) (k : Key) → AllMade s made → get made (nodes.Dir d) ≡ None
     → StepShows s made (any.Name (names.MakeDir d p h k))
 make_dir_shows s made d p h k all new = by_step s made (any.Name (names.MakeDir d p h k)) (step.MakeDir d p) refl
     (grind (arith, all (nodes.Dir d))) (grind arith)
     (λ ok i. record {
-      dirs = dir_put shown_dir s.names.dirs d (Some record { parent = p; sealed = false; holds = set_at empty h (Some (uppers.Entry k)) }) i;
+      dirs = dir_put shown_dir s.names.dirs d (Some record { parent = p; sealed = false; holds = set_at empty h (Some (uppers.Entry k)) })
+          i;
       entries = map_values shown_entry s.names.entries;
       files = map_values shown_file s.files;
       made = set_at made (nodes.Dir d) (Some tt);
@@ -108,7 +113,11 @@ swap_shows : (s : Store) (made : Made) (d : DirId) (from to : List ℕ) (n : Nod
     → StepShows s made (any.Name (names.Swap d from to n h))
 swap_shows s made d from to n h other = by_step s made (any.Name (names.Swap d from to n h)) (step.Swap d from to n) refl
     (grind (arith, get-map_values)) (grind arith)
-    (λ ok i. record (view s made) { entries = (key_put shown_entry _ (key_in d to) (Some record { node = n; hold = h }) ∙ ap (λ m. set_at m (key_in d to) (Some n)) (key_put shown_entry s.names.entries (key_in d from) None)) i })
+    (λ ok i. record (view s made) {
+      entries =
+          (key_put shown_entry _ (key_in d to) (Some record { node = n; hold = h }) ∙ ap (λ m. set_at m (key_in d to) (Some n))
+          (key_put shown_entry s.names.entries (key_in d from) None)) i;
+    })
 
 -- a request that is a step just where it is refused
 by_refused : (s : Store) (made : Made) (q : AnyReq) (st : TreeStep) (b : Bool) → store_changes s q ≡ b
@@ -117,7 +126,8 @@ by_refused : (s : Store) (made : Made) (q : AnyReq) (st : TreeStep) (b : Bool) �
 by_refused s made q st true e refused did =
     let d : (tree_step q (store_reply s q) ≡ None) × (view (store_change s q) made ≡ view s made) = did refl in rw (e, d.0) d.1
 by_refused s made q st false e refused did =
-    let d : (tree_step q (store_reply s q) ≡ Some st) × (said s q ≡ tree_reply (view s made) st) × (is_ok (said s q) ≡ false) = refused refl in
+    let d : (tree_step q (store_reply s q) ≡ Some st) × (said s q ≡ tree_reply (view s made) st)
+    × (is_ok (said s q) ≡ false) = refused refl in
     rw (e, d.0, d.2) (d.1, refl)
 
 unseen : (s : Store) (made : Made) (q : AnyReq) (b : Bool) → (b ≡ true → view (store_change s q) made ≡ view s made)
@@ -128,11 +138,13 @@ unseen s made q false did = refl
 -- what changes the holds alone is not seen
 dir_holds_alike : (s : Store) (made : Made) (d : DirId) (h : Hold) (u : Option Upper)
     → view record s { names = record s.names { dirs = set_at s.names.dirs d (dir_with_hold (get s.names.dirs d) h u) } } made ≡ view s made
-dir_holds_alike s made d h u i = record (view s made) { dirs = dir_alike shown_dir s.names.dirs d (dir_with_hold (get s.names.dirs d) h u) (grind arith) i }
+dir_holds_alike s made d h u i = record (view s made)
+    { dirs = dir_alike shown_dir s.names.dirs d (dir_with_hold (get s.names.dirs d) h u) (grind arith) i }
 
 file_holds_alike : (s : Store) (made : Made) (f : FileId) (h : Hold) (u : Option Upper)
     → view record s { files = set_at s.files f (file_with_hold (get s.files f) h u) } made ≡ view s made
-file_holds_alike s made f h u i = record (view s made) { files = file_alike shown_file s.files f (file_with_hold (get s.files f) h u) (grind arith) i }
+file_holds_alike s made f h u i = record (view s made)
+    { files = file_alike shown_file s.files f (file_with_hold (get s.files f) h u) (grind arith) i }
 
 grant_dir_shows : (s : Store) (made : Made) (d : DirId) (h : Hold) (k : Key) → StepShows s made (any.Name (names.Grant d h k))
 grant_dir_shows s made d h k = by_refused s made (any.Name (names.Grant d h k)) (step.GrantDir d) _ refl

@@ -18,7 +18,7 @@ use Rattle.tree_model.specs.Tree.{Tree, opening_tree, tree_next}
 use Rattle.program_rules.specs.declared.program.Program.{Program}
 use Rattle.program_rules.specs.Programs.{object_number, phase_ask, first_phase, from_root}
 use Rattle.world_runs.specs.declared.event.Event.{Event}
-use Rattle.world_runs.specs.declared.event.Event.TheVariants.{Began, Refused, Acted, Ended, Stopped, Failed, Dumped}
+use Rattle.world_runs.specs.declared.event.Event.TheVariants.{Began, NotBegun, Acted, Ended, Stopped, Failed, Dumped}
 use Rattle.world_runs.specs.Moments.{Actor, WorldState, opening, May, CanBegin, after, after_all, RunFrom, IsWorldRun, moment, asked}
 use Rattle.world_runs.specs.Moments.{program_ask, program_of, next_serial, heard, with_actor}
 use Rattle.claim_words.specs.TreeSteps.{Told, told_as, told_of, tree_steps, tree_step, says, tree_after, IsTreeRun}
@@ -66,10 +66,12 @@ asks_of None op serial q e = absurd (let k : None ≡ Some q = e in cc)
 asks_of (Some p) op serial q e = at (op_eq p.op op) refl e
   where
     at : (b : Bool) → op_eq p.op op ≡ b → program_ask serial (if b then Some p else None) ≡ Some q → Asks (Some p) op serial q
-    at true is e = let same : p.op ≡ op = grind (arith, op_eq_cases p.op op) in record { program = p; runs = refl; its = same; asks = rw same at e }
+    at true is e = let same : p.op ≡ op = grind (arith, op_eq_cases p.op op)
+        in record { program = p; runs = refl; its = same; asks = rw same at e }
     at false is e = absurd (let k : None ≡ Some q = e in cc)
 
-module _ (m : WorldState) (made : Made) (tracks : Tracks m (view m.store made)) (op : OpId) (q : AnyReq) (a : Asks (m.actors op.actor).running op (m.actors op.actor).serial q) where
+module _ (m : WorldState) (made : Made) (tracks : Tracks m (view m.store made)) (op : OpId) (q : AnyReq)
+    (a : Asks (m.actors op.actor).running op (m.actors op.actor).serial q) where
   -- how many commands the actor began
   abbrev own_number : ℕ
   own_number = (m.actors op.actor).number
@@ -105,7 +107,8 @@ module _ (m : WorldState) (made : Made) (tracks : Tracks m (view m.store made)) 
 
   pub acts : Acts m.store made own_number own_serial (request_place m.counts q) op p.command p.phase q
   acts = rw a.asks at (phase_acts m.store made made_all own_number own_serial (tracks.serials op.actor) (request_place m.counts q) op
-      (tracks.fresh op.actor knows.0 own_serial (omega arith) few).0 (tracks.fresh op.actor knows.0 own_serial (omega arith) few).1 p.command p.phase knows.3)
+      (tracks.fresh op.actor knows.0 own_serial (omega arith) few).0 (tracks.fresh op.actor knows.0 own_serial (omega arith) few).1
+      p.command p.phase knows.3)
 
   pub shows : StepShows m.store made q
   shows = request_shows m.store made q made_all acts.new
@@ -119,8 +122,11 @@ module _ (m : WorldState) (made : Made) (tracks : Tracks m (view m.store made)) 
       → (b ≢ op.actor) ⊎ (j ≢ own_serial)
       → (get made2 (dir_at (object_number b j)) ≡ None) × (get made2 (file_at (object_number b j)) ≡ None)
   fresh_other n b j one u l d =
-      let other : object_number b j ≢ object_number op.actor own_serial = numbers_differ b j op.actor own_serial u few d in
-      (n (dir_at (object_number b j)) other (tracks.fresh b one j l u).0, n (file_at (object_number b j)) other (tracks.fresh b one j l u).1)
+      let other : object_number b j ≢ object_number op.actor own_serial = numbers_differ b j op.actor own_serial u few d in (
+        n (dir_at (object_number b j)) other (tracks.fresh b one j l u).0,
+        n (file_at (object_number b j)) other
+            (tracks.fresh b one j l u).1,
+      )
     where
       numbers_differ : (b j c k : ℕ) → j < 2 ^ 32 → k < 2 ^ 32 → (b ≢ c) ⊎ (j ≢ k) → object_number b j ≢ object_number c k
       numbers_differ b j c k u v d e = omega arith
@@ -147,7 +153,8 @@ module _ (m : WorldState) (made : Made) (tracks : Tracks m (view m.store made)) 
   acted_tracks = record {
     shown = follows_shown (view m.store made) _ op (tree_step q x) (says x) shows;
     made = told_made (view m.store made) op (tree_step q x) (says x) tracks.made;
-    fresh = λ b one. changed (λ st. Fresh made2 b st.serial) m.actors op.actor _ b (λ e. rw e (own_fresh acts.makes)) (λ d. others_fresh acts.makes b d one);
+    fresh = λ b one. changed (λ st. Fresh made2 b st.serial) m.actors op.actor _ b (λ e. rw e (own_fresh acts.makes))
+        (λ d. others_fresh acts.makes b d one);
     serials = λ b. changed (λ st. st.serial ≤ st.number + 1) m.actors op.actor _ b (λ e. acts.serial) (λ d. tracks.serials b);
     numbers = λ b. changed (λ st. st.number < 2 ^ 31) m.actors op.actor _ b (λ e. tracks.numbers op.actor) (λ d. tracks.numbers b);
     knows = λ b. changed (λ st. Knows b st.number st.serial st.running) m.actors op.actor _ b (λ e. rw e knows_after) (λ d. tracks.knows b);
@@ -168,7 +175,8 @@ acted_tracked m t tracks op q e =
     let same : view m.store t.made ≡ t = tracks.shown in
     let it : Tracks m (view m.store t.made) = subst (λ (u : Tree). Tracks m u) (sym same) tracks in
     let a : Asks (m.actors op.actor).running op (m.actors op.actor).serial q = asks_of _ op _ q e in
-    subst (λ (u : Tree). Tracked m u (Acted op q (store_reply m.store q))) same (acted_tracks m t.made it op q a, acted_run m t.made it op q a)
+    subst (λ (u : Tree). Tracked m u (Acted op q (store_reply m.store q))) same
+    (acted_tracks m t.made it op q a, acted_run m t.made it op q a)
 
 -- an actor's running command changes, and its numbers as they may
 restarted : (m : WorldState) (t : Tree) → Tracks m t → (a : ℕ) (state : Actor) → state.serial ≡ (m.actors a).serial
@@ -177,8 +185,10 @@ restarted : (m : WorldState) (t : Tree) → Tracks m t → (a : ℕ) (state : Ac
 restarted m t tracks a state same more few knows = record {
   shown = tracks.shown;
   made = tracks.made;
-  fresh = λ b one. changed (λ st. Fresh t.made b st.serial) m.actors a state b (λ e. rw (e, same) (tracks.fresh a (rw e at one))) (λ d. tracks.fresh b one);
-  serials = λ b. changed (λ st. st.serial ≤ st.number + 1) m.actors a state b (λ e. omega (arith, tracks.serials a)) (λ d. tracks.serials b);
+  fresh = λ b one. changed (λ st. Fresh t.made b st.serial) m.actors a state b (λ e. rw (e, same) (tracks.fresh a (rw e at one)))
+      (λ d. tracks.fresh b one);
+  serials = λ b. changed (λ st. st.serial ≤ st.number + 1) m.actors a state b (λ e. omega (arith, tracks.serials a))
+      (λ d. tracks.serials b);
   numbers = λ b. changed (λ st. st.number < 2 ^ 31) m.actors a state b (λ e. few) (λ d. tracks.numbers b);
   knows = λ b. changed (λ st. Knows b st.number st.serial st.running) m.actors a state b (λ e. rw e knows) (λ d. tracks.knows b);
 }
@@ -203,13 +213,15 @@ began_tracks m t tracks op c can = restarted m t tracks op.actor _ refl (omega (
     ((can.is_actor).0, refl, refl, first_knows _ _ c (omega (arith, can.next, tracks.serials op.actor)))
 
 refused_tracks : (m : WorldState) (t : Tree) → Tracks m t → (op : OpId) (c : Command) → CanBegin (m.actors op.actor) op
-    → Tracks (after m (Refused op c)) t
-refused_tracks m t tracks op c can = restarted m t tracks op.actor _ refl (omega (arith, can.next)) (omega (arith, can.few)) ((can.is_actor).0, refl, refl, tt)
+    → Tracks (after m (NotBegun op c)) t
+refused_tracks m t tracks op c can = restarted m t tracks op.actor _ refl (omega (arith, can.next)) (omega (arith, can.few))
+    ((can.is_actor).0, refl, refl, tt)
 
 pub event_tracked : (m : WorldState) (t : Tree) (e : Event) → Tracks m t → May m e → Tracked m t e
 event_tracked m t (Began op c) tracks may = (began_tracks m t tracks op c may.0, tt)
-event_tracked m t (Refused op c) tracks may = (refused_tracks m t tracks op c may.0, tt)
-event_tracked m t (Acted op q x) tracks may = subst (λ (y : AnyReply). Tracked m t (Acted op q y)) (sym may.1) (acted_tracked m t tracks op q may.0)
+event_tracked m t (NotBegun op c) tracks may = (refused_tracks m t tracks op c may.0, tt)
+event_tracked m t (Acted op q x) tracks may = subst (λ (y : AnyReply). Tracked m t (Acted op q y)) (sym may.1)
+    (acted_tracked m t tracks op q may.0)
 event_tracked m t (Ended op a) tracks may = (restarted m t tracks op.actor _ refl (omega arith) (tracks.numbers op.actor) tt, tt)
 event_tracked m t (Stopped op) tracks may = (restarted m t tracks op.actor _ refl (omega arith) (tracks.numbers op.actor) tt, tt)
 event_tracked m t (Failed op a) tracks may = (restarted m t tracks op.actor _ refl (omega arith) (tracks.numbers op.actor) tt, tt)
@@ -220,7 +232,8 @@ pub run_tracked : (m : WorldState) (t : Tree) (es : List Event) → Tracks m t �
 run_tracked m t [] tracks run = (tracks, tt)
 run_tracked m t (e ∷ es) tracks run =
     let now : Tracked m t e = event_tracked m t e tracks run.0 in
-    let rest : Tracks (after_all (after m e) es) (tree_after (tree_after t (told_of e)) (tree_steps es)) × IsTreeRun (tree_after t (told_of e)) (tree_steps es) =
+    let rest : Tracks (after_all (after m e) es) (tree_after (tree_after t (told_of e)) (tree_steps es))
+    × IsTreeRun (tree_after t (told_of e)) (tree_steps es) =
     run_tracked (after m e) (tree_after t (told_of e)) es now.0 run.1 in
     (rw (tree_after-append t (told_of e) (tree_steps es)) rest.0, tree_run-append t (told_of e) (tree_steps es) now.1 rest.1)
 

@@ -23,7 +23,7 @@ use Rattle.store_rules.specs.declared.any.AnyReply.{AnyReply}
 use Rattle.store_rules.specs.Names.{key_in}
 use Rattle.tree_model.specs.declared.step.TreeStep.{TreeStep}
 use Rattle.tree_model.specs.declared.step.TreeStep.TheVariants as step
-use Rattle.tree_model.specs.declared.step.Shown.TheVariants as shown
+use Rattle.tree_model.specs.declared.step.StepValue.TheVariants as shown
 use Rattle.tree_model.specs.declared.step.TreeReply.{TreeReply}
 use Rattle.tree_model.specs.declared.step.TreeReply.TheVariants.{Ok, Refused}
 use Rattle.tree_model.specs.Tree.{Tree, tree_reply, opening_tree, is_ok}
@@ -52,8 +52,10 @@ Binds c n o = ⊥
 abbrev pub PhaseTells : List Told → OpId → Command → Phase → Type 0
 PhaseTells t op c (Walk d ns) = Walked root (way c) (of_op op t) d ns
 PhaseTells t op c (Bind k n o) = Walked root (way c) (of_op op t) k.dir [] × Binds c n o × (k.name ≡ last c)
-PhaseTells t op c (Grant k n) = Walked root (way c) (of_op op t) k.dir [] × IsRename c × (k.name ≡ last c) × Seen (of_op op t) (step.Look k) (Ok (shown.Node n))
-PhaseTells t op c (Swap k n) = Walked root (way c) (of_op op t) k.dir [] × IsRename c × (k.name ≡ last c) × Seen (of_op op t) (step.Look k) (Ok (shown.Node n))
+PhaseTells t op c (Grant k n) = Walked root (way c) (of_op op t) k.dir [] × IsRename c × (k.name ≡ last c)
+    × Seen (of_op op t) (step.Look k) (Ok (shown.Node n))
+PhaseTells t op c (Swap k n) = Walked root (way c) (of_op op t) k.dir [] × IsRename c × (k.name ≡ last c)
+    × Seen (of_op op t) (step.Look k) (Ok (shown.Node n))
 PhaseTells t op c (Release n h old a) = Point t op c a
 PhaseTells t op c (End a) = Point t op c a ⊎ (LacksName c × (a ≡ answers.NoName))
 
@@ -150,7 +152,8 @@ module _ (t : List Told) (place : Place) (op : OpId) (c : Command) where
       inl (here t op c d (n ∷ ns) (step.Look (key_in d n)) (says x) _ w said (refl, stops_no (key_in d n) _ (says x) no.0 no.1))
   way_tells d n ns x (Some (Dir e)) w said none some = walks_on t op c d n ns (says x) e w (some (Dir e) refl)
   way_tells d n ns x (Some (File f)) w said none some =
-      inl (here t op c d (n ∷ ns) (step.Look (key_in d n)) (says x) answers.NotDir w said (refl, stops_file (key_in d n) f (says x) (some (File f) refl)))
+      inl (here t op c d (n ∷ ns) (step.Look (key_in d n)) (says x) answers.NotDir w said
+      (refl, stops_file (key_in d n) f (says x) (some (File f) refl)))
 
   pub bound_tells : (k : Key) (n : Node) (o : Over) (x : AnyReply) (b : Option (Option Replaced))
       → says x ≡ tree_reply tree (step.Bind k n o) → (b ≡ None → RefusesSo place k x)
@@ -158,9 +161,11 @@ module _ (t : List Told) (place : Place) (op : OpId) (c : Command) where
       → Then (step.Bind k n o) (says x) (bound_heard place op k n x b)
   bound_tells k n o x None said none some w binds e =
       let no : RefusesSo place k x = none refl in
-      here t op c k.dir [] (step.Bind k n o) (says x) _ w said (decides_bind c (of_op op t) k n o (says x) _ binds e (done_no k _ _ (says x) no.0 no.1))
+      here t op c k.dir [] (step.Bind k n o) (says x) _ w said
+      (decides_bind c (of_op op t) k n o (says x) _ binds e (done_no k _ _ (says x) no.0 no.1))
   bound_tells k n o x (Some old) said none some w binds e = then_tells _ op c old (answers.Found n)
-      (here t op c k.dir [] (step.Bind k n o) (says x) _ w said (decides_bind c (of_op op t) k n o (says x) _ binds e (done_yes k _ (says x) (ok_done (says x) (some old refl)))))
+      (here t op c k.dir [] (step.Bind k n o) (says x) _ w said
+      (decides_bind c (of_op op t) k n o (says x) _ binds e (done_yes k _ (says x) (ok_done (says x) (some old refl)))))
 
 -- a rename
 module _ (t : List Told) (place : Place) (op : OpId) (p to : List (List ℕ)) where
@@ -179,18 +184,28 @@ module _ (t : List Told) (place : Place) (op : OpId) (p to : List (List ℕ)) wh
   pub source_tells : (d : DirId) (x : AnyReply) (o : Option Node) → RenameWalks d
       → says x ≡ tree_reply rename_tree (step.Look (key_in d (last_name p)))
       → (o ≡ None → RefusesSo place (key_in d (last_name p)) x) → ((m : Node) → o ≡ Some m → says x ≡ Ok (shown.Node m))
-      → PhaseTells (t ++ told_as op (Some (step.Look (key_in d (last_name p)))) (says x)) op rename (source_heard place (key_in d (last_name p)) (last_name to) x o)
+      → PhaseTells (t ++ told_as op (Some (step.Look (key_in d (last_name p)))) (says x)) op rename
+      (source_heard place (key_in d (last_name p)) (last_name to) x o)
   source_tells d x None w said none some =
       let no : RefusesSo place (key_in d (last_name p)) x = none refl in
-      inl (here t op rename d [] (step.Look (key_in d (last_name p))) (says x) _ w said (refl, source_no (key_in d (last_name p)) (last_name to) _ (says x) no.0 no.1))
+      inl (here t op rename d [] (step.Look (key_in d (last_name p))) (says x) _ w said
+      (refl, source_no (key_in d (last_name p)) (last_name to) _ (says x) no.0 no.1))
   source_tells d x (Some m) w said none some = at (name_eq (last_name p) (last_name to)) refl
     where
       at : (b : Bool) → name_eq (last_name p) (last_name to) ≡ b
-          → PhaseTells (t ++ told_as op (Some (step.Look (key_in d (last_name p)))) (says x)) op rename (if b then End answers.Done else Grant (key_in d (last_name p)) m)
+          → PhaseTells (t ++ told_as op (Some (step.Look (key_in d (last_name p)))) (says x)) op rename
+          (if b then End answers.Done else Grant (key_in d (last_name p)) m)
       at true e =
           let same : last_name p ≡ last_name to = grind (arith, name_eq_cases (last_name p) (last_name to)) in
-          inl (here t op rename d [] (step.Look (key_in d (last_name p))) (says x) answers.Done w said (refl, source_same (key_in d (last_name p)) (last_name to) m (says x) (some m refl) same))
-      at false e = (over_still t op rename d _ w, tt, refl, seen_now t op rename (step.Look (key_in d (last_name p))) (says x) (Ok (shown.Node m)) (some m refl))
+          inl (here t op rename d [] (step.Look (key_in d (last_name p))) (says x) answers.Done w said
+          (refl, source_same (key_in d (last_name p)) (last_name to) m (says x) (some m refl) same))
+      at false e = (
+        over_still t op rename d _ w,
+        tt,
+        refl,
+        seen_now t op rename (step.Look (key_in d (last_name p))) (says x)
+            (Ok (shown.Node m)) (some m refl),
+      )
 
   -- it found the node at the entry
   abbrev SawSource : Key → Node → Type 0
@@ -209,12 +224,14 @@ module _ (t : List Told) (place : Place) (op : OpId) (p to : List (List ℕ)) wh
 
   own_refused : (k : Key) (x : AnyReply) → k.name ≡ last_name p → RefusesSo place k x
       → IsRefusal (key_in k.dir (last_name p)) (says x) (refusal place k x)
-  own_refused k x e refuses = subst (λ (j : Key). IsRefusal j (says x) (refusal place k x)) (same_key k (last_name p) e) (refusal_no k _ (says x) refuses.0 refuses.1)
+  own_refused k x e refuses = subst (λ (j : Key). IsRefusal j (says x) (refusal place k x)) (same_key k (last_name p) e)
+      (refusal_no k _ (says x) refuses.0 refuses.1)
 
   pub dir_granted_tells : (k : Key) (d : DirId) (x : AnyReply) (b : Bool)
       → IsTreeRun rename_tree (told_as op (where_refused (step.GrantDir d) (says x)) (says x)) → (b ≡ false → RefusesSo place k x)
       → RenameWalks k.dir → k.name ≡ last_name p → SawSource k (Dir d)
-      → PhaseTells (t ++ told_as op (where_refused (step.GrantDir d) (says x)) (says x)) op rename (if b then Swap k (Dir d) else End (refusal place k x))
+      → PhaseTells (t ++ told_as op (where_refused (step.GrantDir d) (says x)) (says x)) op rename
+      (if b then Swap k (Dir d) else End (refusal place k x))
   dir_granted_tells k d x true run none w e saw = (over_still t op rename k.dir _ w, tt, e, seen_still t op rename _ (step.Look k) _ saw)
   dir_granted_tells k d x false run none w e saw =
       let no : RefusesSo place k x = none refl in
@@ -223,7 +240,8 @@ module _ (t : List Told) (place : Place) (op : OpId) (p to : List (List ℕ)) wh
   pub file_granted_tells : (k : Key) (f : FileId) (x : AnyReply) (b : Bool)
       → IsTreeRun rename_tree (told_as op (where_refused (step.GrantFile f) (says x)) (says x)) → (b ≡ false → RefusesSo place k x)
       → RenameWalks k.dir → k.name ≡ last_name p → SawSource k (File f)
-      → PhaseTells (t ++ told_as op (where_refused (step.GrantFile f) (says x)) (says x)) op rename (if b then Swap k (File f) else End (refusal place k x))
+      → PhaseTells (t ++ told_as op (where_refused (step.GrantFile f) (says x)) (says x)) op rename
+      (if b then Swap k (File f) else End (refusal place k x))
   file_granted_tells k f x true run none w e saw = (over_still t op rename k.dir _ w, tt, e, seen_still t op rename _ (step.Look k) _ saw)
   file_granted_tells k f x false run none w e saw =
       let no : RefusesSo place k x = none refl in
@@ -236,7 +254,8 @@ module _ (t : List Told) (place : Place) (op : OpId) (p to : List (List ℕ)) wh
   swapped_tells k n x None said none some w e saw =
       let no : RefusesSo place k x = none refl in
       let answer : refusal place k x ≡ done_answer (key_in k.dir (last_name p)) answers.Done (says x) =
-      subst (λ (j : Key). refusal place k x ≡ done_answer j answers.Done (says x)) (same_key k (last_name p) e) (done_no k answers.Done _ (says x) no.0 no.1) in
+      subst (λ (j : Key). refusal place k x ≡ done_answer j answers.Done (says x)) (same_key k (last_name p) e)
+      (done_no k answers.Done _ (says x) no.0 no.1) in
       here t op rename k.dir [] (step.Swap k.dir k.name (last_name to) n) (says x) _ w said (saw_own k n e saw, refl, e, refl, answer)
   swapped_tells k n x (Some s) said none some w e saw =
       here t op rename k.dir [] (step.Swap k.dir k.name (last_name to) n) (says x) answers.Done w said

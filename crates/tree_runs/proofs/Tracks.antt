@@ -36,7 +36,8 @@ file_at i = nodes.File record { 0 = i }
 
 -- the numbers that an actor did not give yet are of nothing that was made
 abbrev pub Fresh : Made → ℕ → ℕ → Type 0
-Fresh made a serial = (i : ℕ) → serial ≤ i → i < 2 ^ 32 → (get made (dir_at (object_number a i)) ≡ None) × (get made (file_at (object_number a i)) ≡ None)
+Fresh made a serial = (i : ℕ) → serial ≤ i → i < 2 ^ 32 → (get made (dir_at (object_number a i)) ≡ None)
+    × (get made (file_at (object_number a i)) ≡ None)
 
 -- what stands in the tree was made
 pub record TreeMade (t : Tree) : Type 0 where
@@ -80,7 +81,8 @@ change_made t (step.Check d) h = h
 change_made t (step.Look k) h = h
 change_made t (step.List d) h = h
 change_made t (step.MakeDir d p) h = record { dirs = λ e is. grind (arith, maps, h.dirs e); files = λ e is. grind (arith, maps, h.files e) }
-change_made t (step.MakeFile f k) h = record { dirs = λ e is. grind (arith, maps, h.dirs e); files = λ e is. grind (arith, maps, h.files e) }
+change_made t (step.MakeFile f k) h = record
+    { dirs = λ e is. grind (arith, maps, h.dirs e); files = λ e is. grind (arith, maps, h.files e) }
 change_made t (step.Bind k n o) h = record { dirs = h.dirs; files = h.files }
 change_made t (step.Swap d from to n) h = record { dirs = h.dirs; files = h.files }
 change_made t (step.Unbind k w) h = record { dirs = h.dirs; files = h.files }

@@ -33,7 +33,9 @@ module _ {K X Y : Type 0} (R : K → K → Ordering) (f : X → Y) where
 
   find_seen : (q : K) (es : List (K × X)) → find R q (map (seen_by f) es) ≡ option_map f (find R q es)
   find_seen q [] = refl
-  find_seen q (e ∷ es) = elim (eq_by_cmp R q e.0) as (λ b. cond b (Some (f e.1)) (find R q (map (seen_by f) es)) ≡ option_map f (cond b (Some e.1) (find R q es))) [ true ↦ refl | false ↦ find_seen q es ]
+  find_seen q (e ∷ es) = elim (eq_by_cmp R q e.0) as
+      (λ b. cond b (Some (f e.1)) (find R q (map (seen_by f) es)) ≡ option_map f (cond b (Some e.1) (find R q es)))
+      [ true ↦ refl | false ↦ find_seen q es ]
 
 -- its entries are those of the map, each value seen so
 pub entries-map_values : {K X Y : Type 0} {R : K → K → Ordering} (f : X → Y) (m : FinMap R X)
@@ -44,11 +46,13 @@ entries-map_values {R = R} f m = entries-from_sorted R _ (sorted_seen R f (entri
 -- what is found in it
 pub get-map_values : {K X Y : Type 0} {R : K → K → Ordering} (f : X → Y) (m : FinMap R X) (q : K)
     → get (map_values f m) q ≡ option_map f (get m q)
-get-map_values {R = R} f m q = get-entries (map_values f m) q ∙ ap (find R q) (entries-map_values f m) ∙ find_seen R f q (entries m) ∙ ap (option_map f) (sym (get-entries m q))
+get-map_values {R = R} f m q = get-entries (map_values f m) q ∙ ap (find R q) (entries-map_values f m) ∙ find_seen R f q (entries m) ∙ ap
+    (option_map f) (sym (get-entries m q))
 
 -- it has as many entries
 pub len-map_values : {K X Y : Type 0} {R : K → K → Ordering} (f : X → Y) (m : FinMap R X) → len (map_values f m) ≡ len m
-len-map_values f m = len-entries (map_values f m) ∙ ap length (entries-map_values f m) ∙ length-map (entries m) (seen_by f) ∙ sym (len-entries m)
+len-map_values f m = len-entries (map_values f m) ∙ ap length (entries-map_values f m) ∙ length-map (entries m) (seen_by f) ∙ sym
+    (len-entries m)
 
 -- what is put is seen put
 pub dir_put : {X Y : Type 0} (f : X → Y) (m : FinMap dir_cmp X) (k : DirId) (w : Option X)

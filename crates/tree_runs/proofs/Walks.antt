@@ -11,7 +11,7 @@ use Rattle.tect_ids.proofs.KeyTests.{op_eq_cases}
 use Rattle.store_rules.specs.Names.{key_in}
 use Rattle.tree_model.specs.declared.step.TreeStep.{TreeStep}
 use Rattle.tree_model.specs.declared.step.TreeStep.TheVariants as step
-use Rattle.tree_model.specs.declared.step.Shown.TheVariants as shown
+use Rattle.tree_model.specs.declared.step.StepValue.TheVariants as shown
 use Rattle.tree_model.specs.declared.step.TreeReply.{TreeReply}
 use Rattle.tree_model.specs.declared.step.TreeReply.TheVariants.{Ok}
 use Rattle.tree_model.specs.Tree.{tree_reply, opening_tree}
@@ -51,10 +51,11 @@ seen_last (q ∷ qs) o = inr (seen_last qs o)
 
 pub of_op-append : (op : OpId) (t u : List Told) → of_op op (t ++ u) ≡ of_op op t ++ of_op op u
 of_op-append op [] u = refl
-of_op-append op (s ∷ ss) u = elim (op_eq s.op op) as (λ b. (if b then s ∷ of_op op (ss ++ u) else of_op op (ss ++ u)) ≡ (if b then s ∷ of_op op ss else of_op op ss) ++ of_op op u) [
-  | true ↦ ap (λ l. s ∷ l) (of_op-append op ss u)
-  | false ↦ of_op-append op ss u
-]
+of_op-append op (s ∷ ss) u = elim (op_eq s.op op) as
+    (λ b. (if b then s ∷ of_op op (ss ++ u) else of_op op (ss ++ u)) ≡ (if b then s ∷ of_op op ss else of_op op ss) ++ of_op op u) [
+      | true ↦ ap (λ l. s ∷ l) (of_op-append op ss u)
+      | false ↦ of_op-append op ss u
+    ]
 
 -- a step of the op itself, and one of another
 pub own_step : (op : OpId) (s : TreeStep) (x : TreeReply) → of_op op (told_as op (Some s) x) ≡ told_as op (Some s) x
@@ -106,7 +107,8 @@ module _ (t : List Told) (op : OpId) (c : Command) where
   seen_still u s x h = rw (of_op-append op t u) (seen_more (of_op op t) (of_op op u) s x h)
 
   pub seen_now : (s : TreeStep) (x y : TreeReply) → x ≡ y → Seen (of_op op (t ++ told_as op (Some s) x)) s y
-  seen_now s x y e = rw (of_op-append op t (told_as op (Some s) x), own_step op s x, ← e) (seen_last (of_op op t) record { op = op; does = s; says = x })
+  seen_now s x y e = rw (of_op-append op t (told_as op (Some s) x), own_step op s x, ← e)
+      (seen_last (of_op op t) record { op = op; does = s; says = x })
 
   pub walks_on : (d : DirId) (n : List ℕ) (ns : List (List ℕ)) (x : TreeReply) (e : DirId) → Walked root (way c) (of_op op t) d (n ∷ ns)
       → x ≡ Ok (shown.Node (Dir e))

@@ -5,7 +5,7 @@ use Rattle.tect_ids.specs.declared.ids.Node.{Node}
 use Rattle.tect_ids.specs.declared.ids.Node.TheVariants as nodes
 use Rattle.tect_ids.specs.Keys.{node_cmp, name_eq}
 use Rattle.store_rules.specs.declared.names.Directory.{Directory}
-use Rattle.store_rules.specs.declared.names.Entry.{Entry}
+use Rattle.store_rules.specs.declared.names.DirectoryEntry.{DirectoryEntry}
 use Rattle.store_rules.specs.declared.names.NameReq.{NameReq}
 use Rattle.store_rules.specs.declared.names.NameReq.TheVariants as names
 use Rattle.store_rules.specs.declared.files.File.{File}
@@ -35,7 +35,7 @@ abbrev pub shown_file : File → TreeFile
 shown_file f = record { token = f.token }
 
 -- what an entry names, without its hold
-abbrev pub shown_entry : Entry → Node
+abbrev pub shown_entry : DirectoryEntry → Node
 shown_entry e = e.node
 
 -- The store seen as a tree. The store forgets what was made, so this is told beside.

@@ -4,7 +4,7 @@ use Rattle.std.proofs.lemmas.List.Elements.{filter-append}
 use Rattle.tect_ids.specs.declared.ids.Counts.{Counts}
 use Rattle.tect_ids.proofs.KeyTests.{num_eq_cases}
 use Rattle.world_runs.specs.declared.event.Event.{Event}
-use Rattle.world_runs.specs.declared.event.Event.TheVariants.{Began, Refused, Acted, Ended, Stopped, Failed, Dumped}
+use Rattle.world_runs.specs.declared.event.Event.TheVariants.{Began, NotBegun, Acted, Ended, Stopped, Failed, Dumped}
 use Rattle.store_rules.specs.Store.{Store, store_step}
 use Rattle.world_runs.specs.Moments.{Actor, WorldState, May, opening, after, after_all, moment}
 use Rattle.world_runs.specs.Races.{is_own}
@@ -52,7 +52,7 @@ own-there a e es h = ap (λ t. if t then e ∷ own a es else own a es) h
 -- an event is its own actor's, or a dump
 pub own_of_actor : (e : Event) → (is_own (actor_in e) e ≡ true) ⊎ (e ≡ Dumped)
 own_of_actor (Began op c) = inl (same_number op.actor)
-own_of_actor (Refused op c) = inl (same_number op.actor)
+own_of_actor (NotBegun op c) = inl (same_number op.actor)
 own_of_actor (Acted op q x) = inl (same_number op.actor)
 own_of_actor (Ended op x) = inl (same_number op.actor)
 own_of_actor (Stopped op) = inl (same_number op.actor)
@@ -61,7 +61,7 @@ own_of_actor Dumped = inr refl
 
 pub actor_of_own : (a : ℕ) (e : Event) → is_own a e ≡ true → actor_in e ≡ a
 actor_of_own a (Began op c) h = one_number op.actor a h
-actor_of_own a (Refused op c) h = one_number op.actor a h
+actor_of_own a (NotBegun op c) h = one_number op.actor a h
 actor_of_own a (Acted op q x) h = one_number op.actor a h
 actor_of_own a (Ended op x) h = one_number op.actor a h
 actor_of_own a (Stopped op) h = one_number op.actor a h
@@ -80,7 +80,7 @@ picked actors next a b =
 pub after_actors : (m : WorldState) (e : Event) (a : ℕ)
     → (after m e).actors a ≡ (if is_own a e then own_after m.counts (m.actors a) e else m.actors a)
 after_actors m (Began op c) a = picked m.actors (λ s. own_after m.counts s (Began op c)) a op.actor
-after_actors m (Refused op c) a = picked m.actors (λ s. own_after m.counts s (Refused op c)) a op.actor
+after_actors m (NotBegun op c) a = picked m.actors (λ s. own_after m.counts s (NotBegun op c)) a op.actor
 after_actors m (Acted op q x) a = picked m.actors (λ s. own_after m.counts s (Acted op q x)) a op.actor
 after_actors m (Ended op x) a = picked m.actors (λ s. own_after m.counts s (Ended op x)) a op.actor
 after_actors m (Stopped op) a = picked m.actors (λ s. own_after m.counts s (Stopped op)) a op.actor
@@ -89,7 +89,7 @@ after_actors m Dumped a = refl
 
 pub after_counts : (m : WorldState) (e : Event) → (after m e).counts ≡ m.counts
 after_counts m (Began op c) = refl
-after_counts m (Refused op c) = refl
+after_counts m (NotBegun op c) = refl
 after_counts m (Acted op q x) = refl
 after_counts m (Ended op x) = refl
 after_counts m (Stopped op) = refl
@@ -98,7 +98,7 @@ after_counts m Dumped = refl
 
 pub after_store : (m : WorldState) (e : Event) → (after m e).store ≡ stored_after m.store (e ∷ [])
 after_store m (Began op c) = refl
-after_store m (Refused op c) = refl
+after_store m (NotBegun op c) = refl
 after_store m (Acted op q x) = refl
 after_store m (Ended op x) = refl
 after_store m (Stopped op) = refl
@@ -108,7 +108,7 @@ after_store m Dumped = refl
 -- what may happen is what its actor may do, with the store's reply
 pub may_from : (m : WorldState) (e : Event) → OwnMay (m.actors (actor_in e)) e → RepliesAre m.store (e ∷ []) → May m e
 may_from m (Began op c) h r = h
-may_from m (Refused op c) h r = h
+may_from m (NotBegun op c) h r = h
 may_from m (Acted op q x) h r = (h, r.0)
 may_from m (Ended op x) h r = h
 may_from m (Stopped op) h r = h
@@ -117,7 +117,7 @@ may_from m Dumped h r = tt
 
 pub own_from : (m : WorldState) (e : Event) → May m e → OwnMay (m.actors (actor_in e)) e × RepliesAre m.store (e ∷ [])
 own_from m (Began op c) h = (h, tt)
-own_from m (Refused op c) h = (h, tt)
+own_from m (NotBegun op c) h = (h, tt)
 own_from m (Acted op q x) h = (h.0, (h.1, tt))
 own_from m (Ended op x) h = (h, tt)
 own_from m (Stopped op) h = (h, tt)
@@ -159,7 +159,7 @@ pub stored_after-append : (s : Store) (es fs : List Event) → stored_after s (e
 stored_after-append s [] fs = refl
 stored_after-append s (Acted op q x ∷ es) fs = stored_after-append (store_step s q) es fs
 stored_after-append s (Began op c ∷ es) fs = stored_after-append s es fs
-stored_after-append s (Refused op c ∷ es) fs = stored_after-append s es fs
+stored_after-append s (NotBegun op c ∷ es) fs = stored_after-append s es fs
 stored_after-append s (Ended op a ∷ es) fs = stored_after-append s es fs
 stored_after-append s (Stopped op ∷ es) fs = stored_after-append s es fs
 stored_after-append s (Failed op a ∷ es) fs = stored_after-append s es fs
@@ -169,7 +169,7 @@ pub replies-append : (s : Store) (es fs : List Event) → RepliesAre s es → Re
 replies-append s [] fs r q = q
 replies-append s (Acted op a x ∷ es) fs r q = (r.0, replies-append (store_step s a) es fs r.1 q)
 replies-append s (Began op c ∷ es) fs r q = replies-append s es fs r q
-replies-append s (Refused op c ∷ es) fs r q = replies-append s es fs r q
+replies-append s (NotBegun op c ∷ es) fs r q = replies-append s es fs r q
 replies-append s (Ended op a ∷ es) fs r q = replies-append s es fs r q
 replies-append s (Stopped op ∷ es) fs r q = replies-append s es fs r q
 replies-append s (Failed op a ∷ es) fs r q = replies-append s es fs r q
@@ -179,7 +179,7 @@ pub replies-front : (s : Store) (es fs : List Event) → RepliesAre s (es ++ fs)
 replies-front s [] fs r = tt
 replies-front s (Acted op a x ∷ es) fs r = (r.0, replies-front (store_step s a) es fs r.1)
 replies-front s (Began op c ∷ es) fs r = replies-front s es fs r
-replies-front s (Refused op c ∷ es) fs r = replies-front s es fs r
+replies-front s (NotBegun op c ∷ es) fs r = replies-front s es fs r
 replies-front s (Ended op a ∷ es) fs r = replies-front s es fs r
 replies-front s (Stopped op ∷ es) fs r = replies-front s es fs r
 replies-front s (Failed op a ∷ es) fs r = replies-front s es fs r
@@ -189,7 +189,7 @@ pub replies-rest : (s : Store) (es fs : List Event) → RepliesAre s (es ++ fs) 
 replies-rest s [] fs r = r
 replies-rest s (Acted op a x ∷ es) fs r = replies-rest (store_step s a) es fs r.1
 replies-rest s (Began op c ∷ es) fs r = replies-rest s es fs r
-replies-rest s (Refused op c ∷ es) fs r = replies-rest s es fs r
+replies-rest s (NotBegun op c ∷ es) fs r = replies-rest s es fs r
 replies-rest s (Ended op a ∷ es) fs r = replies-rest s es fs r
 replies-rest s (Stopped op ∷ es) fs r = replies-rest s es fs r
 replies-rest s (Failed op a ∷ es) fs r = replies-rest s es fs r

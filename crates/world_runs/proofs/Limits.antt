@@ -10,7 +10,7 @@ use Rattle.tect_ids.specs.declared.answer.Answer.{Answer}
 use Rattle.tect_ids.specs.declared.answer.Answer.TheVariants as answers
 use Rattle.store_rules.specs.ReplyBytes.{reply_bytes}
 use Rattle.world_runs.specs.declared.event.Event.{Event}
-use Rattle.world_runs.specs.declared.event.Event.TheVariants.{Began, Refused, Acted, Ended, Stopped, Failed, Dumped}
+use Rattle.world_runs.specs.declared.event.Event.TheVariants.{Began, NotBegun, Acted, Ended, Stopped, Failed, Dumped}
 use Rattle.world_runs.specs.Moments.{Actor, WorldState, idle_actor, opening, moment}
 use Rattle.world_runs.specs.Races.{is_own}
 use Rattle.world_runs.specs.Events.{own}
@@ -31,7 +31,7 @@ kept_bytes-append es fs a = sum_by-append (event_bytes a) es fs
 -- another's event costs nothing
 other_cost : (a : ℕ) (e : Event) → is_own a e ≡ false → event_cost a e ≡ 0
 other_cost a (Began op c) h = ap (λ b. if b then 2 else 0) h
-other_cost a (Refused op c) h = refl
+other_cost a (NotBegun op c) h = refl
 other_cost a (Acted op q x) h = ap (λ b. if b then 1 else 0) h
 other_cost a (Ended op x) h = refl
 other_cost a (Stopped op) h = refl
@@ -40,7 +40,7 @@ other_cost a Dumped h = refl
 
 other_bytes : (a : ℕ) (e : Event) → is_own a e ≡ false → event_bytes a e ≡ 0
 other_bytes a (Began op c) h = refl
-other_bytes a (Refused op c) h = refl
+other_bytes a (NotBegun op c) h = refl
 other_bytes a (Acted op q x) h = ap (λ b. if b then reply_bytes x else 0) h
 other_bytes a (Ended op x) h = refl
 other_bytes a (Stopped op) h = refl
@@ -86,7 +86,7 @@ ends_from_own counts before s op _ h = tt
 room_from_own : (counts : Counts) (before : List Event) (s : Actor) (e : Event) → KeepsRoom counts (own (actor_in e) before) s e
     → KeepsRoom counts before s e
 room_from_own counts before s (Began op c) h = rw (used_own before op.actor) at h
-room_from_own counts before s (Refused op c) h = rw (used_own before op.actor) at h
+room_from_own counts before s (NotBegun op c) h = rw (used_own before op.actor) at h
 room_from_own counts before s (Acted op q x) h = rw (used_own before op.actor, kept_bytes_own before op.actor) at h
 room_from_own counts before s (Ended op x) h = tt
 room_from_own counts before s (Stopped op) h = tt
@@ -127,17 +127,20 @@ pub state_more : (counts : Counts) (before : List Event) (e : Event) (a : ℕ)
 state_more counts before e a =
     let m : WorldState = moment counts before in
     let same : m.counts ≡ counts = counts_stay (opening counts) before in
-    ap (λ (n : WorldState). n.actors a) (moment-append counts before (e ∷ [])) ∙ after_actors m e a ∙ ap (λ (c : Counts). if is_own a e then own_after c (m.actors a) e else m.actors a) same
+    ap (λ (n : WorldState). n.actors a) (moment-append counts before (e ∷ [])) ∙ after_actors m e a ∙ ap
+    (λ (c : Counts). if is_own a e then own_after c (m.actors a) e else m.actors a) same
 
 rest_keep : (counts : Counts) (before : List Event) (e : Event) (es : List Event) → AreOwnLimits counts before (e ∷ es)
     → AreOwnLimits counts (before ++ e ∷ []) es
 rest_keep counts before e es limits a =
     let s : Actor = (moment counts before).actors a in
-    rw (own-append a before (e ∷ []), state_more counts before e a) (rest_limits counts (own a before) s e (own a es) (is_own a e) (limits a))
+    rw (own-append a before (e ∷ []), state_more counts before e a)
+    (rest_limits counts (own a before) s e (own a es) (is_own a e) (limits a))
 
 pub limits_from_own : (counts : Counts) (before es : List Event) → AreOwnLimits counts before es → KeepsLimitsAfter counts before es
 limits_from_own counts before [] limits = tt
-limits_from_own counts before (e ∷ es) limits = (first_keeps counts before e es limits, limits_from_own counts (before ++ e ∷ []) es (rest_keep counts before e es limits))
+limits_from_own counts before (e ∷ es) limits =
+    (first_keeps counts before e es limits, limits_from_own counts (before ++ e ∷ []) es (rest_keep counts before e es limits))
 
 pub own_limits_make_limits : (counts : Counts) (history : List Event) → ((actor : ℕ) → OwnLimits counts [] idle_actor (own actor history))
     → KeepsLimits counts history

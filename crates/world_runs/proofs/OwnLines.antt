@@ -11,7 +11,7 @@ use Rattle.tect_ids.specs.declared.script.ReportLine.TheVariants as report_lines
 use Rattle.tect_ids.specs.Keys.{op_eq}
 use Rattle.tect_ids.proofs.KeyTests.{op_eq_cases}
 use Rattle.world_runs.specs.declared.event.Event.{Event}
-use Rattle.world_runs.specs.declared.event.Event.TheVariants.{Began, Refused, Acted, Ended, Stopped, Failed, Dumped}
+use Rattle.world_runs.specs.declared.event.Event.TheVariants.{Began, NotBegun, Acted, Ended, Stopped, Failed, Dumped}
 use Rattle.world_runs.specs.Races.{is_own, own_lines}
 use Rattle.world_runs.specs.Report.{answer_line, client_name, is_act_of, lines_at, transactions}
 use Rattle.world_runs.specs.Events.{own}
@@ -35,7 +35,7 @@ same_actor op other h = elim (op_eq_cases other op) [
 other_act : (op : OpId) (e : Event) → is_own op.actor e ≡ false → act_count op e ≡ 0
 other_act op (Acted other q x) h = ap (λ b. if b then 1 else 0) (same_actor op other h)
 other_act op (Began other c) h = refl
-other_act op (Refused other c) h = refl
+other_act op (NotBegun other c) h = refl
 other_act op (Ended other a) h = refl
 other_act op (Stopped other) h = refl
 other_act op (Failed other a) h = refl
@@ -51,13 +51,14 @@ line_own : (clients : List (List ℕ)) (before : List Event) (actor : ℕ) (op :
     → answer_line clients (own actor before) op a ≡ answer_line clients before op a
 line_own clients before actor op a h =
     let is : op.actor ≡ actor = one_number op.actor actor h in
-    let same : transactions (own actor before) op ≡ transactions before op = subst (λ (n : ℕ). transactions (own n before) op ≡ transactions before op) is (transactions_own before op) in
+    let same : transactions (own actor before) op ≡ transactions before op = subst
+    (λ (n : ℕ). transactions (own n before) op ≡ transactions before op) is (transactions_own before op) in
     ap (λ (n : ℕ). report_lines.Client (client_name clients op.actor) op.number n a) same
 
 pub lines_own : (counts : Counts) (clients : List (List ℕ)) (before : List Event) (actor : ℕ) (e : Event) → is_own actor e ≡ true
     → lines_at counts clients (own actor before) e ≡ lines_at counts clients before e
 lines_own counts clients before actor (Began op c) h = refl
-lines_own counts clients before actor (Refused op c) h = refl
+lines_own counts clients before actor (NotBegun op c) h = refl
 lines_own counts clients before actor (Acted op q x) h = refl
 lines_own counts clients before actor (Ended op a) h = ap (λ l. l ∷ []) (line_own clients before actor op a h)
 lines_own counts clients before actor (Stopped op) h = ap (λ l. l ∷ []) (line_own clients before actor op _ h)
@@ -73,17 +74,21 @@ own_cases-shown : (counts : Counts) (clients : List (List ℕ)) (actor : ℕ) (b
 own_cases-shown counts clients actor before e es true h rest =
     let here : (if is_own actor e then lines_at counts clients (own actor before) e else []) ≡ lines_at counts clients before e =
     ap (λ b. if b then lines_at counts clients (own actor before) e else []) h ∙ lines_own counts clients before actor e h in
-    ap (λ l. l ++ own_lines counts clients actor (own actor before ++ e ∷ []) (own actor es)) here ∙ ap (λ l. lines_at counts clients before e ++ l) rest
-own_cases-shown counts clients actor before e es false h rest = ap (λ b. own_lines counts clients actor b (own actor es)) (sym (append-nil (own actor before))) ∙ rest
+    ap (λ l. l ++ own_lines counts clients actor (own actor before ++ e ∷ []) (own actor es)) here ∙ ap
+    (λ l. lines_at counts clients before e ++ l) rest
+own_cases-shown counts clients actor before e es false h rest = ap (λ b. own_lines counts clients actor b (own actor es))
+    (sym (append-nil (own actor before))) ∙ rest
 
 -- what an actor's own events show is told by its own events alone
 pub own_lines_own : (counts : Counts) (clients : List (List ℕ)) (actor : ℕ) (before es : List Event)
     → own_lines counts clients actor (own actor before) (own actor es) ≡ own_lines counts clients actor before es
 own_lines_own counts clients actor before [] = refl
 own_lines_own counts clients actor before (e ∷ es) =
-    let rest : own_lines counts clients actor (own actor (before ++ e ∷ [])) (own actor es) ≡ own_lines counts clients actor (before ++ e ∷ []) es = own_lines_own counts clients actor (before ++ e ∷ []) es in
+    let rest : own_lines counts clients actor (own actor (before ++ e ∷ [])) (own actor es) ≡ own_lines counts clients actor
+    (before ++ e ∷ []) es = own_lines_own counts clients actor (before ++ e ∷ []) es in
     let more : own actor before ++ own actor (e ∷ []) ≡ own actor (before ++ e ∷ []) = sym (own-append actor before (e ∷ [])) in
-    own_cases-shown counts clients actor before e es (is_own actor e) refl (ap (λ b. own_lines counts clients actor b (own actor es)) more ∙ rest)
+    own_cases-shown counts clients actor before e es (is_own actor e) refl
+    (ap (λ b. own_lines counts clients actor b (own actor es)) more ∙ rest)
 
 pub own_lines-append : (counts : Counts) (clients : List (List ℕ)) (actor : ℕ) (before es fs : List Event)
     → own_lines counts clients actor before (es ++ fs)

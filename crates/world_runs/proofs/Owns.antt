@@ -41,8 +41,11 @@ rest_runs m e es runs a = rw (after_counts m e, after_actors m e a) (rest_run m.
 pub run_from_own : (m : WorldState) (es : List Event) → AreOwnRuns m es → RepliesAre m.store es → RunFrom m es
 run_from_own m [] runs replies = tt
 run_from_own m (e ∷ es) runs replies =
-    let rest : RepliesAre (after m e).store es = rw (after_store m e) (replies-rest m.store (e ∷ []) es replies) in
-    (may_from m e (first_may m e es runs) (replies-front m.store (e ∷ []) es replies), run_from_own (after m e) es (rest_runs m e es runs) rest)
+    let rest : RepliesAre (after m e).store es = rw (after_store m e) (replies-rest m.store (e ∷ []) es replies) in (
+      may_from m e (first_may m e es runs) (replies-front m.store (e ∷ []) es replies),
+      run_from_own (after m e) es (rest_runs m e es runs)
+          rest,
+    )
 
 pub own_runs_make_run : (counts : Counts) (history : List Event) → ((actor : ℕ) → OwnRun counts idle_actor (own actor history))
     → RepliesAre opening_store history
@@ -59,7 +62,8 @@ all_run counts s e es false may r = r
 pub own_from_run : (m : WorldState) (es : List Event) → RunFrom m es → AreOwnRuns m es
 own_from_run m [] run a = tt
 own_from_run m (e ∷ es) run a =
-    let may : is_own a e ≡ true → OwnMay (m.actors a) e = λ h. subst (λ (k : ℕ). OwnMay (m.actors k) e) (actor_of_own a e h) (own_from m e run.0).0 in
+    let may : is_own a e ≡ true
+    → OwnMay (m.actors a) e = λ h. subst (λ (k : ℕ). OwnMay (m.actors k) e) (actor_of_own a e h) (own_from m e run.0).0 in
     let rest : OwnRun m.counts (if is_own a e then own_after m.counts (m.actors a) e else m.actors a) (own a es) =
     rw (after_counts m e, after_actors m e a) at (own_from_run (after m e) es run.1 a) in
     all_run m.counts (m.actors a) e (own a es) (is_own a e) may rest
@@ -90,13 +94,15 @@ pub actors_are_their_own : (m : WorldState) (es : List Event) (a : ℕ)
     → (after_all m es).actors a ≡ own_state m.counts (m.actors a) (own a es)
 actors_are_their_own m [] a = refl
 actors_are_their_own m (e ∷ es) a =
-    let rest : (after_all (after m e) es).actors a ≡ own_state m.counts (if is_own a e then own_after m.counts (m.actors a) e else m.actors a) (own a es) =
+    let rest : (after_all (after m e) es).actors a ≡ own_state m.counts
+    (if is_own a e then own_after m.counts (m.actors a) e else m.actors a) (own a es) =
     rw (after_counts m e, after_actors m e a) at (actors_are_their_own (after m e) es a) in
     rest ∙ state_step m.counts (m.actors a) e (own a es) (is_own a e)
 
 pub store_is_after : (m : WorldState) (es : List Event) → (after_all m es).store ≡ stored_after m.store es
 store_is_after m [] = refl
-store_is_after m (e ∷ es) = store_is_after (after m e) es ∙ ap (λ s. stored_after s es) (after_store m e) ∙ sym (stored_after-append m.store (e ∷ []) es)
+store_is_after m (e ∷ es) = store_is_after (after m e) es ∙ ap (λ s. stored_after s es) (after_store m e) ∙ sym
+    (stored_after-append m.store (e ∷ []) es)
 
 pub states_are_their_own : (counts : Counts) (history : List Event)
     → ((actor : ℕ) → (moment counts history).actors actor ≡ own_state counts idle_actor (own actor history))

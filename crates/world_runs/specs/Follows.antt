@@ -8,14 +8,14 @@ use Rattle.tect_ids.specs.declared.script.Act.TheVariants as acts
 use Rattle.tect_ids.specs.declared.script.Line.{Line}
 use Rattle.tect_ids.specs.declared.script.Line.TheVariants as lines
 use Rattle.world_runs.specs.declared.event.Event.{Event}
-use Rattle.world_runs.specs.declared.event.Event.TheVariants.{Began, Refused, Acted, Ended, Stopped, Failed, Dumped}
+use Rattle.world_runs.specs.declared.event.Event.TheVariants.{Began, NotBegun, Acted, Ended, Stopped, Failed, Dumped}
 
 -- just that many transactions of the op
 abbrev pub Acts : OpId → ℕ → List Event → Type 0
 Acts op n [] = n ≡ 0
 Acts op n (Acted other q x ∷ es) = (other ≡ op) × ((rest : ℕ) × (n ≡ rest + 1) × Acts op rest es)
 Acts op n (Began other c ∷ es) = ⊥
-Acts op n (Refused other c ∷ es) = ⊥
+Acts op n (NotBegun other c ∷ es) = ⊥
 Acts op n (Ended other a ∷ es) = ⊥
 Acts op n (Stopped other ∷ es) = ⊥
 Acts op n (Failed other a ∷ es) = ⊥
@@ -26,7 +26,7 @@ abbrev pub IsEndOf : OpId → Event → Type 0
 IsEndOf op (Ended other a) = other ≡ op
 IsEndOf op (Failed other a) = other ≡ op
 IsEndOf op (Began other c) = ⊥
-IsEndOf op (Refused other c) = ⊥
+IsEndOf op (NotBegun other c) = ⊥
 IsEndOf op (Acted other q x) = ⊥
 IsEndOf op (Stopped other) = ⊥
 IsEndOf op Dumped = ⊥
@@ -42,7 +42,7 @@ RunsToEnd op es = (n : ℕ) × EndsAfter op n es
 -- the op begins the command, or is refused
 abbrev pub IsBeginOf : OpId → Command → Event → Type 0
 IsBeginOf op c (Began other d) = (other ≡ op) × (d ≡ c)
-IsBeginOf op c (Refused other d) = (other ≡ op) × (d ≡ c)
+IsBeginOf op c (NotBegun other d) = (other ≡ op) × (d ≡ c)
 IsBeginOf op c (Acted other q x) = ⊥
 IsBeginOf op c (Ended other a) = ⊥
 IsBeginOf op c (Stopped other) = ⊥
@@ -97,7 +97,7 @@ Follows ls es = FollowsFrom none_busy ls es
 -- the event is no failure for want of memory or room
 abbrev pub FindsMemory : Event → Type 0
 FindsMemory (Failed op a) = ⊥
-FindsMemory (Refused op c) = ⊥
+FindsMemory (NotBegun op c) = ⊥
 FindsMemory _ = Unit {0}
 
 -- no op of the history fails or is refused

@@ -1,7 +1,7 @@
 pub mod Served
 pub mod Moments
 pub mod Follows
-pub mod Turns
+pub mod ClientStates
 pub mod Report
 pub mod Races
 pub mod Standing

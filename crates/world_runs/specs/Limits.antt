@@ -10,7 +10,7 @@ use Rattle.store_rules.specs.declared.any.AnyReq.{AnyReq}
 use Rattle.store_rules.specs.Places.{request_place}
 use Rattle.store_rules.specs.ReplyBytes.{reply_bytes}
 use Rattle.world_runs.specs.declared.event.Event.{Event}
-use Rattle.world_runs.specs.declared.event.Event.TheVariants.{Began, Refused, Acted, Ended, Stopped, Failed, Dumped}
+use Rattle.world_runs.specs.declared.event.Event.TheVariants.{Began, NotBegun, Acted, Ended, Stopped, Failed, Dumped}
 use Rattle.world_runs.specs.Moments.{Actor, program_ask, program_of, moment}
 use Rattle.world_runs.specs.OwnRuns.{own_after}
 
@@ -18,7 +18,7 @@ use Rattle.world_runs.specs.OwnRuns.{own_after}
 abbrev pub event_cost : ℕ → Event → ℕ
 event_cost actor (Began op c) = if eqb op.actor actor then 2 else 0
 event_cost actor (Acted op q x) = if eqb op.actor actor then 1 else 0
-event_cost actor (Refused op c) = 0
+event_cost actor (NotBegun op c) = 0
 event_cost actor (Ended op a) = 0
 event_cost actor (Stopped op) = 0
 event_cost actor (Failed op a) = 0
@@ -28,7 +28,7 @@ event_cost actor Dumped = 0
 abbrev pub event_bytes : ℕ → Event → ℕ
 event_bytes actor (Acted op q x) = if eqb op.actor actor then reply_bytes x else 0
 event_bytes actor (Began op c) = 0
-event_bytes actor (Refused op c) = 0
+event_bytes actor (NotBegun op c) = 0
 event_bytes actor (Ended op a) = 0
 event_bytes actor (Stopped op) = 0
 event_bytes actor (Failed op a) = 0
@@ -57,7 +57,7 @@ EndsFull counts before s op a = Unit {0}
 -- what an event says of its actor's room, of which these events before it tell, and this state of its actor
 abbrev pub KeepsRoom : Counts → List Event → Actor → Event → Type 0
 KeepsRoom counts before s (Began op c) = ¬ IsFullForBegin before op.actor
-KeepsRoom counts before s (Refused op c) = IsFullForBegin before op.actor
+KeepsRoom counts before s (NotBegun op c) = IsFullForBegin before op.actor
 KeepsRoom counts before s (Acted op q x) = ¬ IsFull before op.actor
 KeepsRoom counts before s (Failed op a) = EndsFull counts before s op a
 KeepsRoom counts before s (Ended op a) = Unit {0}
@@ -66,7 +66,7 @@ KeepsRoom counts before s Dumped = Unit {0}
 
 abbrev pub actor_in : Event → ℕ
 actor_in (Began op c) = op.actor
-actor_in (Refused op c) = op.actor
+actor_in (NotBegun op c) = op.actor
 actor_in (Acted op q x) = op.actor
 actor_in (Ended op a) = op.actor
 actor_in (Stopped op) = op.actor

@@ -15,7 +15,7 @@ use Rattle.program_rules.specs.declared.program.Program.{Program}
 use Rattle.program_rules.specs.Lacks.{no_room, IsLack}
 use Rattle.program_rules.specs.Programs.{object_number, phase_ask, phase_hear, phase_answer, started}
 use Rattle.world_runs.specs.declared.event.Event.{Event}
-use Rattle.world_runs.specs.declared.event.Event.TheVariants.{Began, Refused, Acted, Ended, Stopped, Failed, Dumped}
+use Rattle.world_runs.specs.declared.event.Event.TheVariants.{Began, NotBegun, Acted, Ended, Stopped, Failed, Dumped}
 use Rattle.world_runs.specs.Served.{IsServed}
 
 -- an actor: how many commands it began, the serial of the next object that it makes, and its running command
@@ -76,7 +76,7 @@ pub record CanBegin (a : Actor) (op : OpId) : Type 0 where
 -- What may happen at a moment. Memory may be wanting at any, and room in an actor's own history.
 abbrev pub May : WorldState → Event → Type 0
 May m (Began op c) = CanBegin (m.actors op.actor) op × IsServed c
-May m (Refused op c) = CanBegin (m.actors op.actor) op × IsServed c
+May m (NotBegun op c) = CanBegin (m.actors op.actor) op × IsServed c
 May m (Acted op q x) = (asked m op ≡ Some q) × (x ≡ store_reply m.store q)
 May m (Ended op a) = answered m op ≡ Some a
 May m (Stopped op) = (p : Program) × (running m op ≡ Some p)
@@ -96,9 +96,9 @@ next_serial serial x = if is_made x then serial + 1 else serial
 abbrev pub begun : Actor → OpId → Command → Actor
 begun a op c = record a { number = op.number; running = Some (started op c) }
 
--- an op that is refused has its answer from the first
-abbrev pub refused : Actor → OpId → Command → Actor
-refused a op c = record a { number = op.number; running = Some record { op = op; command = c; phase = End no_room } }
+-- an op that is not_begun has its answer from the first
+abbrev pub not_begun : Actor → OpId → Command → Actor
+not_begun a op c = record a { number = op.number; running = Some record { op = op; command = c; phase = End no_room } }
 
 abbrev pub went_on : Counts → Actor → AnyReq → AnyReply → Actor
 went_on counts a q x = record a { serial = next_serial a.serial x; running = heard counts a.serial q x a.running }
@@ -106,7 +106,7 @@ went_on counts a q x = record a { serial = next_serial a.serial x; running = hea
 -- the moment after an event
 abbrev pub after : WorldState → Event → WorldState
 after m (Began op c) = with_actor m op.actor (begun (m.actors op.actor) op c)
-after m (Refused op c) = with_actor m op.actor (refused (m.actors op.actor) op c)
+after m (NotBegun op c) = with_actor m op.actor (not_begun (m.actors op.actor) op c)
 after m (Acted op q x) = with_actor (record m { store = store_step m.store q }) op.actor (went_on m.counts (m.actors op.actor) q x)
 after m (Ended op a) = with_actor m op.actor (record (m.actors op.actor) { running = None })
 after m (Stopped op) = with_actor m op.actor (record (m.actors op.actor) { running = None; stopped = true })

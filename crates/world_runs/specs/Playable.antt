@@ -8,7 +8,7 @@ use Rattle.tect_ids.specs.declared.script.Line.{Line}
 use Rattle.tect_ids.specs.declared.script.Line.TheVariants as lines
 use Rattle.tect_ids.specs.declared.script.Plan.{Plan}
 use Rattle.tect_ids.specs.Places.{HasPlaces}
-use Rattle.world_runs.specs.Turns.{InTurn}
+use Rattle.world_runs.specs.ClientStates.{FitStates}
 use Rattle.program_rules.specs.Programs.{first_path}
 
 -- the path that the command walks has at most 256 names
@@ -29,6 +29,6 @@ IsWithin clients line = Unit {0}
 
 pub record IsPlayable (plan : Plan) : Type 0 where
   pub places : HasPlaces plan.counts
-  pub in_turn : InTurn plan.lines
+  pub in_turn : FitStates plan.lines
   pub few : length plan.lines < 2 ^ 31
   pub within : AllByRecursion (IsWithin (length plan.clients)) plan.lines

@@ -7,7 +7,7 @@ use Rattle.tect_ids.specs.declared.script.ReportLine.{ReportLine}
 use Rattle.tect_ids.specs.declared.script.ReportLine.TheVariants as report_lines
 use Rattle.store_rules.specs.Dumps.{store_dump}
 use Rattle.world_runs.specs.declared.event.Event.{Event}
-use Rattle.world_runs.specs.declared.event.Event.TheVariants.{Began, Refused, Acted, Ended, Stopped, Failed, Dumped}
+use Rattle.world_runs.specs.declared.event.Event.TheVariants.{Began, NotBegun, Acted, Ended, Stopped, Failed, Dumped}
 use Rattle.world_runs.specs.Moments.{moment}
 use Rattle.world_runs.specs.Follows.{none_busy, FollowsFrom}
 use Rattle.world_runs.specs.Report.{lines_at}
@@ -15,7 +15,7 @@ use Rattle.world_runs.specs.Report.{lines_at}
 -- the event is the actor's own
 abbrev pub is_own : ℕ → Event → Bool
 is_own actor (Began op c) = eqb op.actor actor
-is_own actor (Refused op c) = eqb op.actor actor
+is_own actor (NotBegun op c) = eqb op.actor actor
 is_own actor (Acted op q x) = eqb op.actor actor
 is_own actor (Ended op a) = eqb op.actor actor
 is_own actor (Stopped op) = eqb op.actor actor
@@ -25,7 +25,7 @@ is_own actor Dumped = false
 -- the same, or a dump, which is of the whole world
 abbrev pub concerns : ℕ → Event → Bool
 concerns actor (Began op c) = eqb op.actor actor
-concerns actor (Refused op c) = eqb op.actor actor
+concerns actor (NotBegun op c) = eqb op.actor actor
 concerns actor (Acted op q x) = eqb op.actor actor
 concerns actor (Ended op a) = eqb op.actor actor
 concerns actor (Stopped op) = eqb op.actor actor
@@ -67,7 +67,7 @@ race_report_after counts clients before part (Dumped ∷ es) =
     part_lines counts clients before part ++ map report_lines.Dump (store_dump (moment counts (before ++ part)).store)
     ++ race_report_after counts clients ((before ++ part) ++ Dumped ∷ []) [] es
 race_report_after counts clients before part (Began op c ∷ es) = race_report_after counts clients before (part ++ Began op c ∷ []) es
-race_report_after counts clients before part (Refused op c ∷ es) = race_report_after counts clients before (part ++ Refused op c ∷ []) es
+race_report_after counts clients before part (NotBegun op c ∷ es) = race_report_after counts clients before (part ++ NotBegun op c ∷ []) es
 race_report_after counts clients before part (Acted op q x ∷ es) = race_report_after counts clients before (part ++ Acted op q x ∷ []) es
 race_report_after counts clients before part (Ended op a ∷ es) = race_report_after counts clients before (part ++ Ended op a ∷ []) es
 race_report_after counts clients before part (Stopped op ∷ es) = race_report_after counts clients before (part ++ Stopped op ∷ []) es

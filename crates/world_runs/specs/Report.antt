@@ -10,14 +10,14 @@ use Rattle.tect_ids.specs.declared.script.ReportLine.TheVariants as lines
 use Rattle.tect_ids.specs.Keys.{op_eq}
 use Rattle.store_rules.specs.Dumps.{store_dump}
 use Rattle.world_runs.specs.declared.event.Event.{Event}
-use Rattle.world_runs.specs.declared.event.Event.TheVariants.{Began, Refused, Acted, Ended, Stopped, Failed, Dumped}
+use Rattle.world_runs.specs.declared.event.Event.TheVariants.{Began, NotBegun, Acted, Ended, Stopped, Failed, Dumped}
 use Rattle.world_runs.specs.Moments.{moment}
 
 -- a transaction of the op
 abbrev pub is_act_of : OpId → Event → Bool
 is_act_of op (Acted other q x) = op_eq other op
 is_act_of op (Began other c) = false
-is_act_of op (Refused other c) = false
+is_act_of op (NotBegun other c) = false
 is_act_of op (Ended other a) = false
 is_act_of op (Stopped other) = false
 is_act_of op (Failed other a) = false
@@ -40,7 +40,7 @@ lines_at counts clients before (Stopped op) = answer_line clients before op answ
 lines_at counts clients before (Failed op a) = answer_line clients before op a ∷ []
 lines_at counts clients before Dumped = map lines.Dump (store_dump (moment counts before).store)
 lines_at counts clients before (Began op c) = []
-lines_at counts clients before (Refused op c) = []
+lines_at counts clients before (NotBegun op c) = []
 lines_at counts clients before (Acted op q x) = []
 
 abbrev pub report_after : Counts → List (List ℕ) → List Event → List Event → List ReportLine

@@ -5,8 +5,8 @@ use Rattle.program_rules.specs.declared.program.Program.{Program}
 use Rattle.world_runs.specs.Moments.{Actor, WorldState}
 use Rattle.world_runs.specs.Served.{IsServed}
 use Rattle.world_runs.specs.Follows.{Busy}
-use Rattle.world_runs.specs.Turns.{ClientTurn}
-use Rattle.world_runs.specs.Turns as turns
+use Rattle.world_runs.specs.ClientStates.{ClientState}
+use Rattle.world_runs.specs.ClientStates as turns
 
 -- the op of an actor's running command
 abbrev pub op_of : Option Program → Option OpId
@@ -18,10 +18,10 @@ abbrev pub busy_at : WorldState → Busy
 busy_at m actor = op_of (m.actors actor).running
 
 -- what its turn tells of an actor: whether it may go on, and whether its command has ended
-abbrev pub AtTurn : ClientTurn → Actor → Type 0
-AtTurn turns.Idle a = (a.running ≡ None) × (a.stopped ≡ false)
-AtTurn turns.Busy a = a.stopped ≡ false
-AtTurn turns.Gone a = a.running ≡ None
+abbrev pub IsInState : ClientState → Actor → Type 0
+IsInState turns.Idle a = (a.running ≡ None) × (a.stopped ≡ false)
+IsInState turns.Busy a = a.stopped ≡ false
+IsInState turns.Gone a = a.running ≡ None
 
 -- the program is the last that the actor began, the actor is one of 65, and the command is served
 pub record IsLastBegun (a : ℕ) (actor : Actor) (p : Program) : Type 0 where

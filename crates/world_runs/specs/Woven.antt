@@ -4,7 +4,7 @@ use Rattle.std.specs.List.{All}
 use Rattle.entry_words.specs.declared.entry.Moment.{Moment}
 use Rattle.entry_words.specs.Moments.{stamp_of}
 use Rattle.world_runs.specs.declared.event.Event.{Event}
-use Rattle.world_runs.specs.declared.event.Event.TheVariants.{Began, Refused, Acted, Ended, Stopped, Failed, Dumped}
+use Rattle.world_runs.specs.declared.event.Event.TheVariants.{Began, NotBegun, Acted, Ended, Stopped, Failed, Dumped}
 use Rattle.world_runs.specs.Events.{events_of, own}
 
 -- where a dump stands: behind the moments that are stamped up to this, and behind these events of refused ops
@@ -33,7 +33,7 @@ own_cuts actor = map (own_cut actor)
 
 -- the event is of an op that was refused, or may be: no transaction, no begin and no dump
 abbrev pub IsSilent : Event → Type 0
-IsSilent (Refused op c) = Unit {0}
+IsSilent (NotBegun op c) = Unit {0}
 IsSilent (Ended op a) = Unit {0}
 IsSilent (Stopped op) = Unit {0}
 IsSilent (Failed op a) = Unit {0}

@@ -11,7 +11,7 @@ pub enum Event {
     },
     /// The op's actor was to begin the command, and its own history had no room left for that: the op has its answer, and
     /// asks nothing.
-    Refused {
+    NotBegun {
         op: OpId,
         command: Command,
     },

@@ -10,10 +10,10 @@ use Rattle.clients.proofs.steps.transact.Goals as goal
 pub returns-in-Ok-clause-step : goal.returns-in-Ok-clause-step
 returns-in-Ok-clause-step g c =
     did_step g.C.Commits.done c.args.counts.now c.args.at.now c.commit.new.self c.args.actor.now c.hear.new.actor c.args.pass.now
-        c.hear.new.pass c.commit.new.pass
+    c.hear.new.pass c.commit.new.pass
     c.args.asked c.in-Ok.reply c.hear.result c.requires.asked
     (subst (λ (n : Counts). g.C.Commits.done c.args.at.now c.commit.new.self c.args.pass.now.clock c.args.asked
-        (Ok (entry_at n c.commit.new.pass.clock c.args.pass.now c.args.asked c.in-Ok.reply)))
+    (Ok (entry_at n c.commit.new.pass.clock c.args.pass.now c.args.asked c.in-Ok.reply)))
     c.requires.same c.in-Ok.ensures.done) (λ full. let bad = c.in-Ok.ensures.full full in cc)
     (subst (λ (n : Counts). Committed n c.args.pass.now c.commit.new.pass c.args.asked c.in-Ok.reply) c.requires.same c.in-Ok.ensures.ok)
     (c.hear.ensures c.args.counts.now c.args.asked (c.place-place.ensures ∙ ap (request_place c.args.counts.now) c.request.ensures))
@@ -21,9 +21,9 @@ returns-in-Ok-clause-step g c =
 pub returns-in-Err-NoMemory-clause-step : goal.returns-in-Err-NoMemory-clause-step
 returns-in-Err-NoMemory-clause-step g c =
     denied_step g.C.Commits.done c.args.counts.now c.args.at.now c.commit.new.self c.args.actor.now c.fail.new.actor c.args.pass.now
-        c.fail.new.pass c.commit.new.pass
+    c.fail.new.pass c.commit.new.pass
     c.args.asked NoMemory answers.NoMemory c.fail.result c.requires.asked
-        (rw c.in-Err-NoMemory.field-0-is at c.in-Err-NoMemory.ensures.done)
+    (rw c.in-Err-NoMemory.field-0-is at c.in-Err-NoMemory.ensures.done)
     c.in-Err-NoMemory.ensures.err refl c.fail.ensures.actor c.fail.ensures.pass c.fail.ensures.step
 
 pub returns-in-Err-HistoryFull-clause-step : goal.returns-in-Err-HistoryFull-clause-step
@@ -31,10 +31,10 @@ returns-in-Err-HistoryFull-clause-step g c =
     let place = c.in-Err-HistoryFull.place in
     let only = c.in-Err-HistoryFull.ensures.only place (ap Err c.in-Err-HistoryFull.field-0-is) in
     denied_step g.C.Commits.done c.args.counts.now c.args.at.now c.commit.new.self c.args.actor.now c.fail-in-Err-HistoryFull.new.actor
-        c.args.pass.now c.fail-in-Err-HistoryFull.new.pass c.commit.new.pass
+    c.args.pass.now c.fail-in-Err-HistoryFull.new.pass c.commit.new.pass
     c.args.asked (HistoryFull place) (answers.HistoryFull place) c.fail-in-Err-HistoryFull.result c.requires.asked
-        (rw c.in-Err-HistoryFull.field-0-is at c.in-Err-HistoryFull.ensures.done)
+    (rw c.in-Err-HistoryFull.field-0-is at c.in-Err-HistoryFull.ensures.done)
     (c.in-Err-HistoryFull.ensures.err, only.0, only.1 ∙ ap (λ (n : Counts). request_place n c.args.asked) c.requires.same) refl
-        c.fail-in-Err-HistoryFull.ensures.actor
+    c.fail-in-Err-HistoryFull.ensures.actor
     (rw c.in-Err-HistoryFull.field-0-is at c.fail-in-Err-HistoryFull.ensures.pass)
-        (rw c.in-Err-HistoryFull.field-0-is at c.fail-in-Err-HistoryFull.ensures.step)
+    (rw c.in-Err-HistoryFull.field-0-is at c.fail-in-Err-HistoryFull.ensures.step)

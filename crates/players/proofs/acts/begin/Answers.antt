@@ -6,6 +6,6 @@ pub returns-clause-plays : goal.returns-clause-plays
 returns-clause-plays g c names =
     on_ok_both c.begin_command.result
     (λ begun fit. begins g.P.Player.counts g.P.Player.fits g.P.Player.actor g.P.Player.history g.P.Player.state g.P.Player.grows
-        g.met.P.Player.laws names c.args.player.now c.begin_command.new.player c.args.at.now c.begin_command.new.at c.args.command.now begun
-        c.requires.idle c.requires.goes_on fit)
+    g.met.P.Player.laws names c.args.player.now c.begin_command.new.player c.args.at.now c.begin_command.new.at c.args.command.now begun
+    c.requires.idle c.requires.goes_on fit)
     c.begin_command.ensures.begins c.begin_command.ensures.fits

@@ -14,17 +14,17 @@ pub returns-in-Done-clause-steps : goal.returns-in-Done-clause-steps
 returns-in-Done-clause-steps g c =
     let lt : c.steps._step < c.args.count = c.steps-test.true in
     steps_within g.P.Player.counts g.P.Player.fits g.P.Player.actor g.P.Player.history g.P.Player.state g.P.Player.grows g.met.P.Player.laws
-        c.args.player.now c.step.new.self c.args.at.now c.step.new.at _ (c.steps._step + 1) c.args.count c.in-Done.answer (omega arith)
+    c.args.player.now c.step.new.self c.args.at.now c.step.new.at _ (c.steps._step + 1) c.args.count c.in-Done.answer (omega arith)
     (stepped_end g.P.Player.counts g.P.Player.fits g.P.Player.actor g.P.Player.history g.P.Player.state g.P.Player.grows g.met.P.Player.laws
-        c.steps._step c.args.player.now c.steps.player c.step.new.self c.args.at.now c.steps.at c.step.new.at c.steps.invariant
-        c.in-Done.answer
+    c.steps._step c.args.player.now c.steps.player c.step.new.self c.args.at.now c.steps.at c.step.new.at c.steps.invariant
+    c.in-Done.answer
     (subst (λ (t : Turned). StepsOnce (g.P.Player.grows c.steps.player c.steps.at c.step.new.self c.step.new.at)
     (op_at (g.P.Player.actor c.steps.player) (g.P.Player.state c.steps.player c.steps.at)) t) c.in-Done.is c.in_ok-step.ensures.step))
 
 pub steps-preserved : goal.steps-preserved
 steps-preserved g c =
     stepped_more g.P.Player.counts g.P.Player.fits g.P.Player.actor g.P.Player.history g.P.Player.state g.P.Player.grows g.met.P.Player.laws
-        c.steps._step c.args.player.now c.steps.player c.step.new.self c.args.at.now c.steps.at c.step.new.at c.steps.invariant
+    c.steps._step c.args.player.now c.steps.player c.step.new.self c.args.at.now c.steps.at c.step.new.at c.steps.invariant
     (subst (λ (t : Turned). StepsOnce (g.P.Player.grows c.steps.player c.steps.at c.step.new.self c.step.new.at)
     (op_at (g.P.Player.actor c.steps.player) (g.P.Player.state c.steps.player c.steps.at)) t) c.in-Going.is c.in_ok-step.ensures.step)
-        c.in_ok-step.ensures.fits
+    c.in_ok-step.ensures.fits

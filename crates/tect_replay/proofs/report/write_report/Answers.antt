@@ -14,8 +14,8 @@ each-preserved g c = record {
 pub returns-in_err-add_line-clause-part : goal.returns-in_err-add_line-clause-part
 returns-in_err-add_line-clause-part g c =
     on_err c.from_residual.result
-        (report_part c.args.lines.now c.each.line-index c.line-item.result _ _ _ _ c.each-test.true c.line-item.is c.each.invariant.written
-        c.in_err-add_line.ensures.part)
+    (report_part c.args.lines.now c.each.line-index c.line-item.result _ _ _ _ c.each-test.true c.line-item.is c.each.invariant.written
+    c.in_err-add_line.ensures.part)
 
 pub returns-clause-whole : goal.returns-clause-whole
 returns-clause-whole g c =

@@ -9,13 +9,15 @@ use Rattle.tect_replay.proofs.script.replay.Goals as goal
 pub returns-in_err-world-clause-cut : goal.returns-in_err-world-clause-cut
 returns-in_err-world-clause-cut g c =
     on_err c.from_residual.result
-        (cut_by c.args.plan.now 0 (record { counts = c.args.plan.now.counts; history = [] }) _ _ c.requires
-        (played_none c.args.plan.now _ refl) (prefix_none _ _))
+    (cut_by c.args.plan.now 0 (record { counts = c.args.plan.now.counts; history = [] }) _ _ c.requires
+    (played_none c.args.plan.now _ refl) (prefix_none _ _))
 
 pub lines-init : goal.lines-init
-lines-init g c = record
-    { played = played_none c.args.plan.now c.in_ok-world.world c.in_ok-world.ensures; written = rw (c.in_ok-world.ensures) (Appends-nil _);
-    kept = refl }
+lines-init g c = record {
+  played = played_none c.args.plan.now c.in_ok-world.world c.in_ok-world.ensures;
+  written = rw (c.in_ok-world.ensures) (Appends-nil _);
+  kept = refl;
+}
 
 pub play_line-requires : goal.play_line-requires
 play_line-requires g c =
@@ -45,8 +47,8 @@ lines-preserved g c =
 pub returns-in_err-shown-clause-cut : goal.returns-in_err-shown-clause-cut
 returns-in_err-shown-clause-cut g c =
     on_err c.from_residual-in_err-shown.result
-        (cut_by c.args.plan.now c.lines.line-index c.lines.world _ _ c.requires c.lines.invariant.played
-        (prefix_whole _ _ _ c.lines.invariant.written))
+    (cut_by c.args.plan.now c.lines.line-index c.lines.world _ _ c.requires c.lines.invariant.played
+    (prefix_whole _ _ _ c.lines.invariant.written))
 
 pub returns-in_err-write_shown-clause-cut : goal.returns-in_err-write_shown-clause-cut
 returns-in_err-write_shown-clause-cut g c =
@@ -59,7 +61,7 @@ returns-in_err-write_shown-clause-cut g c =
     let plays : PlaysLine plan.clients line c.lines.world c.play_line.new.world ls = rw (c.as_slice.ensures) at c.in_ok-shown.ensures in
     on_err c.from_residual-in_err-write_shown.result
     (cut_by plan (i + 1) c.play_line.new.world _ _ c.requires
-        (played_next plan i c.lines.world line c.requires lt at c.lines.invariant.played c.play_line.new.world ls plays)
+    (played_next plan i c.lines.world line c.requires lt at c.lines.invariant.played c.play_line.new.world ls plays)
     (rw (text_next plan i c.lines.world line c.requires lt at c.lines.invariant.played c.play_line.new.world ls plays)
     (prefix_then _ _ _ _ _ c.lines.invariant.written c.in_err-write_shown.ensures.part)))
 

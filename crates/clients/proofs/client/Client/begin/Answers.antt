@@ -18,11 +18,14 @@ returns-clause-ok c =
       | then-is_full_for_begin w ↦
           rw (w.self-is, w.begun-is) (on_ok_map w.refuse-begun.result
           (λ e. inr (refuses_here c.self.inside c.args.self.now c.self.invariant c.self.view_is (w.if-is_full_for_begin.ensures.0 refl), e))
-              w.refuse-begun.ensures.ok)
+          w.refuse-begun.ensures.ok)
       | else-is_full_for_begin w ↦
           rw (w.self-is, w.begun-is) (on_ok_map w.note_begin-begun.result
-          (λ e. inl (λ full. let bad = w.if-is_full_for_begin.ensures.1
-              (full_here c.self.inside c.args.self.now c.self.invariant c.self.view_is full) in cc, e)) w.note_begin-begun.ensures.ok)
+          (λ e. inl (
+            λ full. let bad = w.if-is_full_for_begin.ensures.1
+                (full_here c.self.inside c.args.self.now c.self.invariant c.self.view_is full) in cc,
+            e,
+          )) w.note_begin-begun.ensures.ok)
     ]
 
 pub returns-clause-err : goal.returns-clause-err

@@ -13,5 +13,5 @@ invariant_of-self c =
     refused_end a
     (record { counts = a.counts; actor = c.end.new.self; pass = a.pass; refused = c.push_event.new.events; transactions = a.transactions })
     c.self.invariant refl refl (runs_here a c.args.self.now c.self.invariant c.self.view_is c.requires.running)
-        (some_here a c.args.self.now c.self.invariant c.self.view_is c.requires.refused) refl
+    (some_here a c.args.self.now c.self.invariant c.self.view_is c.requires.refused) refl
     c.end.ensures (c.push_event.ensures.items ∙ ap (λ (o : OpId). a.refused.items ++ Ended o no_room ∷ []) c.op-op.ensures.op)

@@ -21,7 +21,7 @@ invariant_of-self-2 g c =
       transactions = c.self.inside.transactions + c.in_ok-step.step.transactions;
     })
     c.args.self.now c.self.invariant c.self.view_is c.requires.noted c.requires.running refl refl c.in_ok-step.step
-        c.in_ok-step.ensures.step refl
+    c.in_ok-step.ensures.step refl
 
 pub returns-clause-step : goal.returns-clause-step
 returns-clause-step g c =
@@ -34,4 +34,4 @@ returns-clause-step g c =
     } in
     subst (OwnStep g.C.Commits.done c.args.at.now c.take_step.new.at c.args.self.now (life_of new)) (sym c.turned_of.ensures)
     (turned_step g.C.Commits.done c.args.at.now c.take_step.new.at c.self.inside new c.args.self.now c.self.invariant c.self.view_is
-        c.requires.noted c.requires.running refl refl c.in_ok-step.step c.in_ok-step.ensures.step)
+    c.requires.noted c.requires.running refl refl c.in_ok-step.step c.in_ok-step.ensures.step)

@@ -12,5 +12,5 @@ invariant_of-self c =
     (record { counts = a.counts; actor = c.stop.new.self; pass = c.note.new.self; refused = a.refused; transactions = a.transactions })
     c.args.self.now c.self.invariant c.self.view_is c.requires.noted c.requires.running c.stop.ensures c.op-op.result c.op-op.ensures.op
     (at_ok c.note.result ok c.note.ensures.moments) (at_ok c.note.result ok c.note.ensures.clock)
-        (at_ok c.note.result ok c.note.ensures.same).0 (at_ok c.note.result ok c.note.ensures.running)
+    (at_ok c.note.result ok c.note.ensures.same).0 (at_ok c.note.result ok c.note.ensures.running)
     refl refl refl

@@ -12,10 +12,10 @@ returns-clause-step g c =
       | else-is_empty w ↦
           let some : c.args.self.now.silent ≢ [] =
           some_there c.self.inside c.args.self.now c.self.invariant c.self.view_is
-              (some_items c.self.inside (sym c.is_empty.ensures ∙ w.if-is_empty.false)) in
+          (some_items c.self.inside (sym c.is_empty.ensures ∙ w.if-is_empty.false)) in
           rw (w.self-is, w.at-is, w.turned-is, w.end_refused.ensures.told)
           (refused_step c.args.self.now some g.C.Commits.done c.args.at.now w.end_refused.new.self
-              (life_here c.self.inside c.args.self.now c.self.invariant c.self.view_is) c.requires.running w.end_refused.ensures.life)
+          (life_here c.self.inside c.args.self.now c.self.invariant c.self.view_is) c.requires.running w.end_refused.ensures.life)
     ]
 
 pub returns-clause-same : goal.returns-clause-same

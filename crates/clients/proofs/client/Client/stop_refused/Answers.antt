@@ -12,5 +12,5 @@ invariant_of-self c =
     refused_stop a
     (record { counts = a.counts; actor = c.stop.new.self; pass = a.pass; refused = c.push_event.new.events; transactions = a.transactions })
     c.self.invariant refl refl (runs_here a c.args.self.now c.self.invariant c.self.view_is c.requires.running)
-        (some_here a c.args.self.now c.self.invariant c.self.view_is c.requires.refused) refl
+    (some_here a c.args.self.now c.self.invariant c.self.view_is c.requires.refused) refl
     c.stop.ensures (c.push_event.ensures.items ∙ ap (λ (o : OpId). a.refused.items ++ Stopped o ∷ []) c.op-op.ensures.op)

@@ -9,5 +9,9 @@ pub returns-clause-few : goal.returns-clause-few
 returns-clause-few c =
     let a = c.self.inside in
     let life = is_life a c.self.invariant in
-    omega (arith, c.self.invariant.counted, few_transactions a.pass.moments.items a.refused.items (op_in (life_of a)) 65536 life.few
-        c.self.invariant.silent)
+    omega (
+      arith,
+      c.self.invariant.counted,
+      few_transactions a.pass.moments.items a.refused.items (op_in (life_of a)) 65536 life.few
+          c.self.invariant.silent,
+    )

@@ -1,9 +1,7 @@
 use Rattle.std.proofs.Common.{rules}
 use Rattle.tect_edge.proofs.memory_sink.BytesSinkSink.put.Goals as goal
-use Rattle.tect_edge.proofs.memory_sink.BytesSinkSink.put.Goals.{
-  then-contains-via-then-contains,
-  then-contains-via-else-contains+then-is_err,
-}
+use Rattle.tect_edge.proofs.memory_sink.BytesSinkSink.put.Goals.{then-contains-via-then-contains}
+use Rattle.tect_edge.proofs.memory_sink.BytesSinkSink.put.Goals.{then-contains-via-else-contains+then-is_err}
 
 pub returns-then-contains-clause-wanting : goal.returns-then-contains-clause-wanting
 returns-then-contains-clause-wanting c failed unlisted =

@@ -9,51 +9,63 @@ pub begin_client-begun-requires-clause-idle : goal.begin_client-begun-requires-c
 begin_client-begun-requires-clause-idle c =
     subst (λ (x : Actor). IsNone x.running)
     (own_state_is c.self.inside c.args.actor c.index_mut-client.result.now c.self.invariant c.requires.actor.0 c.requires.actor.1
-        c.index_mut-client.ensures.value)
+    c.index_mut-client.ensures.value)
     (rw (← c.self.view_is) at c.requires.idle)
 
 pub begin_client-begun-requires-clause-goes_on : goal.begin_client-begun-requires-clause-goes_on
 begin_client-begun-requires-clause-goes_on c =
     subst (λ (x : Actor). x.stopped ≡ false)
     (own_state_is c.self.inside c.args.actor c.index_mut-client.result.now c.self.invariant c.requires.actor.0 c.requires.actor.1
-        c.index_mut-client.ensures.value)
+    c.index_mut-client.ensures.value)
     (rw (← c.self.view_is) at c.requires.goes_on)
 
 pub begin_client-begun-requires-clause-few : goal.begin_client-begun-requires-clause-few
 begin_client-begun-requires-clause-few c =
     subst (λ (x : Actor). x.number + 1 < 2 ^ 31)
     (own_state_is c.self.inside c.args.actor c.index_mut-client.result.now c.self.invariant c.requires.actor.0 c.requires.actor.1
-        c.index_mut-client.ensures.value)
+    c.index_mut-client.ensures.value)
     (rw (← c.self.view_is) at c.requires.few)
 
 pub invariant_of-self-2 : goal.invariant_of-self-2
 invariant_of-self-2 c =
     began_stays c.self.inside c.args.actor c.index_mut-client.result.now c.self.invariant c.requires.actor.0 c.requires.actor.1
-        c.index_mut-client.ensures.value
-    (record { shards = c.self.inside.shards; clients = with_item c.self.inside.clients (c.args.actor - 1) c.begin_client-begun.new.client;
-        clock = c.begin_client-begun.new.clock; order = c.begin_client-begun.new.order })
+    c.index_mut-client.ensures.value
+    (record {
+      shards = c.self.inside.shards;
+      clients = with_item c.self.inside.clients (c.args.actor - 1) c.begin_client-begun.new.client;
+      clock = c.begin_client-begun.new.clock;
+      order = c.begin_client-begun.new.order;
+    })
     c.begin_client-begun.new.client c.reserve.new.self.items c.in_ok-reserve.ensures.items
-        (rw c.as_slice.ensures.value at c.is_short.ensures) refl c.begin_client-begun.ensures.life
+    (rw c.as_slice.ensures.value at c.is_short.ensures) refl c.begin_client-begun.ensures.life
     c.args.command refl c.begin_client-begun.result c.begin_client-begun.ensures.begins
 
 pub returns-clause-ok : goal.returns-clause-ok
 returns-clause-ok c =
     rw (← c.self.view_is)
-        (began_ok c.self.inside c.args.actor c.index_mut-client.result.now c.self.invariant c.requires.actor.0 c.requires.actor.1
-        c.index_mut-client.ensures.value
-    (record { shards = c.self.inside.shards; clients = with_item c.self.inside.clients (c.args.actor - 1) c.begin_client-begun.new.client;
-        clock = c.begin_client-begun.new.clock; order = c.begin_client-begun.new.order })
+    (began_ok c.self.inside c.args.actor c.index_mut-client.result.now c.self.invariant c.requires.actor.0 c.requires.actor.1
+    c.index_mut-client.ensures.value
+    (record {
+      shards = c.self.inside.shards;
+      clients = with_item c.self.inside.clients (c.args.actor - 1) c.begin_client-begun.new.client;
+      clock = c.begin_client-begun.new.clock;
+      order = c.begin_client-begun.new.order;
+    })
     c.begin_client-begun.new.client c.reserve.new.self.items c.in_ok-reserve.ensures.items
-        (rw c.as_slice.ensures.value at c.is_short.ensures) refl c.begin_client-begun.ensures.life
+    (rw c.as_slice.ensures.value at c.is_short.ensures) refl c.begin_client-begun.ensures.life
     c.args.command refl c.begin_client-begun.result c.begin_client-begun.ensures.begins)
 
 pub returns-clause-err : goal.returns-clause-err
 returns-clause-err c =
     rw (← c.self.view_is)
-        (began_err c.self.inside c.args.actor c.index_mut-client.result.now c.self.invariant c.requires.actor.0 c.requires.actor.1
-        c.index_mut-client.ensures.value
-    (record { shards = c.self.inside.shards; clients = with_item c.self.inside.clients (c.args.actor - 1) c.begin_client-begun.new.client;
-        clock = c.begin_client-begun.new.clock; order = c.begin_client-begun.new.order })
+    (began_err c.self.inside c.args.actor c.index_mut-client.result.now c.self.invariant c.requires.actor.0 c.requires.actor.1
+    c.index_mut-client.ensures.value
+    (record {
+      shards = c.self.inside.shards;
+      clients = with_item c.self.inside.clients (c.args.actor - 1) c.begin_client-begun.new.client;
+      clock = c.begin_client-begun.new.clock;
+      order = c.begin_client-begun.new.order;
+    })
     c.begin_client-begun.new.client c.reserve.new.self.items c.in_ok-reserve.ensures.items
-        (rw c.as_slice.ensures.value at c.is_short.ensures) refl c.begin_client-begun.ensures.life
+    (rw c.as_slice.ensures.value at c.is_short.ensures) refl c.begin_client-begun.ensures.life
     c.args.command refl c.begin_client-begun.result c.begin_client-begun.ensures.begins)

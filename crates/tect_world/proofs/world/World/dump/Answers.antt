@@ -8,21 +8,29 @@ use Rattle.tect_world.proofs.world.World.dump.Goals as goal
 pub invariant_of-self-2 : goal.invariant_of-self-2
 invariant_of-self-2 c =
     dump_stays c.self.inside
-        (record { shards = c.self.inside.shards; clients = c.self.inside.clients; clock = c.self.inside.clock;
-        order = c.push_mark.new.order }) c.self.invariant
+    (record {
+      shards = c.self.inside.shards;
+      clients = c.self.inside.clients;
+      clock = c.self.inside.clock;
+      order = c.push_mark.new.order;
+    }) c.self.invariant
     (c.push_mark.ensures.items ∙ ap (λ (ms : List Mark). ms ++ Dump ∷ []) c.in_ok-reserve.ensures.items)
-        (few_more c.self.inside.order.items c.reserve.new.self.items c.push_mark.new.order.items Dump
-        (rw c.as_slice.ensures.value at c.is_short.ensures) c.push_mark.ensures.items)
+    (few_more c.self.inside.order.items c.reserve.new.self.items c.push_mark.new.order.items Dump
+    (rw c.as_slice.ensures.value at c.is_short.ensures) c.push_mark.ensures.items)
 
 pub returns-clause-ok : goal.returns-clause-ok
 returns-clause-ok c =
     rw (← c.self.view_is)
-        (dump_grows c.self.inside
-        (record { shards = c.self.inside.shards; clients = c.self.inside.clients; clock = c.self.inside.clock;
-        order = c.push_mark.new.order }) c.self.invariant
+    (dump_grows c.self.inside
+    (record {
+      shards = c.self.inside.shards;
+      clients = c.self.inside.clients;
+      clock = c.self.inside.clock;
+      order = c.push_mark.new.order;
+    }) c.self.invariant
     (c.push_mark.ensures.items ∙ ap (λ (ms : List Mark). ms ++ Dump ∷ []) c.in_ok-reserve.ensures.items)
-        (few_more c.self.inside.order.items c.reserve.new.self.items c.push_mark.new.order.items Dump
-        (rw c.as_slice.ensures.value at c.is_short.ensures) c.push_mark.ensures.items))
+    (few_more c.self.inside.order.items c.reserve.new.self.items c.push_mark.new.order.items Dump
+    (rw c.as_slice.ensures.value at c.is_short.ensures) c.push_mark.ensures.items))
 
 pub returns-clause-lines : goal.returns-clause-lines
 returns-clause-lines c =

@@ -5,4 +5,4 @@ use Rattle.tect_world.proofs.world.World.last_op.Goals as goal
 pub returns-clause-op : goal.returns-clause-op
 returns-clause-op c =
     rw (← c.self.view_is)
-        (c.op.ensures.op ∙ own_op c.self.inside c.args.actor c.index.result.now c.self.invariant c.requires.0 c.requires.1 c.index.ensures)
+    (c.op.ensures.op ∙ own_op c.self.inside c.args.actor c.index.result.now c.self.invariant c.requires.0 c.requires.1 c.index.ensures)

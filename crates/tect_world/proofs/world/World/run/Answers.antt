@@ -14,13 +14,13 @@ pub steps-smaller : goal.steps-smaller
 steps-smaller c =
     goes_nearer c.args.self.now c.steps.self c.step.new.self c.args.actor c.steps.invariant
     (subst (Stepped c.steps.self c.step.new.self (last_op (present c.steps.self) c.args.actor)) c.in-Going.is c.in_ok-step.ensures.ok)
-        c.in_ok-step.ensures.limits
+    c.in_ok-step.ensures.limits
 
 pub steps-preserved : goal.steps-preserved
 steps-preserved c =
     goes_on c.args.self.now c.steps.self c.step.new.self c.args.actor c.steps.invariant
     (subst (Stepped c.steps.self c.step.new.self (last_op (present c.steps.self) c.args.actor)) c.in-Going.is c.in_ok-step.ensures.ok)
-        c.in_ok-step.ensures.run
+    c.in_ok-step.ensures.run
 
 pub returns-in-Done-clause-ok : goal.returns-in-Done-clause-ok
 returns-in-Done-clause-ok c =
@@ -30,4 +30,4 @@ returns-in-Done-clause-ok c =
 pub returns-in_err-step-clause-err : goal.returns-in_err-step-clause-err
 returns-in_err-step-clause-err c =
     on_err_any c.from_residual.result
-        (goes_nowhere c.args.self.now c.steps.self c.step.new.self c.args.actor c.steps.invariant c.in_err-step.ensures.err)
+    (goes_nowhere c.args.self.now c.steps.self c.step.new.self c.args.actor c.steps.invariant c.in_err-step.ensures.err)

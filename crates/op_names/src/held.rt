@@ -5,7 +5,7 @@ use tect_calls::{Granted, Made, Spent};
 
 // The tokens that a running command holds.
 #[derive(Drop)]
-pub(crate) enum Shown {
+pub(crate) enum HeldTokens {
     // The directory to which the walk led was made.
     Upper(Made),
     // The command's own hold was granted.
@@ -15,13 +15,13 @@ pub(crate) enum Shown {
     Nothing,
 }
 
-impl Shown {
+impl HeldTokens {
     pub(crate) fn upper(&self) -> &Made
         requires { IsSome (upper_of self.now) }
         ensures { Some result.now ≡ upper_of self.now }
     {
         match self {
-            Shown::Upper(made) => made,
+            HeldTokens::Upper(made) => made,
             _ => unreachable!(),
         }
     }
@@ -31,7 +31,7 @@ impl Shown {
         ensures { Some result.now ≡ own_of self.now }
     {
         match self {
-            Shown::Own(granted) => granted,
+            HeldTokens::Own(granted) => granted,
             _ => unreachable!(),
         }
     }
@@ -41,7 +41,7 @@ impl Shown {
         ensures { Some result.now ≡ lost_of self.now }
     {
         match self {
-            Shown::Lost { hold, .. } => hold,
+            HeldTokens::Lost { hold, .. } => hold,
             _ => unreachable!(),
         }
     }
