@@ -27,7 +27,8 @@ def sources(crate):
 
 
 def lost_files(page, known):
-    """Paths of crates (`CRATE/specs/File`, or `CRATE/EDIT` for an edit), and of tools, cases and measures."""
+    """Paths of crates (`CRATE/specs/File`, or `CRATE/EDIT` for an edit), and of tools, cases and measures; and definitions as
+    `CRATE`: File, File."""
     for code in codes(page.read_text()):
         crate, _, rest = code.partition("/")
         if re.fullmatch(r"[a-z_]+/\w[\w/.]*", code) and crate in known:
@@ -36,6 +37,8 @@ def lost_files(page, known):
         elif re.fullmatch(r"(tools|bench|docs|cases|examples)/[\w./-]+", code.split()[0]) and not is_file(code.split()[0]):
             if not is_file(f"{code.split()[0]}.script"):
                 yield code
+    for crate, names in re.findall(r"`([a-z_]+)`: ([A-Z]\w+(?:, [A-Z]\w+)*)", page.read_text()):
+        yield from (f"{crate}: {name}" for name in names.split(", ") if crate in known and not is_file(f"crates/{crate}/specs/{name}"))
 
 
 def lost_crates(page, known):

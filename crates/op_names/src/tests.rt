@@ -60,12 +60,14 @@ fn refused(
     requires { memory.old.serial + 3 < 2 ^ 32 }
 {
     let make =
-        "File(MakeFile { file: FileId(4294967297), hold: Hold { op: OpId { actor: 1, number: 1 }, part: 0 }, key: Key { dir: DirId(1), name: Name { bytes: [97] } }, token: None })";
+        "File(MakeFile { file: FileId(4294967297), hold: Hold { op: OpId { actor: 1, number: 1 }, part: 0 }, \
+         key: Key { dir: DirId(1), name: Name { bytes: [97] } }, token: None })";
     let made = AnyReply::File(FileReply::Made);
     let ended = told(rt, alloc, create, memory, make, made)?;
     assert!(rt; !ended && memory.number_of_next() == 4_294_967_298);
     let bind =
-        "Name(Bind { key: Key { dir: DirId(1), name: Name { bytes: [97] } }, node: File(FileId(4294967297)), hold: Hold { op: OpId { actor: 1, number: 1 }, part: 0 }, over: File })";
+        "Name(Bind { key: Key { dir: DirId(1), name: Name { bytes: [97] } }, node: File(FileId(4294967297)), \
+         hold: Hold { op: OpId { actor: 1, number: 1 }, part: 0 }, over: File })";
     let refused = AnyReply::Name(NameReply::Sealed);
     let ended = told(rt, alloc, create, memory, bind, refused)?;
     assert!(rt; !ended && create.answer().is_none());

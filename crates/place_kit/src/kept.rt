@@ -19,7 +19,8 @@ pub struct Kept<M: Machine> {
     pub(crate) history: Log<Entry>,
     pub(crate) clock: u64,
     pub(crate) count: u64,
-    ghost kept: { IsKept M.after M.answer M.opening label machine base.value history.items clock count } by { IsKept-prop M.code _ _ _ _ _ _ _ _ _ },
+    ghost kept: { IsKept M.after M.answer M.opening label machine base.value
+        history.items clock count } by { IsKept-prop M.code _ _ _ _ _ _ _ _ _ },
 }
 
 impl<M: Machine> Kept<M> {

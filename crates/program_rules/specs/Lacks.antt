@@ -1,5 +1,4 @@
 -- The answers of commands that end for want of memory, or of room in their actor's own history.
-use Rattle.std.specs.Prelude.{ℕ}
 use Rattle.tect_ids.specs.declared.answer.Answer.{Answer}
 use Rattle.tect_ids.specs.declared.answer.Answer.TheVariants as answers
 

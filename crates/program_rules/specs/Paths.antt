@@ -1,5 +1,5 @@
 -- The names of a path.
-use Rattle.std.specs.Prelude.{ℕ, List, [], ◌∷◌, Option, Some, None}
+use Rattle.std.specs.Prelude.{ℕ, List, [], ◌∷◌}
 
 -- all names but the last
 abbrev pub but_last : List (List ℕ) → List (List ℕ)

@@ -1,12 +1,10 @@
 -- each event keeps what is so at every moment
 use Rattle.std.proofs.Common.{◌≡◌, ℕ, ◌+◌, ◌<◌, ◌≤◌, ◌^◌, [], ◌∷◌, Bool, true, false, eqb, Option, Some, None, refl, arith, subst}
-use Rattle.std.proofs.Common.{if◌then◌else◌}
 use Rattle.tect_ids.specs.declared.ids.Counts.{Counts}
 use Rattle.tect_ids.specs.declared.ids.Node.TheVariants.{Dir, File}
 use Rattle.tect_ids.specs.declared.ids.OpId.{OpId}
 use Rattle.tect_ids.specs.declared.command.Command.{Command}
 use Rattle.tect_ids.specs.declared.command.Command.TheVariants as commands
-use Rattle.tect_ids.proofs.KeyTests.{keys}
 use Rattle.key_maps.proofs.Lookups.{maps}
 use Rattle.store_rules.specs.declared.any.AnyReq.{AnyReq}
 use Rattle.store_rules.specs.declared.any.AnyReply.{AnyReply}
@@ -26,20 +24,12 @@ use Rattle.store_world.specs.Later.{actor_of, Later, Within, by_actor}
 use Rattle.store_world.specs.Requests.{Needs, Kept, touched_by}
 use Rattle.store_world.proofs.Frames.{weaken}
 use Rattle.store_world.proofs.Rows.{row_kept, opening_sound}
+use Rattle.world_runs.proofs.Actors.{changed, other_number}
 use Rattle.script_runs.proofs.Running.{Asks, asks_by}
 use Rattle.sound_runs.specs.Pasts.{ghost_after, world_of}
 use Rattle.sound_runs.specs.Known.{PhaseKnows, Knows, RunningKnows, IsFresh, ActorSound, AllSound}
 use Rattle.sound_runs.proofs.PhasesAsk.{IsFree, phase_needs, phase_own, phase_later, MakesNoLater}
 use Rattle.sound_runs.proofs.PhasesKeep.{phase_stays, phase_goes_on}
-
--- one of the actors has changed
-with_cases : {X : Type 0} (P : X → Type 0) (others : ℕ → X) (a : ℕ) (x : X) (b : ℕ) → (b ≡ a → P x) → (eqb b a ≡ false → P (others b))
-    → P (if eqb b a then x else others b)
-with_cases P others a x b here there =
-    elim (eqb b a) as (λ t. eqb b a ≡ t → P (if t then x else others b)) [
-      | true ↦ λ e. here (grind (arith, keys))
-      | false ↦ λ e. there e
-    ] refl
 
 -- what another actor does leaves an actor's part
 module _ (a b : ℕ) (w v : World) (l : Later (by_actor a) w v) (apart : eqb b a ≡ false) where
@@ -228,7 +218,7 @@ module _ (m : WorldState) (g : Ghost) (s : AllSound m g) (a : ℕ) where
   rest_sound stopped = record {
     sound = s.sound;
     root = s.root;
-    actors = λ b. with_cases (λ z. ActorSound (world_of m g) b z) m.actors a _ b (λ e. rw e (rests stopped)) (λ apart. s.actors b);
+    actors = λ b. changed (λ z. ActorSound (world_of m g) b z) m.actors a _ b (λ e. rw e (rests stopped)) (λ d. s.actors b);
   }
 
 acts_sound : (m : WorldState) (g : Ghost) (op : OpId) (q : AnyReq) (x : AnyReply) → AllSound m g → May m (Acted op q x)

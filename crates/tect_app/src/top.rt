@@ -43,13 +43,15 @@ fn play<K: Sink>(alloc: Global, plan: &Plan, sink: &mut K) -> Status
 /// of memory.
 pub fn run_replay<S: Source, K: Sink>(alloc: Global, source: &mut S, sink: &mut K) -> Status
     ensures no_others { (result ≢ Status.Usage) × (result ≢ Status.Split) }
-    ensures reported { result ≡ Status.Ok → IsReported Mode.Replay (S.left source.old) (S.left source.new) (K.written sink.old) (K.written sink.new) }
+    ensures reported { result ≡ Status.Ok → IsReported Mode.Replay (S.left source.old) (S.left source.new) (K.written sink.old)
+        (K.written sink.new) }
     ensures refused { result ≡ Status.BadScript → IsRefused (S.left source.old) (K.written sink.old) (K.written sink.new) Status.BadScript }
     ensures too_large { result ≡ Status.TooLarge → IsRefused (S.left source.old) (K.written sink.old) (K.written sink.new) Status.TooLarge }
     ensures read_fault { result ≡ Status.ReadFault
         → IsReadFault (Rose (S.faults source.old) (S.faults source.new)) (K.written sink.old) (K.written sink.new) }
     ensures write_fault { result ≡ Status.WriteFault → Rose (K.faults sink.old) (K.faults sink.new)
-        × IsCut Mode.Replay (Rose (S.faults source.old) (S.faults source.new)) (S.left source.old) (K.written sink.old) (K.written sink.new) }
+        × IsCut Mode.Replay (Rose (S.faults source.old) (S.faults source.new)) (S.left source.old) (K.written sink.old)
+        (K.written sink.new) }
     ensures no_memory { result ≡ Status.NoMemory → IsStarved Mode.Replay (S.left source.old) (K.written sink.old) (K.written sink.new) }
     ensures taken { IsReadWithin 67108864 (S.left source.old) (S.left source.new) (S.calls source.old) (S.calls source.new) }
     ensures source_kept { result ≢ Status.ReadFault → result ≢ Status.WriteFault → S.faults source.new ≡ S.faults source.old }
@@ -88,7 +90,8 @@ pub fn run_race<R: Threads + Wait + Sync, S: Source, K: Sink, G: Gate + Sync>(
     ensures write_fault { result ≡ Status.WriteFault → Rose (K.faults sink.old) (K.faults sink.new)
         × IsCut (Mode.Race workers) (Rose (S.faults source.old) (S.faults source.new)) (S.left source.old) (K.written sink.old)
         (K.written sink.new) }
-    ensures no_memory { result ≡ Status.NoMemory → IsStarved (Mode.Race workers) (S.left source.old) (K.written sink.old) (K.written sink.new) }
+    ensures no_memory { result ≡ Status.NoMemory → IsStarved (Mode.Race workers) (S.left source.old) (K.written sink.old)
+        (K.written sink.new) }
     ensures taken { IsReadWithin 67108864 (S.left source.old) (S.left source.new) (S.calls source.old) (S.calls source.new) }
     ensures source_kept { result ≢ Status.ReadFault → result ≢ Status.WriteFault → S.faults source.new ≡ S.faults source.old }
     ensures sink_kept { result ≢ Status.WriteFault → K.faults sink.new ≡ K.faults sink.old }

@@ -10,8 +10,8 @@ use Rattle.players.specs.declared.racer.Racer.{Racer}
 use Rattle.tect_race.specs.declared.workers.Worker.{Worker}
 use Rattle.tect_race.specs.Lines.{Ran}
 use Rattle.tect_race.specs.Workers.{WorkerRan, WorkerEnds, WorkersRan, RacersRan}
-use Rattle.tect_race.specs.Ready.{IsWorker, AreRacers, AreWorkers, AreAssigned}
-use Rattle.tect_race.proofs.Slots.{also_at, same_at, some_at, stands, place_worker, place_slot}
+use Rattle.tect_race.specs.Ready.{IsWorker, AreRacers, AreWorkers, AreAssigned, CanBeCollected}
+use Rattle.tect_race.proofs.Shares.{also_at, same_at, share_within, some_at, stands}
 
 -- ---- lists place by place
 
@@ -50,129 +50,63 @@ all_at P xs n x all e = subst P (get_or_from_slice_get xs n x x e) (all n x (sli
 pub all_from : {A : Type 0} → (P : A → Type 0) (xs : List A) → ((n : ℕ) (x : A) → slice_get xs n ≡ Some x → P x) → All P xs
 all_from P xs h = λ n d l. h n (get_or xs n d) (slice_get-get_or xs n d l)
 
-tabulated : {A : Type 0} → (a : A) (xs : List A) (P : ℕ → A → Type 0) → P 0 a → ((i : ℕ) (x : A) → slice_get xs i ≡ Some x → P (suc i) x)
-    → (i : ℕ) (x : A) → slice_get (a ∷ xs) i ≡ Some x → P i x
-tabulated a xs P p h zero x e = subst (P 0) (same_at (a ∷ xs) 0 a x refl e) p
-tabulated a xs P p h (suc i) x e = h i x e
+-- ---- the clients before and after the lines
 
-tabulate : {A : Type 0} → (n : ℕ) (P : ℕ → A → Type 0) → ((i : ℕ) → i < n → (a : A) × P i a) → (xs : List A) × (length xs ≡ n)
-    × ((i : ℕ) (a : A) → slice_get xs i ≡ Some a → P i a)
-tabulate {A} zero P h = ([], refl, λ i a e. (let l = slice_get_within {A = A} [] i a e in absurd (omega arith)))
-tabulate {A} (suc n) P h =
-    let first = h 0 (omega arith) in
-    let rest = tabulate n (λ i. P (suc i)) (λ i l. h (suc i) (omega arith)) in
-    (first.0 ∷ rest.0, ap suc rest.1, tabulated first.0 rest.0 P first.1 rest.2)
+module _ (w : ℕ) (pos : 0 < w) where
+  -- the worker of a client
+  worker_of : (rs : List Racer) (cs : List Worker) → AreAssigned w rs cs → (i : ℕ) (r : Racer) → slice_get rs i ≡ Some r
+      → (c : Worker) × (slice_get cs (i % w) ≡ Some c) × (slice_get c.racers.items (i / w) ≡ Some r)
+  worker_of rs cs a i r e =
+      let c = some_at cs (i % w) (let m = mod-lt i pos in let s = a.count in omega arith) in
+      (c.0, c.1, a.each (i % w) c.0 c.1 (i / w) ∙ ap (slice_get rs) (stands w i) ∙ e)
 
--- ---- the clients after the lines
+  pub racers_ran : (names : List (List ℕ)) (ls : List Line) (rs ts : List Racer) (cs ds : List Worker) → AreAssigned w rs cs
+      → AreAssigned w ts ds → length ts ≡ length rs → WorkersRan names ls cs ds → RacersRan names ls rs ts
+  racers_ran names ls rs ts cs ds a b same ran = zip_from (Ran names ls) rs ts same (λ i r t e f.
+      let c = worker_of rs cs a i r e in
+      let d = worker_of ts ds b i t f in
+      (zip_at (WorkerRan names ls) cs ds (i % w) c.0 d.0 ran c.1 d.1).each (i / w) r t c.2 d.2)
 
-module _ (w : ℕ) (pos : 0 < w) (names : List (List ℕ)) (ls : List Line) (rs : List Racer) (cs ds : List Worker)
-    (assigned : AreAssigned w rs cs) (ran : WorkersRan names ls cs ds) where
-  -- it stands there
-  record IsAt (i : ℕ) (t : Racer) : Type 0 where
-    worker : Worker
-    there : slice_get ds (i % w) ≡ Some worker
-    slot : slice_get worker.racers.items (i / w) ≡ Some t
+  module _ (counts : Counts) (clients : ℕ) (ls : List Line) where
+    pub workers_ready : (rs : List Racer) (cs : List Worker) → length rs ≡ clients → AreRacers counts ls rs → AreAssigned w rs cs
+        → AreWorkers counts clients w ls cs
+    workers_ready rs cs all racers a = record {
+      count = a.count;
+      numbers = a.numbers;
+      workers = all_from (IsWorker counts clients w ls) cs (λ k c e.
+          let number = a.numbers k c e in
+          record {
+            number = (let l = slice_get_within cs k c e in let s = a.count in omega arith);
+            filled = λ slot. subst (λ n. (slot < length c.racers.items) ↔ (slot * w + c.number < n)) all
+                (subst (λ j. (slot < length c.racers.items) ↔ (slot * w + j < length rs)) (sym number)
+                (share_within w pos rs k c.racers.items (a.each k c e) slot));
+            own = λ slot r f. racers.own (slot * w + k) r (sym (a.each k c e slot) ∙ f) ∙ ap (λ j. slot * w + j + 1) (sym number);
+            ready = λ slot r f. racers.ready (slot * w + k) r (sym (a.each k c e slot) ∙ f);
+          });
+    }
 
-  workers_are : length ds ≡ w
-  workers_are = zip_length (WorkerRan names ls) cs ds ran ∙ assigned.count
+    worker_at : (ds : List Worker) → AreWorkers counts clients w ls ds → (k : ℕ) (d : Worker) → slice_get ds k ≡ Some d
+        → IsWorker counts clients w ls d
+    worker_at ds workers k d e = all_at (IsWorker counts clients w ls) ds k d workers.workers e
 
-  find : (i : ℕ) → i < length rs → (t : Racer) × IsAt i t
-  find i l =
-      let low : i % w < w = mod-lt i pos in
-      let c = some_at cs (i % w) (let e = assigned.count in omega arith) in
-      let d = also_at cs ds (i % w) c.0 c.1 (zip_length (WorkerRan names ls) cs ds ran) in
-      let same = (zip_at (WorkerRan names ls) cs ds (i % w) c.0 d.0 ran c.1 d.1).count in
-      let there = (assigned.filled (i % w) c.0 c.1 (i / w)).1 (let s = stands w i in omega arith) in
-      let t = some_at (d.0).racers.items (i / w) (omega arith) in
-      (t.0, record { worker = d.0; there = d.1; slot = t.1 })
+    pub racers_ready : (ts : List Racer) (ds : List Worker) → AreAssigned w ts ds → AreWorkers counts clients w ls ds
+        → AreRacers counts ls ts
+    racers_ready ts ds a workers = record {
+      own = λ i t f.
+          let d = worker_of ts ds a i t f in
+          (worker_at ds workers (i % w) d.0 d.1).own (i / w) t d.2
+          ∙ ap (λ k. i / w * w + k + 1) (workers.numbers (i % w) d.0 d.1) ∙ ap (λ k. k + 1) (stands w i);
+      ready = λ i t f. let d = worker_of ts ds a i t f in (worker_at ds workers (i % w) d.0 d.1).ready (i / w) t d.2;
+    }
 
-  abbrev found : (ts : List Racer) × (length ts ≡ length rs) × ((i : ℕ) (t : Racer) → slice_get ts i ≡ Some t → IsAt i t)
-  found = tabulate (length rs) IsAt find
-
-  pub after : List Racer
-  after = found.0
-
-  pub after_length : length after ≡ length rs
-  unfolding after
-  after_length = found.1
-
-  after_at : (i : ℕ) (t : Racer) → slice_get after i ≡ Some t → IsAt i t
-  unfolding after
-  after_at = found.2
-
-  after_each : (k : ℕ) (d : Worker) → slice_get ds k ≡ Some d → (slot : ℕ) (t : Racer) → slice_get d.racers.items slot ≡ Some t
-      → slice_get after (slot * w + k) ≡ Some t
-  after_each k d e slot t f =
-      let low : k < w = (let l = slice_get_within ds k d e in let s = workers_are in omega arith) in
-      let c = also_at ds cs k d e (sym (zip_length (WorkerRan names ls) cs ds ran)) in
-      let same = (zip_at (WorkerRan names ls) cs ds k c.0 d ran c.1 e).count in
-      let within = (assigned.filled k c.0 c.1 slot).0 (let l = slice_get_within d.racers.items slot t f in omega arith) in
-      let u = some_at after (slot * w + k) (let l = after_length in omega arith) in
-      let at = after_at (slot * w + k) u.0 u.1 in
-      let there : slice_get ds k ≡ Some at.worker = subst (λ i. slice_get ds i ≡ Some at.worker) (place_worker w k slot low) at.there in
-      let is : at.worker ≡ d = same_at ds k at.worker d there e in
-      let place : slice_get (at.worker).racers.items slot ≡ Some u.0 = subst (λ i. slice_get (at.worker).racers.items i ≡ Some u.0)
-      (place_slot w k slot low) at.slot in
-      let own : u.0 ≡ t = same_at d.racers.items slot u.0 t (subst (λ (x : Worker). slice_get x.racers.items slot ≡ Some u.0) is place) f in
-      u.1 ∙ ap Some own
-
-  pub after_assigned : AreAssigned w after ds
-  after_assigned = record {
-    count = workers_are;
-    numbers = λ k d e.
-        let c = also_at ds cs k d e (sym (zip_length (WorkerRan names ls) cs ds ran)) in
-        (zip_at (WorkerRan names ls) cs ds k c.0 d ran c.1 e).number ∙ assigned.numbers k c.0 c.1;
-    filled = λ k d e slot.
-        let c = also_at ds cs k d e (sym (zip_length (WorkerRan names ls) cs ds ran)) in
-        let same = (zip_at (WorkerRan names ls) cs ds k c.0 d ran c.1 e).count in
-        let old = assigned.filled k c.0 c.1 slot in
-        let l = after_length in
-        (λ h. (let o = old.0 (omega arith) in omega arith), λ h. (let o = old.1 (omega arith) in omega arith));
-    each = after_each;
-  }
-
-  ran_at : (i : ℕ) (r t : Racer) → slice_get rs i ≡ Some r → slice_get after i ≡ Some t → Ran names ls r t
-  ran_at i r t e f =
-      let at = after_at i t f in
-      let c = also_at ds cs (i % w) at.worker at.there (sym (zip_length (WorkerRan names ls) cs ds ran)) in
-      let both = zip_at (WorkerRan names ls) cs ds (i % w) c.0 at.worker ran c.1 at.there in
-      let s = also_at (at.worker).racers.items (c.0).racers.items (i / w) t at.slot (sym both.count) in
-      let old : slice_get rs i ≡ Some s.0 = subst (λ k. slice_get rs k ≡ Some s.0) (stands w i)
-      (assigned.each (i % w) c.0 c.1 (i / w) s.0 s.1) in
-      subst (λ (x : Racer). Ran names ls x t) (same_at rs i s.0 r old e) (both.each (i / w) s.0 t s.1 at.slot)
-
-  pub after_ran : RacersRan names ls rs after
-  after_ran = zip_from (Ran names ls) rs after after_length ran_at
-
-  pub after_ready : (counts : Counts) (clients : ℕ) (later : List Line) → AreWorkers counts clients w later ds
-      → AreRacers counts later after
-  after_ready counts clients later workers = record {
-    own = λ i t f.
-        let at = after_at i t f in
-        let worker = all_at (IsWorker counts clients w later) ds (i % w) at.worker workers.workers at.there in
-        let number = workers.numbers (i % w) at.worker at.there in
-        worker.own (i / w) t at.slot ∙ ap (λ k. i / w * w + k + 1) number ∙ ap (λ k. k + 1) (stands w i);
-    ready = λ i t f.
-        let at = after_at i t f in
-        (all_at (IsWorker counts clients w later) ds (i % w) at.worker workers.workers at.there).ready (i / w) t at.slot;
-  }
-
--- ---- the workers before the lines
-
-pub workers_assigned : (counts : Counts) (w : ℕ) (ls : List Line) (rs : List Racer) (cs : List Worker) → AreRacers counts ls rs
-    → AreAssigned w rs cs → AreWorkers counts (length rs) w ls cs
-workers_assigned counts w ls rs cs racers assigned = record {
-  count = assigned.count;
-  numbers = assigned.numbers;
-  workers = all_from (IsWorker counts (length rs) w ls) cs (λ k c e.
-      let number = assigned.numbers k c e in
-      record {
-        number = (let l = slice_get_within cs k c e in let s = assigned.count in omega arith);
-        filled = λ slot. subst (λ j. (slot < length c.racers.items) ↔ (slot * w + j < length rs)) (sym number) (assigned.filled k c e slot);
-        own = λ slot r f. racers.own (slot * w + k) r (assigned.each k c e slot r f) ∙ ap (λ j. slot * w + j + 1) (sym number);
-        ready = λ slot r f. racers.ready (slot * w + k) r (assigned.each k c e slot r f);
-      });
-}
+    pub can_collect : (ds : List Worker) → AreWorkers counts clients w ls ds → CanBeCollected clients ds
+    can_collect ds workers = record {
+      numbers = workers.numbers;
+      filled = λ k d e slot.
+          subst (λ n. (slot < length d.racers.items) ↔ (slot * n + k < clients)) (sym workers.count)
+          (subst (λ j. (slot < length d.racers.items) ↔ (slot * w + j < clients)) (workers.numbers k d e)
+          ((worker_at ds workers k d e).filled slot));
+    }
 
 -- ---- what the workers came to
 

@@ -2,7 +2,7 @@
 use Rattle.std.proofs.Common.{◌≡◌, ℕ, suc, ◌+◌, ◌≤◌, max, None, List, [], ◌∷◌, ◌++◌, length, length-append, map, filter, refl, sym, ap}
 use Rattle.std.proofs.Common.{subst, ◌∙◌, arith}
 use Rattle.std.specs.List.{AllByRecursion, flat_map}
-use Rattle.std.proofs.lemmas.List.Elements.{All-nil}
+use Rattle.std.proofs.lemmas.List.Elements.{All-nil, filter-append}
 use Rattle.tect_ids.specs.declared.ids.Counts.{Counts}
 use Rattle.tect_ids.specs.declared.script.Line.{Line}
 use Rattle.tect_ids.specs.declared.script.Line.TheVariants as lines
@@ -19,7 +19,7 @@ use Rattle.players.specs.Lives.{busy_in}
 use Rattle.race_ends.specs.declared.ended.EndedPart.{EndedPart}
 use Rattle.tect_race.specs.Workers.{Closed, AllClosed, RacersRan}
 use Rattle.tect_race.specs.Standing.{Stands, AllStand, last_clock, first_answers, later_parts, HaveEnded}
-use Rattle.tect_race.proofs.Events.{filter-append, does_lines-append}
+use Rattle.noted_runs.proofs.Following.{does_lines-append}
 use Rattle.tect_race.proofs.Stories.{silent_dumped, grown_story, stands_grown, same_ended, weaker}
 
 same_last : (low : ℕ) (clocks : List ℕ) → growing.last_clock low clocks ≡ last_clock low clocks

@@ -9,7 +9,7 @@ use Rattle.tect_ids.specs.declared.ids.Counts.{Counts}
 use Rattle.clients.specs.Lives.{idle_life}
 use Rattle.players.specs.declared.racer.Racer.{Racer}
 use Rattle.tect_race.specs.Done.{AreNew}
-use Rattle.tect_race.proofs.Slots.{at_end, at_front, same_at}
+use Rattle.tect_race.proofs.Shares.{at_end, not_end, same_at}
 
 pub flat_map-snoc : {A B : Type 0} → (f : A → List B) (xs : List A) (x : A) → flat_map f (xs ++ x ∷ []) ≡ flat_map f xs ++ f x
 flat_map-snoc f [] x = append-nil (f x)
@@ -83,13 +83,13 @@ pub new_on : (counts : Counts) (n : ℕ) (rs ts : List Racer) (r : Racer) → Ar
 new_on counts n rs ts r new e life none = subst (AreNew counts (n + 1)) (sym e) (record {
   count = length-append rs (r ∷ []) ∙ ap (λ k. k + 1) new.count;
   lives = λ i t f. elim (cases_lt i (length rs)) [
-    | inl l ↦ new.lives i t (sym (at_front rs r i l) ∙ f)
+    | inl l ↦ new.lives i t (sym (not_end rs r i (λ e. omega (arith, e, l))) ∙ f)
     | inr g ↦ (let p = last_place rs r i t f g
         in subst (λ (x : Racer). x.client ≡ idle_life (i + 1) counts) (sym p.1)
         (life ∙ ap (λ k. idle_life (k + 1) counts) (sym (p.0 ∙ new.count))))
   ];
   answers = λ i t f. elim (cases_lt i (length rs)) [
-    | inl l ↦ new.answers i t (sym (at_front rs r i l) ∙ f)
+    | inl l ↦ new.answers i t (sym (not_end rs r i (λ e. omega (arith, e, l))) ∙ f)
     | inr g ↦ ap (λ (x : Racer). x.answers.items) (last_place rs r i t f g).1 ∙ none
   ];
 })

@@ -1,5 +1,4 @@
-pub mod Events
-pub mod Slots
+pub mod Shares
 pub mod RacerLines
 pub mod WorkerLines
 pub mod Losses

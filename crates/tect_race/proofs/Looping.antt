@@ -31,7 +31,7 @@ use Rattle.tect_race.specs.Standing.{Stands, AllStand, HaveEnded, last_clock, fi
 use Rattle.tect_race.proofs.Dumps.{all_grown, all_dumped, all_told, all_parts, ended_on, last_is}
 use Rattle.tect_race.proofs.Collecting.{zip_length, zip_at}
 use Rattle.tect_race.proofs.Finished.{finished}
-use Rattle.tect_race.proofs.Slots.{also_at}
+use Rattle.tect_race.proofs.Shares.{also_at}
 
 -- ---- before the first line
 

@@ -2,54 +2,42 @@
 use Rattle.std.proofs.Common.{◌≡◌, ◌≢◌, ℕ, ◌≤◌, Bool, true, false, nat_lt, nat_le, eqb, if◌then◌else◌, List, [], ◌∷◌, ◌++◌, filter, refl}
 use Rattle.std.proofs.Common.{sym, ap, subst, ◌∙◌, append_assoc, arith, ◌⊎◌, inl, inr}
 use Rattle.std.proofs.lemmas.List.{append-nil}
-use Rattle.std.proofs.lemmas.Grind.{common_steps}
+use Rattle.std.proofs.lemmas.List.Elements.{filter-append}
 use Rattle.tect_ids.specs.declared.ids.Counts.{Counts}
 use Rattle.tect_ids.specs.declared.script.Act.{Act}
 use Rattle.tect_ids.specs.declared.script.Line.{Line}
 use Rattle.tect_ids.specs.declared.script.Line.TheVariants as lines
 use Rattle.tect_ids.specs.declared.script.ReportLine.{ReportLine}
 use Rattle.entry_words.specs.declared.entry.Moment.{Moment}
-use Rattle.entry_words.specs.Moments.{rises, stamp_of}
 use Rattle.world_runs.specs.declared.event.Event.{Event}
 use Rattle.world_runs.specs.Races.{line_concerns, own_lines}
 use Rattle.world_runs.specs.Follows.{DoesLine}
 use Rattle.world_runs.specs.ClientStates.{ClientState, ClientStates, state_left_at, with_state}
 use Rattle.world_runs.specs.Standing.{IsInState}
 use Rattle.world_runs.specs.ClientLines.{DoesLines}
+use Rattle.noted_runs.proofs.Following.{does_lines-append}
+use Rattle.world_runs.proofs.OwnLines.{own_lines-append}
 use Rattle.world_runs.proofs.Actors.{same_number, other_number, flipped}
 use Rattle.clients.specs.Lives.{ClientLife, events_in, state_in}
 use Rattle.players.specs.declared.racer.Racer.{Racer}
 use Rattle.players.specs.Lives.{busy_in, grown, news_events}
 use Rattle.players.specs.Lines.{Adds, Plays}
+use Rattle.players.specs.Steps.{Grows}
+use Rattle.players.proofs.Growths.{added_events, grows_actor, grows_both, grows_counts, grows_events, grows_none}
 use Rattle.tect_race.specs.Lines.{Ran, PlaysOrRests}
 use Rattle.tect_race.specs.Ready.{IsReady}
-use Rattle.tect_race.proofs.Events.{filter-append, does_lines-append, own_lines-append, both_news, none_before}
-
--- ---- stamps
-
-pub rises_lower : (low mid high : ℕ) (ms : List Moment) → low ≤ mid → rises mid high ms ≡ true → rises low high ms ≡ true
-rises_lower low mid high [] le r = grind (arith, common_steps, le, r)
-rises_lower low mid high (m ∷ ms) le r =
-    let here : nat_lt low (stamp_of m) ≡ true = grind (arith, common_steps, le, r) in
-    let more : rises (stamp_of m) high ms ≡ true = grind (arith, common_steps, r) in
-    rw (here) more
-
-pub rises-append : (low mid high : ℕ) (ms ns : List Moment) → rises low mid ms ≡ true → rises mid high ns ≡ true
-    → rises low high (ms ++ ns) ≡ true
-rises-append low mid high [] ns r s = rises_lower low mid high ns (grind (arith, common_steps, r)) s
-rises-append low mid high (m ∷ ms) ns r s =
-    let here : nat_lt low (stamp_of m) ≡ true = grind (arith, common_steps, r) in
-    let more : rises (stamp_of m) mid ms ≡ true = grind (arith, common_steps, r) in
-    rw (here) (rises-append (stamp_of m) mid high ms ns more s)
 
 -- ---- growths
 
 module _ (names : List (List ℕ)) (a b : Racer) (n : List Moment) (m : List Event) (first : Adds names a b n m) where
+  pub grows : Grows a.client b.client n m
+  grows = record { life = first.life; late = first.late; stamps = first.stamps }
+
   pub adds_actor : b.client.actor ≡ a.client.actor
-  adds_actor = ap (λ (w : ClientLife). w.actor) first.life
+  adds_actor = grows_actor a.client b.client n m grows
 
   pub adds_counts : b.client.counts ≡ a.client.counts
-  adds_counts = ap (λ (w : ClientLife). w.counts) first.life
+  adds_counts = grows_counts a.client b.client n m grows
 
   pub adds_moments : b.client.moments ≡ a.client.moments ++ n
   adds_moments = ap (λ (w : ClientLife). w.moments) first.life
@@ -58,33 +46,21 @@ module _ (names : List (List ℕ)) (a b : Racer) (n : List Moment) (m : List Eve
   adds_silent = ap (λ (w : ClientLife). w.silent) first.life
 
   pub adds_events : events_in b.client ≡ events_in a.client ++ news_events n m
-  adds_events = ap events_in first.life ∙ both_news a.client.moments n a.client.silent m first.late
+  adds_events = grows_events a.client b.client n m grows
 
 module _ (names : List (List ℕ)) (a b c : Racer) (n p : List Moment) (m q : List Event) (first : Adds names a b n m)
     (second : Adds names b c p q) where
-  late_now : (p ≡ []) ⊎ (b.client.silent ≡ []) → (p ≡ []) ⊎ (m ≡ [])
-  late_now (inl e) = inl e
-  late_now (inr e) = inr (none_before b.client.silent a.client.silent m (adds_silent names a b n m first) e).1
+  both : Grows a.client c.client (n ++ p) (m ++ q)
+  both = grows_both a.client b.client c.client n p m q (grows names a b n m first) (grows names b c p q second)
 
-  pub added_events : news_events (n ++ p) (m ++ q) ≡ news_events n m ++ news_events p q
-  added_events = both_news n p m q (late_now second.late)
-
-  late_both : (n ≡ []) ⊎ (a.client.silent ≡ []) → (p ≡ []) ⊎ (b.client.silent ≡ []) → (n ++ p ≡ []) ⊎ (a.client.silent ≡ [])
-  late_both (inr e) f = inr e
-  late_both (inl e) (inl f) = inl (rw (e, f) refl)
-  late_both (inl e) (inr f) = inr (none_before b.client.silent a.client.silent m (adds_silent names a b n m first) f).0
-
-  life_both : c.client ≡ grown a.client c.client.clock (n ++ p) (m ++ q)
-  life_both =
-      second.life ∙ ap (λ (w : ClientLife). grown w c.client.clock p q) first.life
-      ∙ (λ i. record a.client
-      { clock = c.client.clock; moments = append_assoc a.client.moments n p i; silent = append_assoc a.client.silent m q i })
+  pub all_events : news_events (n ++ p) (m ++ q) ≡ news_events n m ++ news_events p q
+  all_events = added_events a.client b.client c.client n p m q (grows names a b n m first) (grows names b c p q second)
 
   abbrev shown : List Event → List Event → List ReportLine
   shown before es = own_lines a.client.counts names a.client.actor before es
 
-  second_shows : own_lines b.client.counts names b.client.actor (events_in b.client) (news_events p q) ≡ shown
-      (events_in a.client ++ news_events n m) (news_events p q)
+  second_shows : own_lines b.client.counts names b.client.actor (events_in b.client) (news_events p q)
+      ≡ shown (events_in a.client ++ news_events n m) (news_events p q)
   second_shows =
       ap (λ (k : Counts). own_lines k names b.client.actor (events_in b.client) (news_events p q)) (adds_counts names a b n m first)
       ∙ ap (λ (k : ℕ). own_lines a.client.counts names k (events_in b.client) (news_events p q)) (adds_actor names a b n m first)
@@ -99,15 +75,10 @@ module _ (names : List (List ℕ)) (a b c : Racer) (n p : List Moment) (m q : Li
       ∙ ap (λ (l : List ReportLine). a.answers.items ++ (shown (events_in a.client) (news_events n m) ++ l)) second_shows
       ∙ ap (λ (l : List ReportLine). a.answers.items ++ l)
       (sym (own_lines-append a.client.counts names a.client.actor (events_in a.client) (news_events n m) (news_events p q)))
-      ∙ ap (λ (es : List Event). a.answers.items ++ shown (events_in a.client) es) (sym added_events)
+      ∙ ap (λ (es : List Event). a.answers.items ++ shown (events_in a.client) es) (sym all_events)
 
   pub adds_both : Adds names a c (n ++ p) (m ++ q)
-  adds_both = record {
-    life = life_both;
-    late = late_both first.late second.late;
-    stamps = rises-append a.client.clock b.client.clock c.client.clock n p first.stamps second.stamps;
-    answers = answers_both;
-  }
+  adds_both = record { life = both.life; late = both.late; stamps = both.stamps; answers = answers_both }
 
 -- ---- one more line
 
@@ -116,10 +87,9 @@ ran_none names r = record {
   news = [];
   more = [];
   adds = record {
-    life = λ i. record r.client
-        { clock = r.client.clock; moments = sym (append-nil r.client.moments) i; silent = sym (append-nil r.client.silent) i };
-    late = inl refl;
-    stamps = (let h : nat_le r.client.clock r.client.clock ≡ true = grind (arith, common_steps) in h);
+    life = (grows_none r.client).life;
+    late = (grows_none r.client).late;
+    stamps = (grows_none r.client).stamps;
     answers = sym (append-nil r.answers.items);
   };
   does = (refl, refl);
@@ -170,7 +140,7 @@ plays_on names ls client actor act r s t ran is plays =
     let all = does_lines-append r.client.actor (busy_in r.client) (busy_in s.client) (busy_in t.client)
     (filter (line_concerns r.client.actor) ls) (lines.Client client actor act ∷ [])
     (news_events ran.news ran.more) (news_events plays.news plays.more) ran.does line in
-    let f = added_events names r s t ran.news plays.news ran.more plays.more ran.adds plays.adds in
+    let f = all_events names r s t ran.news plays.news ran.more plays.more ran.adds plays.adds in
     record {
       news = ran.news ++ plays.news;
       more = ran.more ++ plays.more;

@@ -4,7 +4,7 @@ use Rattle.std.proofs.Common.{append_assoc}
 use Rattle.std.specs.List.{All, AllByRecursion}
 use Rattle.std.proofs.lemmas.Grind.{common_steps}
 use Rattle.std.proofs.lemmas.List.{append-nil}
-use Rattle.std.proofs.lemmas.List.Elements.{All-append, All-from_recursion}
+use Rattle.std.proofs.lemmas.List.Elements.{All-append, All-from_recursion, filter-append}
 use Rattle.tect_ids.specs.declared.ids.Counts.{Counts}
 use Rattle.tect_ids.specs.declared.script.Line.{Line}
 use Rattle.tect_ids.specs.declared.script.ReportLine.{ReportLine}
@@ -21,7 +21,9 @@ use Rattle.players.specs.declared.racer.Racer.{Racer}
 use Rattle.players.specs.Lives.{busy_in, news_events}
 use Rattle.tect_race.specs.Lines.{Ran}
 use Rattle.tect_race.specs.Standing.{Stands, all_silent, last_clock}
-use Rattle.tect_race.proofs.Events.{filter-append, does_lines-append, own_lines-append, both_news, none_before}
+use Rattle.noted_runs.proofs.Following.{does_lines-append}
+use Rattle.players.proofs.Growths.{both_news}
+use Rattle.world_runs.proofs.OwnLines.{own_lines-append}
 use Rattle.tect_race.proofs.RacerLines.{adds_actor, adds_counts, adds_moments, adds_silent, adds_events}
 
 -- ---- one list for all parts
@@ -31,9 +33,13 @@ silent_with : (ps : List Part) (p : Part) (more : List Event) (q : Part) → q.s
 silent_with [] p more q e = e
 silent_with (x ∷ xs) p more q e = ap (λ l. x.silent ++ l) (silent_with xs p more q e) ∙ sym (append_assoc x.silent (all_silent xs p) more)
 
+none_behind : {X : Type 0} (xs ys : List X) → xs ++ ys ≡ [] → ys ≡ []
+none_behind [] ys e = e
+none_behind (x ∷ xs) ys e = absurd cc
+
 silent_last : (ps : List Part) (p : Part) → all_silent ps p ≡ [] → p.silent ≡ []
 silent_last [] p e = e
-silent_last (x ∷ xs) p e = silent_last xs p (none_before (all_silent (x ∷ xs) p) x.silent (all_silent xs p) refl e).1
+silent_last (x ∷ xs) p e = silent_last xs p (none_behind x.silent (all_silent xs p) e)
 
 pub silent_dumped : (ps : List Part) (p : Part) → all_silent (ps ++ p ∷ []) no_part ≡ all_silent ps p
 silent_dumped [] p = append-nil p.silent

@@ -16,7 +16,7 @@ use Rattle.tect_race.specs.Lines.{Ran, PlaysOrRests}
 use Rattle.tect_race.specs.Workers.{WorkerPlays, WorkerRan}
 use Rattle.tect_race.specs.Ready.{IsReady, IsWorker, IsOfClient}
 use Rattle.tect_race.proofs.RacerLines.{adds_actor, ran_none, ran_on, ready_on}
-use Rattle.tect_race.proofs.Slots.{also_at, same_at, set_here, set_there, stands, place_worker, place_slot, decide}
+use Rattle.tect_race.proofs.Shares.{also_at, same_at, set_cases, stands, place_share, place_slot}
 
 pub worker_ran_none : (names : List (List ℕ)) (c : Worker) → WorkerRan names [] c c
 worker_ran_none names c = record {
@@ -69,7 +69,7 @@ module _ (counts : Counts) (names : List (List ℕ)) (clients worker_count : ℕ
   not_own ne slot r e same =
       let own = is.own slot r e in
       let x : actor - 1 ≡ slot * worker_count + c.number = omega arith in
-      ne (ap (λ k. k % worker_count) x ∙ place_worker worker_count c.number slot is.number)
+      ne (ap (λ k. k % worker_count) x ∙ place_share worker_count c.number slot is.number)
 
   pub worker_rests : (actor - 1) % worker_count ≢ c.number → WorkerPlays names (lines.Client client actor act) c c
   worker_rests ne = record {
@@ -99,32 +99,22 @@ module _ (counts : Counts) (names : List (List ℕ)) (clients worker_count : ℕ
         let x : actor - 1 ≡ slot * worker_count + c.number = omega arith in
         ne (sym (ap (λ k. k / worker_count) x ∙ place_slot worker_count c.number slot is.number))
 
-    own_or_other : (r t : Racer) (d : Worker) → slice_get c.racers.items at ≡ Some r → d.racers.items ≡ set c.racers.items at t
-        → Plays names act r t
-        → (slot : ℕ) (x y : Racer) → (slot ≡ at) ⊎ (slot ≢ at) → slice_get c.racers.items slot ≡ Some x
-        → slice_get d.racers.items slot ≡ Some y
-        → PlaysOrRests names (lines.Client client actor act) x y
-    own_or_other r t d e items plays slot x y (inl here) f g =
-        let xr : x ≡ r = same_at c.racers.items at x r (subst (λ k. slice_get c.racers.items k ≡ Some x) here f) e in
-        let yt : y ≡ t = same_at d.racers.items at y t (subst (λ k. slice_get d.racers.items k ≡ Some y) here g)
-        (subst (λ (l : List Racer). slice_get l at ≡ Some t) (sym items) (set_here c.racers.items at t own_slot)) in
-        inr (
-          sym (own_actor r e) ∙ ap (λ (w : Racer). w.client.actor) (sym xr),
-          subst (λ (w : Racer). Plays names act w y) (sym xr)
-              (subst (λ (w : Racer). Plays names act r w) (sym yt) plays),
-        )
-    own_or_other r t d e items plays slot x y (inr there) f g =
-        let same : slice_get d.racers.items slot ≡ slice_get c.racers.items slot =
-        ap (λ (l : List Racer). slice_get l slot) items ∙ set_there c.racers.items at slot t there in
-        inl (other slot there x f, same_at c.racers.items slot y x (sym same ∙ g) f)
-
     pub worker_plays : (r t : Racer) (d : Worker) → slice_get c.racers.items at ≡ Some r → d.number ≡ c.number
         → d.racers.items ≡ set c.racers.items at t → Plays names act r t
         → WorkerPlays names (lines.Client client actor act) c d
     worker_plays r t d e number items plays = record {
       number = number;
       count = ap (λ (l : List Racer). length l) items ∙ length-set c.racers.items at t;
-      each = λ slot x y f g. own_or_other r t d e items plays slot x y (decide slot at) f g;
+      each = λ slot x y f g. elim
+          (set_cases c.racers.items at t slot y own_slot (ap (λ (l : List Racer). slice_get l slot) (sym items) ∙ g)) [
+            | inl h ↦ (
+                let xr : x ≡ r = same_at c.racers.items at x r (subst (λ k. slice_get c.racers.items k ≡ Some x) h.0 f) e in
+                inr (
+                  sym (own_actor r e) ∙ ap (λ (w : Racer). w.client.actor) (sym xr),
+                  subst (λ (w : Racer). Plays names act w y) (sym xr) (subst (λ (w : Racer). Plays names act r w) (sym h.1) plays),
+                ))
+            | inr h ↦ inl (other slot h.0 x f, same_at c.racers.items slot y x h.1 f)
+          ];
     }
 
 -- ---- the line as the code has it

@@ -46,10 +46,14 @@ pub record AreWorkers (counts : Counts) (clients worker_count : ℕ) (ls : List 
 pub record AreAssigned (worker_count : ℕ) (rs : List Racer) (cs : List Worker) : Type 0 where
   pub count : length cs ≡ worker_count
   pub numbers : (k : ℕ) (c : Worker) → slice_get cs k ≡ Some c → c.number ≡ k
+  pub each : (k : ℕ) (c : Worker) → slice_get cs k ≡ Some c → (slot : ℕ)
+      → slice_get c.racers.items slot ≡ slice_get rs (slot * worker_count + k)
+
+-- so many clients are the workers', each where it stands
+pub record CanBeCollected (clients : ℕ) (cs : List Worker) : Type 0 where
+  pub numbers : (k : ℕ) (c : Worker) → slice_get cs k ≡ Some c → c.number ≡ k
   pub filled : (k : ℕ) (c : Worker) → slice_get cs k ≡ Some c → (slot : ℕ)
-      → (slot < length c.racers.items) ↔ (slot * worker_count + k < length rs)
-  pub each : (k : ℕ) (c : Worker) → slice_get cs k ≡ Some c → (slot : ℕ) (r : Racer) → slice_get c.racers.items slot ≡ Some r
-      → slice_get rs (slot * worker_count + k) ≡ Some r
+      → (slot < length c.racers.items) ↔ (slot * length cs + k < clients)
 
 -- Of all clients those before have still to be taken from the workers, and those behind were, the last one first.
 pub record AreCollected (worker_count : ℕ) (left : ℕ) (all : List Racer) (cs : List Worker) (rs : List Racer) : Type 0 where

@@ -61,7 +61,7 @@ fn end_at_dump<R: Threads + Wait + Sync, G: Gate + Sync>(
     dump: usize,
 ) -> Result<Progress, RaceFault>
     requires places { HasPlaces shared.now.places.now }
-    requires worker_count { 0 < shared.now.worker_count }
+    requires workers { 0 < shared.now.worker_count }
     requires dump { slice_get shared.now.lines.now dump ≡ Some Line.Dump }
     requires come { HasCome shared.now.places.now shared.now.clients.now shared.now.lines.now dump progress }
     ensures dumped { IfOk result (HasCome shared.now.places.now shared.now.clients.now shared.now.lines.now (dump + 1)) }
@@ -106,7 +106,7 @@ fn end_script<R: Threads + Wait + Sync, G: Gate + Sync>(
     progress: Progress,
 ) -> Result<Run, RaceFault>
     requires places { HasPlaces shared.now.places.now }
-    requires worker_count { 0 < shared.now.worker_count }
+    requires workers { 0 < shared.now.worker_count }
     requires script { IsScript (length shared.now.clients.now) shared.now.lines.now }
     requires come { HasCome shared.now.places.now shared.now.clients.now shared.now.lines.now (length shared.now.lines.now) progress }
     ensures run { IfOk result
@@ -136,7 +136,7 @@ pub fn run_script<R: Threads + Wait + Sync, G: Gate + Sync>(
 ) -> Result<Run, RaceFault>
     requires counts { counts ≡ shared.now.places.now }
     requires places { HasPlaces counts }
-    requires worker_count { 0 < shared.now.worker_count }
+    requires workers { 0 < shared.now.worker_count }
     requires clients { length shared.now.clients.now ≤ 64 }
     requires script { IsScript (length shared.now.clients.now) shared.now.lines.now }
     ensures run { IfOk result

@@ -167,11 +167,12 @@ pub fn run_part<R: Threads + Wait + Sync, G: Gate + Sync>(
 ) -> Result<Vec<Racer>, RaceFault>
     requires places { HasPlaces shared.now.places.now }
     requires part { (start ≤ end) × (end ≤ length shared.now.lines.now) }
-    requires worker_count { 0 < shared.now.worker_count }
+    requires workers { 0 < shared.now.worker_count }
     requires all { length racers.items ≡ length shared.now.clients.now }
     requires clients { All (IsOfClient (length shared.now.clients.now)) (slice_range shared.now.lines.now start end) }
     requires ready { AreRacers shared.now.places.now (drop start shared.now.lines.now) racers.items }
-    ensures ran { IfOk result (λ now. RacersRan shared.now.clients.now (slice_range shared.now.lines.now start end) racers.items now.items) }
+    ensures ran { IfOk result (λ now. RacersRan shared.now.clients.now (slice_range shared.now.lines.now start end) racers.items
+        now.items) }
     ensures ready { IfOk result (λ now. AreRacers shared.now.places.now (drop end shared.now.lines.now) now.items) }
     ensures fault { IfErr result (IsLossOf shared.now.places.now) }
 {

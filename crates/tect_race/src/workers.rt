@@ -1,6 +1,5 @@
 ghost use Rattle.std.specs.Prelude.{◌≡◌, ◌<◌, ◌≤◌, List, [], ◌∷◌, IfOk, IfErr, OnOk, length, drop, slice_range};
-ghost use Rattle.players.specs.declared.racer.Racer.{Racer as OneRacer};
-ghost use Rattle.tect_race.specs.Ready.{AreAssigned, IsWorker, IsOfClient};
+ghost use Rattle.tect_race.specs.Ready.{AreAssigned, CanBeCollected, IsWorker, IsOfClient};
 ghost use Rattle.std.specs.List.{All};
 ghost use Rattle.tect_ids.specs.declared.script.Line.{Line as ScriptLine};
 ghost use Rattle.tect_race.specs.Workers.{WorkerPlays, WorkerCame};
@@ -68,10 +67,9 @@ pub fn assign(alloc: Global, racers: Vec<Racer>, worker_count: u32) -> Result<Ve
 /// Takes the clients of all workers together again, in their order.
 pub fn collect(alloc: Global, workers: Vec<Worker>, clients: usize) -> Result<Vec<Racer>, NoMemory>
     requires some { 0 < length workers.items }
-    requires assigned { (racers : List OneRacer) × (length racers ≡ clients) × AreAssigned (length workers.items) racers workers.items }
-    ensures { IfOk result
-        (λ all. (racers : List OneRacer) → length racers ≡ clients → AreAssigned (length workers.items) racers workers.items
-        → all.items ≡ racers) }
+    requires can { CanBeCollected clients workers.items }
+    ensures all { IfOk result (λ all. length all.items ≡ clients) }
+    ensures assigned { IfOk result (λ all. AreAssigned (length workers.items) all.items workers.items) }
 {
     let mut workers = workers;
     let mut racers = Vec::new(alloc);

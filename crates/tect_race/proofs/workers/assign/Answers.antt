@@ -10,7 +10,8 @@ racers-preserved c =
     let count : c.racers.assigned ≡ length c.racers.yielded = c.racers.invariant.count in
     let old : Worker = c.index_mut.result.now in
     let new : Worker = record { number = c.index_mut.result.now.number; racers = c.push.new.self } in
-    let within = worker_within c.args.worker_count c.requires c.racers.yielded c.racers.workers.items c.racers.invariant.assigned in
+    let within = worker_within c.args.worker_count c.requires c.racers.yielded c.racers.yielded c.racers.workers.items
+    c.racers.invariant.assigned in
     let here : slice_get c.racers.workers.items (length c.racers.yielded % c.args.worker_count) ≡ Some old =
     slice_get_read c.racers.workers.items (length c.racers.workers.items) (length c.racers.yielded % c.args.worker_count) old refl within
     (c.index_mut.ensures.value ∙ ap (λ k. get_or c.racers.workers.items (k % c.args.worker_count) old) count) in
@@ -19,6 +20,6 @@ racers-preserved c =
       assigned = subst
           (λ k. AreAssigned c.args.worker_count (c.racers.yielded ++ c.in-Some.racer ∷ [])
           (set c.racers.workers.items (k % c.args.worker_count) new)) (sym count)
-          (assigned_on c.args.worker_count c.requires c.racers.yielded c.racers.workers.items c.racers.invariant.assigned c.in-Some.racer
-          old new here refl c.in_ok-push.ensures.items);
+          (assigned_on c.args.worker_count c.requires c.racers.yielded c.racers.workers.items c.in-Some.racer old new
+          c.racers.invariant.assigned here refl c.in_ok-push.ensures.items);
     }

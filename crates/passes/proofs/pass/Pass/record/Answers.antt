@@ -12,6 +12,6 @@ invariant_of-self c = record {
       let one = aside-le p.running in
       IsPass-act p.actor p.clock p.steps p.bytes p.running p.moments _ c.args.entry _ p.known
       (ap (λ (m : Logged Moment). m.items) c.push.ensures)
-      c.requires.own.0 c.requires.own.1 c.requires.later (ap (λ n. p.bytes + n) c.reply_bytes-bytes.ensures.bytes)
+      c.requires.own.0 c.requires.own.1 c.requires.later (ap (λ n. p.bytes + n) c.bytes-bytes.ensures.bytes)
       (omega (arith, c.requires.few)) (omega (arith, spare, c.requires.room)) (omega (arith, c.requires.early, one));
 }
