@@ -136,8 +136,8 @@ module _ (m : WorldState) (g : Ghost) (s : AllSound m g) (p : Program) (is : (m.
   acted_sound = record {
     sound = kept.sound;
     root = later.made (Dir root) s.root;
-    actors = λ b. with_cases (λ z. ActorSound v b z) m.actors p.op.actor (went_on m.counts st q x) b (λ e. rw e acts_on)
-        (λ apart. actor_stays p.op.actor b w v later apart (m.actors b) (s.actors b));
+    actors = λ b. changed (λ z. ActorSound v b z) m.actors p.op.actor (went_on m.counts st q x) b (λ e. rw e acts_on)
+        (λ d. actor_stays p.op.actor b w v later (other_number b p.op.actor d) (m.actors b) (s.actors b));
   }
 
 -- a command begins
@@ -197,8 +197,7 @@ module _ (m : WorldState) (g : Ghost) (s : AllSound m g) (op : OpId) (c : Comman
   begins_sound at knows = record {
     sound = s.sound;
     root = s.root;
-    actors = λ b. with_cases (λ z. ActorSound here b z) m.actors op.actor (runs_in at) b (λ e. rw e (begins at knows))
-        (λ apart. s.actors b);
+    actors = λ b. changed (λ z. ActorSound here b z) m.actors op.actor (runs_in at) b (λ e. rw e (begins at knows)) (λ d. s.actors b);
   }
 
   began_sound : AllSound (after m (Began op c)) g
