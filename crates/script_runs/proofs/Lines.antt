@@ -13,7 +13,8 @@ use Rattle.world_runs.specs.Moments.{running, program_of, Actor, WorldState, aft
 use Rattle.world_runs.specs.Follows.{Acts, EndsAfter, IsBeginOf, BeginsAndEnds, DoesLine, with_busy}
 use Rattle.world_runs.specs.ClientStates.{ClientState, TakesAct, state_left_at}
 use Rattle.world_runs.specs.ClientStates as turns
-use Rattle.world_runs.specs.Standing.{op_of, busy_at, IsInState}
+use Rattle.world_runs.specs.Standing.{busy_at, IsInState}
+use Rattle.program_rules.specs.Asking.{running_op}
 use Rattle.script_runs.proofs.Running.{AllWell}
 use Rattle.world_runs.proofs.Actors.{changed}
 use Rattle.script_runs.proofs.Moves.{Moves, Keeps, none_moves, moves_on, acts_move, ends_move, begin_moves, stopped_moves}
@@ -27,7 +28,7 @@ pub record IsBusy (m : WorldState) (a : ℕ) (op : OpId) : Type 0 where
   pub its : program.op ≡ op
   pub own : op.actor ≡ a
 
-program_of_op : (o : Option Program) (op : OpId) → op_of o ≡ Some op → (p : Program) × (o ≡ Some p) × (p.op ≡ op)
+program_of_op : (o : Option Program) (op : OpId) → running_op o ≡ Some op → (p : Program) × (o ≡ Some p) × (p.op ≡ op)
 program_of_op None op e = absurd (let k : None ≡ Some op = e in cc)
 program_of_op (Some p) op e = (p, refl, cc)
 
@@ -48,7 +49,7 @@ pub busy_runs : (m : WorldState) (a : ℕ) (op : OpId) → (b : IsBusy m a op) �
 busy_runs m a op b = runs_as_its_op (m.actors op.actor).running b.program op (rw b.own b.runs) b.its
 
 -- who is not busy runs nothing
-pub idle_is : (o : Option Program) → op_of o ≡ None → o ≡ None
+pub idle_is : (o : Option Program) → running_op o ≡ None → o ≡ None
 idle_is None e = refl
 idle_is (Some p) e = absurd (let k : Some p.op ≡ None = e in cc)
 
@@ -149,7 +150,7 @@ busy_so : (m n : WorldState) (a : ℕ) (act : Act) (next : Option OpId) → IsDo
     → with_busy (busy_at m) a next b ≡ busy_at n b
 busy_so m n a act next d b =
     changed (λ o. o ≡ busy_at n b) (busy_at m) a next b (λ e. rw e (sym d.busy))
-    (λ e. ap (λ (st : Actor). op_of st.running) (sym (d.others b e)))
+    (λ e. ap (λ (st : Actor). running_op st.running) (sym (d.others b e)))
 
 pub busy_after : (m n : WorldState) (a : ℕ) (act : Act) (next : Option OpId) → IsDone m n a act next
     → with_busy (busy_at m) a next ≡ busy_at n

@@ -24,7 +24,8 @@ use Rattle.world_runs.specs.ClientStates.{ClientState, ClientStates, all_idle, w
 use Rattle.world_runs.specs.ClientStates.{FitStatesFrom}
 use Rattle.world_runs.specs.ClientStates as turns
 use Rattle.script_runs.proofs.Histories.{run-append}
-use Rattle.world_runs.specs.Standing.{op_of, busy_at, IsInState}
+use Rattle.world_runs.specs.Standing.{busy_at, IsInState}
+use Rattle.program_rules.specs.Asking.{running_op}
 use Rattle.world_runs.specs.Smooth.{EndsAtOnce}
 use Rattle.script_runs.proofs.Running.{AllWell, opening_well, run_well, all_well}
 use Rattle.script_runs.specs.RunningOut.{RefusesAsFull}
@@ -211,9 +212,9 @@ module _ (full : List Event → ℕ → Bool) where
     line_can : (turn : ClientState) (act : Act) → 1 ≤ a → a ≤ 64 → TakesAct turn act → IsInState turn (m.actors a)
         → (m.actors a).number + 1 < 2 ^ 31 → CanDo before m a (busy_at m a) act
     line_can turns.Idle (acts.Do c) from upto takes stood few =
-        subst (λ (o : Option OpId). CanDo before m a o (acts.Do c)) (sym (ap op_of stood.0)) (do_can before m a c from upto takes stood few)
+        subst (λ (o : Option OpId). CanDo before m a o (acts.Do c)) (sym (ap running_op stood.0)) (do_can before m a c from upto takes stood few)
     line_can turns.Idle (acts.Begin c) from upto takes stood few =
-        subst (λ (o : Option OpId). CanDo before m a o (acts.Begin c)) (sym (ap op_of stood.0))
+        subst (λ (o : Option OpId). CanDo before m a o (acts.Begin c)) (sym (ap running_op stood.0))
         (begin_can before m a c from upto takes stood few)
     line_can turns.Idle (acts.Step n) from upto takes stood few = absurd takes
     line_can turns.Idle acts.Run from upto takes stood few = absurd takes

@@ -19,7 +19,8 @@ use Rattle.world_runs.specs.ClientStates as turns
 use Rattle.script_runs.proofs.Running.{AllWell, all_well, event_well, opening_well, run_well}
 use Rattle.world_runs.proofs.Fronts.{front_runs}
 use Rattle.script_runs.proofs.Histories.{run-front, run-append, none_fails-append, acts_none_fail}
-use Rattle.world_runs.specs.Standing.{op_of, busy_at, IsInState}
+use Rattle.world_runs.specs.Standing.{busy_at, IsInState}
+use Rattle.program_rules.specs.Asking.{running_op}
 use Rattle.world_runs.specs.Smooth.{EndsAtOnce}
 use Rattle.session_runs.specs.RunningOn.{EachScriptCanBeRunOn}
 use Rattle.world_runs.proofs.Actors.{changed_there}
@@ -156,9 +157,9 @@ module _ (m : WorldState) (s : AllWell m) (a : ℕ) where
   line_can : (turn : ClientState) (act : Act) → 1 ≤ a → a ≤ 64 → TakesAct turn act → IsInState turn (m.actors a)
       → (m.actors a).number + 1 < 2 ^ 31 → CanDo m a (busy_at m a) act
   line_can turns.Idle (acts.Do c) from upto takes stood few =
-      subst (λ (o : Option OpId). CanDo m a o (acts.Do c)) (sym (ap op_of stood.0)) (can_do m s a c from upto takes stood few)
+      subst (λ (o : Option OpId). CanDo m a o (acts.Do c)) (sym (ap running_op stood.0)) (can_do m s a c from upto takes stood few)
   line_can turns.Idle (acts.Begin c) from upto takes stood few =
-      subst (λ (o : Option OpId). CanDo m a o (acts.Begin c)) (sym (ap op_of stood.0)) (can_begin m s a c from upto takes stood few)
+      subst (λ (o : Option OpId). CanDo m a o (acts.Begin c)) (sym (ap running_op stood.0)) (can_begin m s a c from upto takes stood few)
   line_can turns.Idle (acts.Step n) from upto takes stood few = absurd takes
   line_can turns.Idle acts.Run from upto takes stood few = absurd takes
   line_can turns.Idle acts.Stop from upto takes stood few = absurd takes

@@ -2,20 +2,16 @@
 use Rattle.std.specs.Prelude.{◌≡◌, ℕ, ◌≤◌, false, Option, Some, None}
 use Rattle.tect_ids.specs.declared.ids.OpId.{OpId}
 use Rattle.program_rules.specs.declared.program.Program.{Program}
+use Rattle.program_rules.specs.Asking.{running_op}
 use Rattle.world_runs.specs.Moments.{Actor, WorldState}
 use Rattle.world_runs.specs.Served.{IsServed}
 use Rattle.world_runs.specs.Follows.{Busy}
 use Rattle.world_runs.specs.ClientStates.{ClientState}
 use Rattle.world_runs.specs.ClientStates as turns
 
--- the op of an actor's running command
-abbrev pub op_of : Option Program → Option OpId
-op_of None = None
-op_of (Some p) = Some p.op
-
 -- the ops that are busy at the moment, by actor
 abbrev pub busy_at : WorldState → Busy
-busy_at m actor = op_of (m.actors actor).running
+busy_at m actor = running_op (m.actors actor).running
 
 -- what its turn tells of an actor: whether it may go on, and whether its command has ended
 abbrev pub IsInState : ClientState → Actor → Type 0
