@@ -12,7 +12,7 @@ use Rattle.world_runs.specs.declared.event.Event.TheVariants.{Stopped}
 use Rattle.world_runs.specs.Moments.{running, program_of, Actor, WorldState, after, after_all, RunFrom}
 use Rattle.world_runs.specs.Follows.{Acts, EndsAfter, IsBeginOf, BeginsAndEnds, DoesLine, with_busy}
 use Rattle.world_runs.specs.ClientStates.{ClientState, TakesAct, state_left_at}
-use Rattle.world_runs.specs.ClientStates as turns
+use Rattle.world_runs.specs.ClientStates as states
 use Rattle.world_runs.specs.Standing.{busy_at, IsInState}
 use Rattle.program_rules.specs.Asking.{running_op}
 use Rattle.script_runs.proofs.Running.{AllWell}
@@ -156,7 +156,7 @@ pub busy_after : (m n : WorldState) (a : ℕ) (act : Act) (next : Option OpId) �
     → with_busy (busy_at m) a next ≡ busy_at n
 busy_after m n a act next d i b = busy_so m n a act next d b i
 
--- ---- turns
+-- ---- states
 
 -- where the line leaves no command running
 abbrev LeavesNone : Act → Type 0
@@ -185,20 +185,20 @@ module _ (m n : WorldState) (a : ℕ) (busy : Option OpId) (act : Act) (part : L
   rests : LeavesNone act → (n.actors a).running ≡ None
   rests r = idle_is (n.actors a).running (done.busy ∙ rests_next a busy act part next r does)
 
--- the actor stands as its turn after the line tells
-pub turn_stands : (m n : WorldState) (a : ℕ) (busy : Option OpId) (turn : ClientState) (act : Act) (part : List Event) (next : Option OpId)
+-- the actor stands as its client's state after the line tells
+pub turn_stands : (m n : WorldState) (a : ℕ) (busy : Option OpId) (state : ClientState) (act : Act) (part : List Event) (next : Option OpId)
     → IsDone m n a act next → DoesLine a busy act part next
-    → TakesAct turn act → IsInState turn (m.actors a) → IsInState (state_left_at act) (n.actors a)
-turn_stands m n a busy turns.Idle (acts.Do c) part next done does takes stood =
+    → TakesAct state act → IsInState state (m.actors a) → IsInState (state_left_at act) (n.actors a)
+turn_stands m n a busy states.Idle (acts.Do c) part next done does takes stood =
     (rests m n a busy (acts.Do c) part next done does tt, done.goes_on tt ∙ stood.1)
-turn_stands m n a busy turns.Idle (acts.Begin c) part next done does takes stood = done.goes_on tt ∙ stood.1
-turn_stands m n a busy turns.Idle (acts.Step k) part next done does takes stood = absurd takes
-turn_stands m n a busy turns.Idle acts.Run part next done does takes stood = absurd takes
-turn_stands m n a busy turns.Idle acts.Stop part next done does takes stood = absurd takes
-turn_stands m n a busy turns.Busy (acts.Do c) part next done does takes stood = absurd takes
-turn_stands m n a busy turns.Busy (acts.Begin c) part next done does takes stood = absurd takes
-turn_stands m n a busy turns.Busy (acts.Step k) part next done does takes stood = done.goes_on tt ∙ stood
-turn_stands m n a busy turns.Busy acts.Run part next done does takes stood =
+turn_stands m n a busy states.Idle (acts.Begin c) part next done does takes stood = done.goes_on tt ∙ stood.1
+turn_stands m n a busy states.Idle (acts.Step k) part next done does takes stood = absurd takes
+turn_stands m n a busy states.Idle acts.Run part next done does takes stood = absurd takes
+turn_stands m n a busy states.Idle acts.Stop part next done does takes stood = absurd takes
+turn_stands m n a busy states.Busy (acts.Do c) part next done does takes stood = absurd takes
+turn_stands m n a busy states.Busy (acts.Begin c) part next done does takes stood = absurd takes
+turn_stands m n a busy states.Busy (acts.Step k) part next done does takes stood = done.goes_on tt ∙ stood
+turn_stands m n a busy states.Busy acts.Run part next done does takes stood =
     (rests m n a busy acts.Run part next done does tt, done.goes_on tt ∙ stood)
-turn_stands m n a busy turns.Busy acts.Stop part next done does takes stood = rests m n a busy acts.Stop part next done does tt
-turn_stands m n a busy turns.Gone act part next done does takes stood = absurd takes
+turn_stands m n a busy states.Busy acts.Stop part next done does takes stood = rests m n a busy acts.Stop part next done does tt
+turn_stands m n a busy states.Gone act part next done does takes stood = absurd takes
