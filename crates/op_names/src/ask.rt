@@ -3,7 +3,6 @@ ghost use Rattle.program_rules.specs.Programs.{own_hold, look_ask, first_ask, gr
 
 use crate::paths::{key_at, last_key, last_of};
 use program_rules::{Phase, Program};
-use std::alloc::Global;
 use store_rules::{AnyReq, FileReq, NameReq};
 use tect_ids::{Command, DirId, FileId, Hold, Key, Name, NoMemory, Node, OpId, Path, Want};
 
@@ -15,10 +14,10 @@ pub fn hold_of(op: OpId) -> Hold
 }
 
 /// The last look of a command that looks a path up; of the root, whether it stands.
-fn look_of(alloc: Global, dir: DirId, path: &Path) -> Result<AnyReq, NoMemory>
+fn look_of(dir: DirId, path: &Path) -> Result<AnyReq, NoMemory>
     ensures { IfOk result (λ req. req ≡ look_ask dir path.now) }
 {
-    match last_key(alloc, dir, path)? {
+    match last_key(dir, path)? {
         Some(key) => Ok(AnyReq::Name(NameReq::Look { key })),
         None => Ok(AnyReq::Name(NameReq::CheckDir { dir })),
     }
@@ -50,7 +49,6 @@ fn make_dir_of(number: u64, parent: DirId, hold: Hold, key: Key) -> AnyReq
 
 /// A command's first own request, in the directory to which its walk led.
 fn first_ask_of(
-    alloc: Global,
     op: OpId,
     number: u64,
     dir: DirId,
@@ -60,18 +58,18 @@ fn first_ask_of(
 {
     let hold = hold_of(op);
     match command {
-        Command::Look { path } => Ok(Some(look_of(alloc, dir, path)?)),
+        Command::Look { path } => Ok(Some(look_of(dir, path)?)),
         Command::List { .. } => Ok(Some(AnyReq::Name(NameReq::List { dir }))),
         Command::Create { path } => {
-            let key = last_key(alloc, dir, path)?;
+            let key = last_key(dir, path)?;
             Ok(key.map(|key| make_file_of(number, hold, key)))
         }
         Command::Mkdir { path } => {
-            let key = last_key(alloc, dir, path)?;
+            let key = last_key(dir, path)?;
             Ok(key.map(|key| make_dir_of(number, dir, hold, key)))
         }
         Command::Delete { path } => {
-            let key = last_key(alloc, dir, path)?;
+            let key = last_key(dir, path)?;
             Ok(key.map(|key| {
                 AnyReq::Name(NameReq::Unbind {
                     key,
@@ -80,7 +78,7 @@ fn first_ask_of(
             }))
         }
         Command::Rename { from, .. } => {
-            let key = last_key(alloc, dir, from)?;
+            let key = last_key(dir, from)?;
             Ok(key.map(|key| AnyReq::Name(NameReq::Look { key })))
         }
         _ => Ok(None),
@@ -108,18 +106,17 @@ fn release_of(node: Node, hold: Hold) -> AnyReq
 }
 
 /// The last name of the path that a rename gives.
-fn new_name_of(alloc: Global, command: &Command) -> Result<Option<Name>, NoMemory>
+fn new_name_of(command: &Command) -> Result<Option<Name>, NoMemory>
     ensures { IfOk result (λ name. name ≡ at_last (new_path command.now) (λ name. name)) }
 {
     match command {
-        Command::Rename { to, .. } => last_of(alloc, to),
+        Command::Rename { to, .. } => last_of(to),
         _ => Ok(None),
     }
 }
 
 /// The request of a phase.
 fn ask_of(
-    alloc: Global,
     op: OpId,
     number: u64,
     command: &Command,
@@ -129,9 +126,9 @@ fn ask_of(
 {
     match phase {
         Phase::Walk { dir, rest } => match rest.as_slice() {
-            [] => first_ask_of(alloc, op, number, *dir, command),
+            [] => first_ask_of(op, number, *dir, command),
             [name, ..] => {
-                let key = key_at(alloc, *dir, name)?;
+                let key = key_at(*dir, name)?;
                 Ok(Some(AnyReq::Name(NameReq::Look { key })))
             }
         },
@@ -141,11 +138,11 @@ fn ask_of(
             hold: hold_of(op),
             over: *over,
         }))),
-        Phase::Grant { key, node } => match new_name_of(alloc, command)? {
+        Phase::Grant { key, node } => match new_name_of(command)? {
             Some(name) => Ok(Some(grant_of(*node, hold_of(op), Key { dir: key.dir, name }))),
             None => Ok(None),
         },
-        Phase::Swap { key, node } => match new_name_of(alloc, command)? {
+        Phase::Swap { key, node } => match new_name_of(command)? {
             Some(to) => Ok(Some(AnyReq::Name(NameReq::Swap {
                 dir: key.dir,
                 from: key.name.clone()?,
@@ -162,8 +159,8 @@ fn ask_of(
 
 /// The request that the program makes next, where `number` is the one of the next object that its actor makes. None where it
 /// has its answer.
-pub fn ask(program: &Program, alloc: Global, number: u64) -> Result<Option<AnyReq>, NoMemory>
+pub fn ask(program: &Program, number: u64) -> Result<Option<AnyReq>, NoMemory>
     ensures { IfOk result (λ req. req ≡ phase_ask program.now.op number program.now.command program.now.phase) }
 {
-    ask_of(alloc, program.op, number, &program.command, &program.phase)
+    ask_of(program.op, number, &program.command, &program.phase)
 }

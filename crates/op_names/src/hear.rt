@@ -28,18 +28,18 @@ pub struct Heard<'a> {
 }
 
 /// The end of a command that was refused, by a request that concerned the entry.
-fn refused(alloc: Global, heard: &Heard, key: &Key) -> Result<Phase, NoMemory>
+fn refused(heard: &Heard, key: &Key) -> Result<Phase, NoMemory>
     ensures { IfOk result (λ phase. phase ≡ Phase.End (refusal heard.now.place key.now heard.now.reply.now)) }
 {
-    let answer = refusal_of(alloc, heard.place, key, heard.reply)?;
+    let answer = refusal_of(heard.place, key, heard.reply)?;
     Ok(Phase::End { answer })
 }
 
 /// The last look of a command that looks a path up.
-fn look_heard_of(alloc: Global, heard: &Heard, dir: DirId, path: &Path) -> Result<Phase, NoMemory>
+fn look_heard_of(heard: &Heard, dir: DirId, path: &Path) -> Result<Phase, NoMemory>
     ensures { IfOk result (λ phase. phase ≡ look_heard heard.now.place dir path.now heard.now.reply.now) }
 {
-    let Some(key) = last_key(alloc, dir, path)? else {
+    let Some(key) = last_key(dir, path)? else {
         let answer = match heard.reply {
             AnyReply::Name(NameReply::DirIs { .. }) => Answer::Found {
                 node: Node::Dir(dir),
@@ -52,7 +52,7 @@ fn look_heard_of(alloc: Global, heard: &Heard, dir: DirId, path: &Path) -> Resul
         Some(node) => Ok(Phase::End {
             answer: Answer::Found { node },
         }),
-        None => refused(alloc, heard, &key),
+        None => refused(heard, &key),
     }
 }
 
@@ -70,23 +70,17 @@ fn entries_heard_of(heard: &Heard) -> Result<Phase, NoMemory>
 }
 
 /// What was made is bound next.
-fn made_heard_of(
-    alloc: Global,
-    heard: &Heard,
-    key: Key,
-    node: Node,
-    over: Over,
-) -> Result<Phase, NoMemory>
+fn made_heard_of(heard: &Heard, key: Key, node: Node, over: Over) -> Result<Phase, NoMemory>
     ensures { IfOk result (λ phase. phase ≡ made_heard heard.now.place key node over heard.now.reply.now) }
 {
     if heard.reply.is_made() {
         return Ok(Phase::Bind { key, node, over });
     }
-    refused(alloc, heard, &key)
+    refused(heard, &key)
 }
 
 /// The hold of what an unbind took the name from is released next.
-fn unbound_heard_of(alloc: Global, heard: &Heard, key: &Key) -> Result<Phase, NoMemory>
+fn unbound_heard_of(heard: &Heard, key: &Key) -> Result<Phase, NoMemory>
     ensures { IfOk result (λ phase. phase ≡ unbound_heard heard.now.place key.now heard.now.reply.now (as_unbound heard.now.reply.now)) }
 {
     match heard.reply.as_unbound() {
@@ -96,7 +90,7 @@ fn unbound_heard_of(alloc: Global, heard: &Heard, key: &Key) -> Result<Phase, No
             old: None,
             answer: Answer::Done,
         }),
-        None => refused(alloc, heard, key),
+        None => refused(heard, key),
     }
 }
 
@@ -111,12 +105,12 @@ fn ends_with(path: &Path, name: &Name) -> bool
 }
 
 /// The node under the old name of a rename was found, or not.
-fn source_heard_of(alloc: Global, heard: &Heard, key: Key, to: &Path) -> Result<Phase, NoMemory>
+fn source_heard_of(heard: &Heard, key: Key, to: &Path) -> Result<Phase, NoMemory>
     ensures { IfOk result
         (λ phase. phase ≡ source_heard heard.now.place key (last_name to.now) heard.now.reply.now (as_found heard.now.reply.now)) }
 {
     match heard.reply.as_found() {
-        None => refused(alloc, heard, &key),
+        None => refused(heard, &key),
         Some(node) => {
             if ends_with(to, &key.name) {
                 return Ok(Phase::End {
@@ -129,37 +123,32 @@ fn source_heard_of(alloc: Global, heard: &Heard, key: Key, to: &Path) -> Result<
 }
 
 /// The phase after the reply to a command's first own request.
-fn first_hear_of(
-    alloc: Global,
-    heard: &Heard,
-    dir: DirId,
-    command: &Command,
-) -> Result<Phase, NoMemory>
+fn first_hear_of(heard: &Heard, dir: DirId, command: &Command) -> Result<Phase, NoMemory>
     ensures { IfOk result (λ phase. phase ≡ first_hear heard.now.place heard.now.number dir command.now heard.now.reply.now) }
 {
     match command {
-        Command::Look { path } => look_heard_of(alloc, heard, dir, path),
+        Command::Look { path } => look_heard_of(heard, dir, path),
         Command::List { .. } => entries_heard_of(heard),
-        Command::Create { path } => match last_key(alloc, dir, path)? {
+        Command::Create { path } => match last_key(dir, path)? {
             Some(key) => {
                 let node = Node::File(FileId(heard.number));
-                made_heard_of(alloc, heard, key, node, Over::File)
+                made_heard_of(heard, key, node, Over::File)
             }
             None => Ok(odd(heard.place)),
         },
-        Command::Mkdir { path } => match last_key(alloc, dir, path)? {
+        Command::Mkdir { path } => match last_key(dir, path)? {
             Some(key) => {
                 let node = Node::Dir(DirId(heard.number));
-                made_heard_of(alloc, heard, key, node, Over::Absent)
+                made_heard_of(heard, key, node, Over::Absent)
             }
             None => Ok(odd(heard.place)),
         },
-        Command::Delete { path } => match last_key(alloc, dir, path)? {
-            Some(key) => unbound_heard_of(alloc, heard, &key),
+        Command::Delete { path } => match last_key(dir, path)? {
+            Some(key) => unbound_heard_of(heard, &key),
             None => Ok(odd(heard.place)),
         },
-        Command::Rename { from, to } => match last_key(alloc, dir, from)? {
-            Some(key) => source_heard_of(alloc, heard, key, to),
+        Command::Rename { from, to } => match last_key(dir, from)? {
+            Some(key) => source_heard_of(heard, key, to),
             None => Ok(odd(heard.place)),
         },
         _ => Ok(odd(heard.place)),
@@ -191,16 +180,10 @@ fn then_release_of(old: Option<Replaced>, answer: Answer) -> Phase
 }
 
 /// A command whose bind or swap was refused gives its own hold back.
-fn give_back(
-    alloc: Global,
-    heard: &Heard,
-    op: OpId,
-    key: &Key,
-    node: Node,
-) -> Result<Phase, NoMemory>
+fn give_back(heard: &Heard, op: OpId, key: &Key, node: Node) -> Result<Phase, NoMemory>
     ensures { IfOk result (λ phase. phase ≡ Phase.Release node (own_hold op) None (refusal heard.now.place key.now heard.now.reply.now)) }
 {
-    let answer = refusal_of(alloc, heard.place, key, heard.reply)?;
+    let answer = refusal_of(heard.place, key, heard.reply)?;
     Ok(Phase::Release {
         node,
         hold: hold_of(op),
@@ -209,29 +192,16 @@ fn give_back(
     })
 }
 
-fn bound_heard_of(
-    alloc: Global,
-    heard: &Heard,
-    op: OpId,
-    key: &Key,
-    node: Node,
-) -> Result<Phase, NoMemory>
-    ensures { IfOk result (λ phase. phase ≡ bound_heard heard.now.place op key.now node heard.now.reply.now
-        (as_bound heard.now.reply.now)) }
+fn bound_heard_of(heard: &Heard, op: OpId, key: &Key, node: Node) -> Result<Phase, NoMemory>
+    ensures { IfOk result (λ phase. phase ≡ bound_heard heard.now.place op key.now node heard.now.reply.now (as_bound heard.now.reply.now)) }
 {
     match heard.reply.as_bound() {
         Some(old) => Ok(then_release_of(old, Answer::Found { node })),
-        None => give_back(alloc, heard, op, key, node),
+        None => give_back(heard, op, key, node),
     }
 }
 
-fn swapped_heard_of(
-    alloc: Global,
-    heard: &Heard,
-    op: OpId,
-    key: &Key,
-    node: Node,
-) -> Result<Phase, NoMemory>
+fn swapped_heard_of(heard: &Heard, op: OpId, key: &Key, node: Node) -> Result<Phase, NoMemory>
     ensures { IfOk result
         (λ phase. phase ≡ swapped_heard heard.now.place op key.now node heard.now.reply.now (as_swapped heard.now.reply.now)) }
 {
@@ -242,12 +212,12 @@ fn swapped_heard_of(
             old,
             answer: Answer::Done,
         }),
-        None => give_back(alloc, heard, op, key, node),
+        None => give_back(heard, op, key, node),
     }
 }
 
 /// A look on the way that found no directory ends the command.
-fn walk_ends(alloc: Global, heard: &Heard, dir: DirId, name: &Name) -> Result<Phase, NoMemory>
+fn walk_ends(heard: &Heard, dir: DirId, name: &Name) -> Result<Phase, NoMemory>
     ensures { IfOk result
         (λ phase. phase ≡ walk_end heard.now.place (key_in dir name.now) heard.now.reply.now (as_found heard.now.reply.now)) }
 {
@@ -256,8 +226,8 @@ fn walk_ends(alloc: Global, heard: &Heard, dir: DirId, name: &Name) -> Result<Ph
             answer: Answer::NotDir,
         }),
         None => {
-            let key = key_at(alloc, dir, name)?;
-            refused(alloc, heard, &key)
+            let key = key_at(dir, name)?;
+            refused(heard, &key)
         }
     }
 }
@@ -276,15 +246,15 @@ fn next_phase(
 {
     match phase {
         Phase::Walk { dir, rest } => walk_heard_of(alloc, heard, *dir, rest, command),
-        Phase::Bind { key, node, .. } => bound_heard_of(alloc, heard, op, key, *node),
+        Phase::Bind { key, node, .. } => bound_heard_of(heard, op, key, *node),
         Phase::Grant { key, node } => {
             if !heard.reply.is_granted() {
-                return refused(alloc, heard, key);
+                return refused(heard, key);
             }
             let key = key.clone()?;
             Ok(Phase::Swap { key, node: *node })
         }
-        Phase::Swap { key, node } => swapped_heard_of(alloc, heard, op, key, *node),
+        Phase::Swap { key, node } => swapped_heard_of(heard, op, key, *node),
         Phase::Release { old, answer, .. } => {
             let answer = mem::replace(answer, Answer::Done);
             Ok(then_release_of(*old, answer))
@@ -307,7 +277,7 @@ fn walk_heard_of(
     ensures err { OnErr result (rest.new ≡ rest.old) }
 {
     match rest.as_slice() {
-        [] => first_hear_of(alloc, heard, dir, command),
+        [] => first_hear_of(heard, dir, command),
         [name, ..] => match heard.reply.as_found() {
             Some(Node::Dir(found)) => {
                 let names = mem::replace(rest, Path::new(alloc));
@@ -316,7 +286,7 @@ fn walk_heard_of(
                     rest: without_first(names),
                 })
             }
-            _ => walk_ends(alloc, heard, dir, name),
+            _ => walk_ends(heard, dir, name),
         },
     }
 }

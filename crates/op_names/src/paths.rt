@@ -3,7 +3,6 @@ ghost use Rattle.program_rules.specs.Paths.{but_last, last_name};
 ghost use Rattle.program_rules.specs.Programs.{at_last};
 ghost use Rattle.store_rules.specs.Names.{key_in};
 
-use std::alloc::Global;
 use tect_ids::{DirId, Key, Name, NoMemory, Path};
 
 /// The directories on the way: all names but the last.
@@ -27,7 +26,7 @@ pub fn without_first(path: Path) -> Path
 }
 
 /// Where that name stands in the directory.
-pub fn key_at(alloc: Global, dir: DirId, name: &Name) -> Result<Key, NoMemory>
+pub fn key_at(dir: DirId, name: &Name) -> Result<Key, NoMemory>
     ensures { IfOk result (λ key. key ≡ key_in dir name.now) }
 {
     let name = name.clone()?;
@@ -35,7 +34,7 @@ pub fn key_at(alloc: Global, dir: DirId, name: &Name) -> Result<Key, NoMemory>
 }
 
 /// The last name of the path, where it has one.
-pub fn last_of(alloc: Global, path: &Path) -> Result<Option<Name>, NoMemory>
+pub fn last_of(path: &Path) -> Result<Option<Name>, NoMemory>
     ensures { IfOk result (λ name. name ≡ at_last path.now (λ name. name)) }
 {
     match path.as_slice() {
@@ -45,11 +44,11 @@ pub fn last_of(alloc: Global, path: &Path) -> Result<Option<Name>, NoMemory>
 }
 
 /// Where the last name of the path stands in the directory, if there is one.
-pub fn last_key(alloc: Global, dir: DirId, path: &Path) -> Result<Option<Key>, NoMemory>
+pub fn last_key(dir: DirId, path: &Path) -> Result<Option<Key>, NoMemory>
     ensures { IfOk result (λ key. key ≡ at_last path.now (λ name. key_in dir name)) }
 {
     match path.as_slice() {
-        [.., name] => Ok(Some(key_at(alloc, dir, name)?)),
+        [.., name] => Ok(Some(key_at(dir, name)?)),
         [] => Ok(None),
     }
 }

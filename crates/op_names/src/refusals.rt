@@ -1,17 +1,11 @@
 ghost use Rattle.std.specs.Prelude.{◌≡◌, IfOk};
 ghost use Rattle.program_rules.specs.Programs.{refusal, name_refusal, file_refusal, dir_refusal};
 
-use std::alloc::Global;
 use store_rules::{AnyReply, FileReply, NameReply};
 use tect_ids::{Answer, Key, NoMemory, Place};
 
 /// The answer that a refusal of a Name shard makes.
-fn name_refusal_of(
-    alloc: Global,
-    place: Place,
-    key: &Key,
-    reply: &NameReply,
-) -> Result<Answer, NoMemory>
+fn name_refusal_of(place: Place, key: &Key, reply: &NameReply) -> Result<Answer, NoMemory>
     ensures { IfOk result (λ answer. answer ≡ name_refusal place key.now reply.now) }
 {
     match reply {
@@ -39,16 +33,11 @@ fn file_refusal_of(place: Place, reply: &FileReply) -> Answer
 }
 
 /// The answer that a refusal makes: the request was at that place and concerned that entry.
-pub fn refusal_of(
-    alloc: Global,
-    place: Place,
-    key: &Key,
-    reply: &AnyReply,
-) -> Result<Answer, NoMemory>
+pub fn refusal_of(place: Place, key: &Key, reply: &AnyReply) -> Result<Answer, NoMemory>
     ensures { IfOk result (λ answer. answer ≡ refusal place key.now reply.now) }
 {
     match reply {
-        AnyReply::Name(reply) => name_refusal_of(alloc, place, key, reply),
+        AnyReply::Name(reply) => name_refusal_of(place, key, reply),
         AnyReply::File(reply) => Ok(file_refusal_of(place, reply)),
     }
 }

@@ -74,7 +74,7 @@ impl Running {
         ensures same { self.new ≡ self.old }
         ensures memory { memory.new ≡ memory.old }
     {
-        let req = ask(&self.program, self.alloc, memory.number_of_next())?;
+        let req = ask(&self.program, memory.number_of_next())?;
         match req {
             Some(req) => Ok(Some(show(&self.shown, req))),
             None => Ok(None),
@@ -106,7 +106,7 @@ impl Running {
     {
         let alloc = self.alloc;
         let number = memory.number_of_next();
-        let Some(req) = ask(&self.program, alloc, number)? else {
+        let Some(req) = ask(&self.program, number)? else {
             unreachable!()
         };
         let (first, second) = facts_of(alloc, &req, reply)?;

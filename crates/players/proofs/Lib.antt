@@ -4,6 +4,5 @@ pub mod Transactions
 pub mod Running
 pub mod OneStep
 pub mod Begun
-pub mod ClientLaws
 pub mod Playing
 pub mod Racing

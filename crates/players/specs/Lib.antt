@@ -2,4 +2,5 @@ pub mod Lives
 pub mod Steps
 pub mod Growing
 pub mod Players
+pub mod ClientLaws
 pub mod Lines

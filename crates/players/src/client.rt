@@ -10,7 +10,7 @@ impl<C: Commits> Player<C> for Client {
     ghost use Rattle.clients.specs.Lives.{events_in, state_in, left_in, IsLife};
     ghost use Rattle.players.specs.Growing.{GrewBy};
     ghost use Rattle.players.specs.Steps.{FoundAstray};
-    ghost use Rattle.players.proofs.ClientLaws.{client_laws};
+    ghost use Rattle.players.specs.ClientLaws.{client_laws};
 
     ghost counts = { C.counts };
 

@@ -17,7 +17,7 @@ use Rattle.world_runs.specs.ClientStates.{ClientState, ClientStates, all_idle, w
 use Rattle.world_runs.specs.ClientStates.{FitStatesFrom}
 use Rattle.world_runs.specs.ClientStates as turns
 use Rattle.script_runs.proofs.Running.{AllWell, all_well, event_well, opening_well, run_well}
-use Rattle.script_runs.proofs.Histories.{front_runs}
+use Rattle.world_runs.proofs.Fronts.{front_runs}
 use Rattle.script_runs.proofs.Histories.{run-front, run-append, none_fails-append, acts_none_fail}
 use Rattle.world_runs.specs.Standing.{op_of, busy_at, IsInState}
 use Rattle.world_runs.specs.Smooth.{EndsAtOnce}
