@@ -74,9 +74,9 @@ module _ (counts : Counts) (names : List (List ℕ)) where
           let number : (state_in r.client).number ≡ 0 = ap (λ (w : ClientLife). (state_in w).number) life in
           record {
             counts_are = ap (λ (w : ClientLife). w.counts) life;
-            turns = all_idle;
+            states = all_idle;
             in_turn = script.in_turn;
-            turn = (ap (λ (w : ClientLife). (state_in w).running) life, ap (λ (w : ClientLife). (state_in w).stopped) life);
+            state = (ap (λ (w : ClientLife). (state_in w).running) life, ap (λ (w : ClientLife). (state_in w).stopped) life);
             few = (let f = script.few in omega arith);
           };
     };
@@ -119,9 +119,9 @@ ready_closed : (counts : Counts) (ls : List Line) (k : ℕ) (r t : Racer) → Cl
     → IsReady counts ls t
 ready_closed counts ls k r t closed ready = record {
   counts_are = ap (λ (w : ClientLife). w.counts) closed.client ∙ ready.counts_are;
-  turns = ready.turns;
+  states = ready.states;
   in_turn = ready.in_turn;
-  turn = subst (λ (w : ClientLife). IsInState (ready.turns w.actor) (state_in w)) (sym closed.client) ready.turn;
+  state = subst (λ (w : ClientLife). IsInState (ready.states w.actor) (state_in w)) (sym closed.client) ready.state;
   few = (let f = ready.few in let n = ap (λ (w : ClientLife). (state_in w).number) closed.client in omega arith);
 }
 
