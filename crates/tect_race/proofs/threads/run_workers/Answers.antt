@@ -11,7 +11,7 @@ use denote.Param.Send.{sendable}
 use Rattle.std.proofs.Crossing.{crosses}
 use Rattle.tect_race.proofs.Crossing.{Places-sync, Name-sync, Line-sync}
 use Rattle.tect_race.proofs.threads.run_workers.Goals as goal
-use Rattle.tect_race.proofs.threads.run_workers.Goals.{In-Ok, After-finished}
+use Rattle.tect_race.proofs.threads.run_workers.Goals.{In-Ok, After-all_ended}
 
 pub map_vec-requires-sync-F : goal.map_vec-requires-sync-F
 map_vec-requires-sync-F g c κs within =
@@ -56,12 +56,12 @@ came g c =
     (slice_range c.args.shared.now.lines.now c.args.start c.args.end) (drop c.args.end c.args.shared.now.lines.now) y
     (get_or c.in-Ok.ran.items i r)) (sym (e.1.job_is b)) fact)
 
-pub finished-requires : goal.finished-requires
-finished-requires g c = strays c.args.shared.now.places.now c.args.shared.now.clients.now c.args.shared.now.worker_count
+pub all_ended-requires : goal.all_ended-requires
+all_ended-requires g c = strays c.args.shared.now.places.now c.args.shared.now.clients.now c.args.shared.now.worker_count
     (slice_range c.args.shared.now.lines.now c.args.start c.args.end) (drop c.args.end c.args.shared.now.lines.now)
     c.in_ok-batches.batches.items c.in-Ok.ran.items (came g c)
 
-ended : (g : _) (c : After-finished g) (ds : Vec Worker Global) → All (λ batch. IsOk batch) c.in-Ok.ran.items
+ended : (g : _) (c : After-all_ended g) (ds : Vec Worker Global) → All (λ batch. IsOk batch) c.in-Ok.ran.items
     → ds.items ≡ flat_map ended_workers c.in-Ok.ran.items
     → AllZip (WorkerEnds c.args.shared.now.places.now c.args.shared.now.clients.now c.args.shared.now.worker_count
     (slice_range c.args.shared.now.lines.now c.args.start c.args.end) (drop c.args.end c.args.shared.now.lines.now))
@@ -74,15 +74,15 @@ ended g c ds ok is =
 
 pub returns-in-Ok-clause-ran : goal.returns-in-Ok-clause-ran
 returns-in-Ok-clause-ran g c =
-    if_both c.finished.result
+    if_both c.all_ended.result
     (λ ds ok is. ended_ran c.args.shared.now.places.now c.args.shared.now.clients.now c.args.shared.now.worker_count
     (slice_range c.args.shared.now.lines.now c.args.start c.args.end) (drop c.args.end c.args.shared.now.lines.now) c.args.workers.items
-    ds.items (ended g c ds ok is)) c.finished.ensures.ended c.finished.ensures.joined
+    ds.items (ended g c ds ok is)) c.all_ended.ensures.ended c.all_ended.ensures.joined
 
 pub returns-in-Ok-clause-ready : goal.returns-in-Ok-clause-ready
 returns-in-Ok-clause-ready g c =
-    if_both c.finished.result
+    if_both c.all_ended.result
     (λ ds ok is. ended_ready c.args.shared.now.places.now c.args.shared.now.clients.now c.args.shared.now.worker_count
     (slice_range c.args.shared.now.lines.now c.args.start c.args.end) (drop c.args.start c.args.shared.now.lines.now)
     (drop c.args.end c.args.shared.now.lines.now) c.args.workers.items ds.items c.requires.ready (ended g c ds ok is))
-    c.finished.ensures.ended c.finished.ensures.joined
+    c.all_ended.ensures.ended c.all_ended.ensures.joined
