@@ -114,7 +114,7 @@ module _ (full : List Event → ℕ → Bool) where
     can_begin : CanBegin (m.actors a) op
     can_begin = record { idle = stood.0; goes_on = stood.1; next = refl; few = few; is_actor = (from, omega (arith, upto)) }
 
-    -- it begins the command, or is not_begun
+    -- it begins the command, or is refused
     record Begins : Type 0 where
       begin : Event
       may : May m begin
@@ -123,7 +123,7 @@ module _ (full : List Event → ℕ → Bool) where
       runs : running (after m begin) op ≡ Some program
       refuses : RefusesAsFull full before (begin ∷ [])
 
-    -- the program of a not_begun op
+    -- the program of a refused op
     abbrev declined : Program
     declined = record { op = op; command = c; phase = End no_room }
 
