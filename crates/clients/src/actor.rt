@@ -114,7 +114,7 @@ impl Actor {
     {
         let op = self.next_op();
         self.number += 1;
-        self.running = Some(Running::not_begun(self.alloc, op, command));
+        self.running = Some(Running::refused(self.alloc, op, command));
     }
 
     /// The request that its command makes next, with the tokens that it needs; none where it has its answer, or where no
