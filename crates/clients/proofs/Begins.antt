@@ -1,4 +1,4 @@
--- a client begins a command, is not_begun, ends what was not_begun, and stops
+-- a client begins a command, is refused, ends what was refused, and stops
 use Rattle.std.proofs.Common.{◌≡◌, ◌≢◌, ℕ, ◌+◌, ◌<◌, ◌^◌, inl, inr, true, false, Option, Some, None, IsSome, IsNone, List, [], ◌∷◌, ◌++◌}
 use Rattle.std.proofs.Common.{refl, sym, ap, ◌∙◌, arith}
 use Rattle.std.specs.Prelude.{vec_len, vec_capacity}
@@ -147,7 +147,7 @@ module _ (counts : Counts) (a : ActorState) (p r : Pass) (t : ℕ) (stage : Stag
       push_stage counts a stops p r t t (Local (p.clock + 1) p.actor (notes.Stopped (op_of a))) (Stopped (op_of a)) stage stopped_pushed
       (stage.counted ∙ sym (count_other (own_events p) (Stopped (op_of a)) (op_of a) refl))
 
--- ---- an op that is not_begun
+-- ---- an op that is refused
 
 idle_by : (es : List Event) (o : Option OpId) (running : Option Program) → RunsIn es o running → running ≡ None → o ≡ None
 idle_by [] o running going idle = going.0 ∙ ap op_running idle
@@ -193,7 +193,7 @@ module _ (a b : Inside) (is : IsClient a) (counts : b.counts ≡ a.counts) (pass
       own_op = rw after (λ y h. sym (some_op _ y h));
       idle = idle_by a.refused.items a.pass.running a.actor.state.running is.going idle;
       full = full;
-      not_begun = rw after refl;
+      refused = rw after refl;
       counted = zero_count ∙ sym (quiet a.counts (events_in (life_of a)) (next_op_of a.actor) is.run (omega (arith, number_is)))
           ∙ sym (count_other (events_in (life_of a)) (NotBegun (next_op_of a.actor) c) (next_op_of a.actor) refl)
           ∙ ap (λ (x : ActorState). transactions (events_in (life_of a) ++ NotBegun (next_op_of a.actor) c ∷ []) (op_of x)) (sym after);
@@ -237,7 +237,7 @@ module _ (a b : Inside) (is : IsClient a) (counts : b.counts ≡ a.counts) (pass
         own_op = rw after (λ y h. absurd cc);
         idle = was.0;
         full = full_by a.refused.items a.pass is.full some;
-        not_begun = rw after tt;
+        refused = rw after tt;
         counted = counted_still (Ended (op_of a.actor) no_room)
             (count_other (events_in (life_of a)) (Ended (op_of a.actor) no_room) (op_of a.actor) refl) (ap op_of after);
         space = λ still. absurd
@@ -260,7 +260,7 @@ module _ (a b : Inside) (is : IsClient a) (counts : b.counts ≡ a.counts) (pass
         own_op = rw after (λ y h. absurd cc);
         idle = was.0;
         full = full_by a.refused.items a.pass is.full some;
-        not_begun = rw after tt;
+        refused = rw after tt;
         counted = counted_still (Stopped (op_of a.actor))
             (count_other (events_in (life_of a)) (Stopped (op_of a.actor)) (op_of a.actor) refl) (ap op_of after);
         space = λ still. absurd
