@@ -1,4 +1,4 @@
--- what a step tells: its op's transaction, or its end; and a command that goes on is nearer to its end
+-- what stays in a step and in a begin; and a command that goes on is nearer to its end
 use Rattle.std.proofs.Common.{◌≡◌, inl, inr, ℕ, ◌+◌, ◌<◌, Option, Some, None, List, [], ◌∷◌, ◌++◌, refl, ap, ◌∙◌, length, length-append}
 use Rattle.std.proofs.Common.{arith}
 use Rattle.std.specs.Prelude.{Result, Ok, Err, MatchResult, OnOk, OnErr}
@@ -13,66 +13,21 @@ use Rattle.entry_words.specs.declared.entry.Moment.TheVariants.{Act}
 use Rattle.entry_words.specs.declared.entry.Refused.{Refused}
 use Rattle.entry_words.specs.declared.entry.Refused.TheVariants as refusals
 use Rattle.world_runs.specs.declared.event.Event.{Event}
-use Rattle.world_runs.specs.declared.event.Event.TheVariants.{Ended}
-use Rattle.world_runs.specs.Follows.{Acts, IsEndOf, EndsAfter}
 use Rattle.world_runs.specs.Moments.{Actor, idle_actor, went_on}
 use Rattle.world_runs.specs.Events.{end_event}
 use Rattle.world_runs.specs.OwnRuns.{own_state, own_after}
 use Rattle.world_runs.proofs.Actors.{own_state-append}
 use Rattle.clients.specs.declared.turned.Turned.{Turned}
-use Rattle.clients.specs.declared.turned.Turned.TheVariants.{Going, Done}
+use Rattle.clients.specs.declared.turned.Turned.TheVariants.{Going}
 use Rattle.clients.specs.Turns.{turned_by}
 use Rattle.passes.specs.declared.commits.Astray.{Astray}
 use Rattle.clients.specs.Lives.{ClientLife, events_in, state_in, op_in, Begins, left_in, IsLife}
 use Rattle.clients.specs.Steps.{entry_in, Tried, Unasked, Did, Denied, EndsSo, state_after, WentAstray, tried_events, end_events}
 use Rattle.clients.specs.Steps.{tried_life, ended_with, ended_life, OwnStep}
-use Rattle.clients.specs.PassSteps.{act_count}
 
 -- the events of a step
 abbrev pub step_events : List Event → OpId → Tried → Option Answer → List Event
 step_events silent op tried answer = tried_events op tried ++ end_events silent op answer
-
--- ---- it goes on by one transaction, or comes to its end
-
-end_is_of : (op : OpId) (a : Answer) → IsEndOf op (end_event op a)
-end_is_of op answers.NoMemory = refl
-end_is_of op (answers.HistoryFull p) = refl
-end_is_of op _ = refl
-
-not_done : (answer : Option Answer) → Going ≡ turned_by answer → answer ≡ None
-not_done None is = refl
-not_done (Some a) is = absurd cc
-
-is_done : (answer : Option Answer) (a : Answer) → Done a ≡ turned_by answer → answer ≡ Some a
-is_done None a is = absurd cc
-is_done (Some b) a is = cc
-
-one_act : (s : Actor) (silent : List Event) (op : OpId) (tried : Tried) → EndsSo s tried None → Acts op 1 (step_events silent op tried None)
-one_act s silent op (Did q x) ends = (refl, (0, refl, refl))
-one_act s silent op Unasked ends = absurd ends
-one_act s silent op (Denied q e) ends = absurd ends
-
-acts_of : (op : OpId) (tried : Tried) → Acts op (act_count tried) (tried_events op tried)
-acts_of op Unasked = refl
-acts_of op (Did q x) = (refl, (0, refl, refl))
-acts_of op (Denied q e) = refl
-
-then_end : (silent : List Event) (op : OpId) (tried : Tried) (a : Answer)
-    → EndsAfter op (act_count tried) (step_events silent op tried (Some a))
-then_end [] op tried a = (tried_events op tried, end_event op a, refl, acts_of op tried, end_is_of op a)
-then_end (e ∷ es) op tried a = (tried_events op tried, Ended op a, refl, acts_of op tried, refl)
-
-module _ {W : Type 0} (done : W → W → ℕ → AnyReq → Result Entry Refused → Type 0) (w v : W) (old new : ClientLife) where
-  pub going_acts : (step : OwnStep done w v old new Going) → Acts (op_in old) 1 (step_events old.silent (op_in old) step.tried step.answer)
-  going_acts step =
-      let none : step.answer ≡ None = not_done step.answer step.told in
-      let here : Acts (op_in old) 1 (step_events old.silent (op_in old) step.tried None) = one_act
-      (state_after old.counts (state_in old) step.tried) old.silent (op_in old) step.tried (rw none at step.ends) in
-      rw none here
-
-  pub done_ends : (a : Answer) (step : OwnStep done w v old new (Done a))
-      → EndsAfter (op_in old) (act_count step.tried) (step_events old.silent (op_in old) step.tried step.answer)
-  done_ends a step = let is : step.answer ≡ Some a = is_done step.answer a step.told in rw is (then_end old.silent (op_in old) step.tried a)
 
 -- ---- what stays
 
@@ -162,6 +117,10 @@ begin_same old new c (Ok x) ok err = begins_same old new c ok
 begin_same old new c (Err e) ok err = (ap (λ (l : ClientLife). l.counts) err, ap (λ (l : ClientLife). l.actor) err)
 
 -- ---- a command that goes on
+
+not_done : (answer : Option Answer) → Going ≡ turned_by answer → answer ≡ None
+not_done None is = refl
+not_done (Some a) is = absurd cc
 
 did_adds : (l : ClientLife) (st : Actor) (stamp : ℕ) (op : OpId) (tried : Tried) → EndsSo st tried None
     → length (ended_life (tried_life l stamp tried) op None).moments ≡ length l.moments + 1

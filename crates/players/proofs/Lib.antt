@@ -4,5 +4,6 @@ pub mod Transactions
 pub mod Running
 pub mod OneStep
 pub mod Begun
+pub mod ClientLaws
 pub mod Playing
 pub mod Racing

@@ -1,6 +1,6 @@
 -- results, and options that are there or not
 use Rattle.std.proofs.Common.{◌≡◌, Bool, true, false, Option, Some, None, is_some, refl, arith}
-use Rattle.std.specs.Prelude.{IsSome, Result, Ok, Err, OnOk}
+use Rattle.std.specs.Prelude.{IsNone, IsSome, Result, Ok, Err, OnOk}
 
 pub on_ok_both : {A E P Q R : Type 0} (r : Result A E) → (P → Q → R) → OnOk r P → OnOk r Q → OnOk r R
 on_ok_both (Ok v) f p q = f p q
@@ -17,3 +17,6 @@ not_running (Some x) b is off = absurd (grind (arith, is, off))
 pub is_running : {X : Type 0} (o : Option X) (b : Bool) → b ≡ is_some o → b ≡ true → IsSome o
 is_running None b is on = absurd (grind (arith, is, on))
 is_running (Some x) b is on = refl
+
+pub none_of : {X : Type 0} (o : Option X) → IsNone o → o ≡ None
+none_of o is = not_running o (is_some o) refl is

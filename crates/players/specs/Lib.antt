@@ -2,5 +2,4 @@ pub mod Lives
 pub mod Steps
 pub mod Growing
 pub mod Players
-pub mod ClientLaws
 pub mod Lines

@@ -71,6 +71,7 @@ fn do_command<P: Player<At>, At>(
     ensures counts { P.counts at.new ≡ P.counts at.old }
     ensures fault { IfErr result (IsFault P.astray (P.counts at.old)) }
 {
+    player.note_laws();
     begin_command(player, at, command)?;
     let answer = run_to_end(player, at)?;
     Ok(answer_line(player, at, alloc, names, answer)?)
@@ -88,6 +89,7 @@ fn begin<P: Player<At>, At>(player: &mut P, at: &mut At, command: &Command) -> R
     ensures fits { OnOk result (P.fits player.new at.new) }
     ensures counts { P.counts at.new ≡ P.counts at.old }
 {
+    player.note_laws();
     begin_command(player, at, command)
 }
 
@@ -107,6 +109,7 @@ fn step_on<P: Player<At>, At>(
     ensures counts { P.counts at.new ≡ P.counts at.old }
     ensures fault { IfErr result (IsFault P.astray (P.counts at.old)) }
 {
+    player.note_laws();
     if !player.is_running(at) {
         return Ok(None);
     }
@@ -130,6 +133,7 @@ fn run_on<P: Player<At>, At>(
     ensures counts { P.counts at.new ≡ P.counts at.old }
     ensures fault { IfErr result (IsFault P.astray (P.counts at.old)) }
 {
+    player.note_laws();
     if !player.is_running(at) {
         return Ok(None);
     }
@@ -149,6 +153,7 @@ fn stop<P: Player<At>, At>(
     ensures fits { OnOk result (P.fits player.new at.new) }
     ensures counts { P.counts at.new ≡ P.counts at.old }
 {
+    player.note_laws();
     if !player.is_running(at) {
         return Ok(None);
     }

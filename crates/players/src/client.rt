@@ -10,7 +10,6 @@ impl<C: Commits> Player<C> for Client {
     ghost use Rattle.clients.specs.Lives.{events_in, state_in, left_in, IsLife};
     ghost use Rattle.players.specs.Growing.{GrewBy};
     ghost use Rattle.players.specs.Steps.{FoundAstray};
-    ghost use Rattle.players.specs.ClientLaws.{client_laws};
 
     ghost counts = { C.counts };
 
@@ -28,7 +27,7 @@ impl<C: Commits> Player<C> for Client {
 
     ghost astray = { FoundAstray C.counts C.done };
 
-    ghost laws = { client_laws C.counts };
+    fn note_laws(&self) {}
 
     fn actor(&self) -> u32 {
         Client::actor(self)

@@ -40,6 +40,10 @@ pub trait Player<At> {
     /// What is so of another machine that was found than the one that was looked for.
     ghost astray: { Counts → Label → Label → Type 0 };
 
+    /// Stands for its contract alone: what is so of each player.
+    fn note_laws(&self)
+        ensures { IsPlayer counts fits actor history state grows };
+
     /// The number of its actor. It takes no memory.
     fn actor(&self) -> u32
         ensures { result ≡ actor self.now };
@@ -89,6 +93,4 @@ pub trait Player<At> {
             (grows self.old at.old self.new at.new (events.Stopped (op_at (actor self.old) (state self.old at.old)) ∷ [])) }
         ensures fits { OnOk result (fits self.new at.new) }
         ensures counts { counts at.new ≡ counts at.old };
-
-    ghost laws: { IsPlayer counts fits actor history state grows };
 }

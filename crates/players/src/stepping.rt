@@ -20,6 +20,7 @@ pub fn step_up_to<P: Player<At>, At>(
     ensures counts { P.counts at.new ≡ P.counts at.old }
     ensures fault { IfErr result (IsFault P.astray (P.counts at.old)) }
 {
+    player.note_laws();
     'steps: for _step in 0..count {
         match player.step(at)? {
             Turned::Going => {}
@@ -39,6 +40,7 @@ pub fn run_to_end<P: Player<At>, At>(player: &mut P, at: &mut At) -> Result<Answ
     ensures counts { P.counts at.new ≡ P.counts at.old }
     ensures fault { IfErr result (IsFault P.astray (P.counts at.old)) }
 {
+    player.note_laws();
     'steps: loop {
         match player.step(at)? {
             Turned::Going => {}

@@ -26,7 +26,8 @@ use Rattle.tect_world.specs.Life.{step_answer, step_events}
 use Rattle.tect_world.specs.Steps.{FailsWith, Stepped}
 use Rattle.tect_world.specs.Steps as world_steps
 use Rattle.tect_world.proofs.Lives.{present-grown}
-use Rattle.tect_world.proofs.Running.{goes_first, goes_nearer, own_after, room_at, step_asks}
+use Rattle.tect_world.specs.Life.{room_at}
+use Rattle.tect_world.proofs.Running.{goes_first, goes_nearer, own_after, step_asks}
 use Rattle.players.specs.Players.{EndsWith, HasBegun, StepsOnce}
 use Rattle.tect_replay.specs.declared.seat.Seat.{Seat}
 use Rattle.tect_replay.specs.Plays.{IsKeptRun}

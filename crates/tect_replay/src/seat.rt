@@ -11,11 +11,9 @@ pub struct Seat {
 }
 
 impl Player<World> for Seat {
-    ghost use Rattle.tect_world.specs.Life.{present};
-    ghost use Rattle.tect_world.proofs.Running.{room_at};
+    ghost use Rattle.tect_world.specs.Life.{present, room_at};
     ghost use Rattle.tect_replay.specs.Plays.{IsKeptRun};
     ghost use Rattle.tect_replay.specs.Seats.{SeatGrew};
-    ghost use Rattle.tect_replay.proofs.SeatLaws.{seat_laws};
 
     ghost counts = { λ w. w.counts };
 
@@ -33,7 +31,7 @@ impl Player<World> for Seat {
 
     ghost astray = { λ counts want found. ⊥ };
 
-    ghost laws = { seat_laws };
+    fn note_laws(&self) {}
 
     fn actor(&self) -> u32 {
         self.actor

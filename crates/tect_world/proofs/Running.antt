@@ -17,7 +17,7 @@ use Rattle.world_runs.specs.Follows.{Acts}
 use Rattle.world_runs.specs.Moments.{Actor, WorldState, IsWorldRun, after_all, moment, running, asked, answered, program_of, program_answer}
 use Rattle.script_runs.proofs.Running.{running_goes_on, running_is_last_begun}
 use Rattle.tect_world.specs.Life.{Life, present, grown, last_op, actor_asks, acted_actor, ended_actor, stepped_actor, transaction, ending}
-use Rattle.tect_world.specs.Life.{step_answer, step_events}
+use Rattle.tect_world.specs.Life.{room_at, step_answer, step_events}
 use Rattle.clients.specs.declared.turned.Turned.TheVariants.{Going, Done}
 use Rattle.clients.specs.Turns.{turned_by}
 use Rattle.tect_world.specs.Steps.{FailsWith, Stepped, RanToEnd, GoesOn}
@@ -206,10 +206,6 @@ step_runs v u a p is grows none =
     (runs_by (present v).counts (present v).store st p (actor_asks st op) is)
 
 -- ---- the room that the actor's own history has
-
--- for how many moments more it has room
-abbrev pub room_at : Life → ℕ → ℕ
-room_at w a = 65536 - used w.history a
 
 limits_last : (counts : Counts) (before es : List Event) (e : Event) → KeepsLimitsAfter counts before (es ++ e ∷ [])
     → KeepsRoom counts (before ++ es) ((moment counts (before ++ es)).actors (actor_in e)) e

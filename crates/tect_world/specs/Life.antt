@@ -1,5 +1,5 @@
 -- What contracts see of the world: its counts and its history. All else is the moment after the history.
-use Rattle.std.specs.Prelude.{ℕ, ◌+◌, List, [], ◌∷◌, ◌++◌, Option, Some, None}
+use Rattle.std.specs.Prelude.{ℕ, ◌+◌, ◌-◌, List, [], ◌∷◌, ◌++◌, Option, Some, None}
 use Rattle.tect_ids.specs.declared.ids.Counts.{Counts}
 use Rattle.tect_ids.specs.declared.ids.OpId.{OpId}
 use Rattle.tect_ids.specs.declared.answer.Answer.{Answer}
@@ -7,6 +7,7 @@ use Rattle.store_rules.specs.declared.any.AnyReq.{AnyReq}
 use Rattle.store_rules.specs.Store.{Store, store_reply, store_step}
 use Rattle.world_runs.specs.declared.event.Event.{Event}
 use Rattle.world_runs.specs.declared.event.Event.TheVariants.{Acted, Ended}
+use Rattle.world_runs.specs.Limits.{used}
 use Rattle.world_runs.specs.Moments.{Actor, WorldState, moment, program_of, program_ask, program_answer, went_on}
 
 pub record Life : Type 0 where
@@ -74,3 +75,7 @@ step_answer m op = actor_answer m.counts m.store (m.actors op.actor) op
 
 abbrev pub step_events : WorldState → OpId → List Event
 step_events m op = actor_events m.counts m.store (m.actors op.actor) op
+
+-- for how many moments more the actor's own history has room
+abbrev pub room_at : Life → ℕ → ℕ
+room_at w a = 65536 - used w.history a

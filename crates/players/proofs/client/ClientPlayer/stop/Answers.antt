@@ -1,0 +1,1 @@
+use Rattle.players.proofs.client.ClientPlayer.stop.Goals as goal
