@@ -30,7 +30,7 @@ use Rattle.world_runs.proofs.Limits.{used-append}
 use Rattle.clients.specs.ActorState.{ActorState, op_of, next_op_of}
 use Rattle.clients.specs.declared.client.Client.TheInside.{Inside}
 use Rattle.clients.specs.Lives.{events_in, RefusesNext}
-use Rattle.program_rules.specs.Asking.{op_running, WasRefused}
+use Rattle.program_rules.specs.Asking.{running_op, WasRefused}
 use Rattle.clients.specs.Phases.{RunsIn}
 use Rattle.clients.specs.ClientInside.{life_of, IsFullOnce, IsClient}
 use Rattle.program_rules.proofs.Phases.{smooth_begins}
@@ -150,7 +150,7 @@ module _ (counts : Counts) (a : ActorState) (p r : Pass) (t : ℕ) (stage : Stag
 -- ---- an op that is refused
 
 idle_by : (es : List Event) (o : Option OpId) (running : Option Program) → RunsIn es o running → running ≡ None → o ≡ None
-idle_by [] o running going idle = going.0 ∙ ap op_running idle
+idle_by [] o running going idle = going.0 ∙ ap running_op idle
 idle_by (e ∷ es) o running going idle = going.0
 
 refused_by : (es : List Event) (o : Option OpId) (running : Option Program) → RunsIn es o running → es ≢ [] → (o ≡ None)

@@ -33,7 +33,7 @@ use Rattle.world_runs.specs.Events.{IsPlaced}
 use Rattle.world_runs.proofs.Actors.{same_number}
 use Rattle.clients.specs.ActorState.{ActorState, op_of}
 use Rattle.passes.specs.Adding.{Committed, NotedEnd, entry_at}
-use Rattle.program_rules.specs.Asking.{RunsSmoothly, op_running}
+use Rattle.program_rules.specs.Asking.{RunsSmoothly, running_op}
 use Rattle.clients.specs.PassSteps.{ended}
 use Rattle.program_rules.proofs.Phases.{smooth_hears, smooth_answers}
 use Rattle.clients.proofs.Growing.{state_push, run_push, limits_push, own_push, program_own, heard_own, plain_end, count_act, count_other}
@@ -51,7 +51,7 @@ pub record Stage (counts : Counts) (a : ActorState) (p : Pass) (t : ℕ) : Type 
   pub own : own a.actor (own_events p) ≡ own_events p
   pub placed : All (IsPlaced counts) p.moments.items
   pub own_op : ForSome a.state.running (λ program. program.op ≡ op_of a)
-  pub going : p.running ≡ op_running a.state.running
+  pub going : p.running ≡ running_op a.state.running
   pub smooth : RunsSmoothly a.state.running
   pub counted : t ≡ transactions (own_events p) (op_of a)
 
@@ -68,7 +68,7 @@ pub record Pushed (counts : Counts) (a b : ActorState) (p r : Pass) (m : Moment)
   pub state : b.state ≡ own_after counts a.state e
   pub placed : IsPlaced counts m
   pub own_op : ForSome b.state.running (λ program. program.op ≡ op_of b)
-  pub going : r.running ≡ op_running b.state.running
+  pub going : r.running ≡ running_op b.state.running
   pub smooth : RunsSmoothly b.state.running
 
 module _ (counts : Counts) (a b : ActorState) (p r : Pass) (t n : ℕ) (m : Moment) (e : Event) (stage : Stage counts a p t)
@@ -111,12 +111,12 @@ some_of : {X : Type 0} (o : Option X) → IsSome o → (x : X) × (o ≡ Some x)
 some_of (Some x) is = (x, refl)
 some_of None is = absurd (grind (arith, is))
 
-running_own : (o : Option Program) (op : OpId) → IsSome o → ForSome o (λ p. p.op ≡ op) → op_running o ≡ Some op
+running_own : (o : Option Program) (op : OpId) → IsSome o → ForSome o (λ p. p.op ≡ op) → running_op o ≡ Some op
 running_own (Some p) op is its = let same : p.op ≡ op = its p refl in rw same refl
 running_own None op is its = absurd (grind (arith, is))
 
 heard_runs : (counts : Counts) (serial : ℕ) (q : AnyReq) (x : AnyReply) (o : Option Program)
-    → op_running (heard counts serial q x o) ≡ op_running o
+    → running_op (heard counts serial q x o) ≡ running_op o
 heard_runs counts serial q x None = refl
 heard_runs counts serial q x (Some p) = refl
 

@@ -136,7 +136,6 @@ fn in_place<'a>(
     }
 }
 
-#[tactic(auto, using(entry_words::proofs::Clones::same_entry))]
 fn copied(entry: Option<&Entry>) -> Result<Option<Entry>, NoMemory>
     ensures { IfOk result (λ r. MatchOption entry.entry (r ≡ None) (λ e. r ≡ Some e.now)) }
 {

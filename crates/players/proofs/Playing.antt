@@ -16,7 +16,8 @@ use Rattle.world_runs.specs.Moments.{Actor}
 use Rattle.world_runs.specs.OwnRuns.{own_after, own_state}
 use Rattle.world_runs.specs.Races.{own_lines}
 use Rattle.world_runs.specs.Report.{answer_line}
-use Rattle.world_runs.specs.Standing.{IsInState, op_of}
+use Rattle.world_runs.specs.Standing.{IsInState}
+use Rattle.program_rules.specs.Asking.{running_op}
 use Rattle.world_runs.specs.ClientStates.{state_left_at}
 use Rattle.world_runs.proofs.OwnLines.{own_lines-append}
 use Rattle.clients.specs.declared.turned.Turned.TheVariants.{Going, Done}
@@ -106,13 +107,13 @@ module _ {P A : Type 0} (counts : A → Counts) (fits : P → A → Type 0) (act
 
   -- nothing is done
   module _ (names : List (List ℕ)) (p : P) (a : A) (fit : fits p a) (none : (state p a).running ≡ None) where
-    nothing_played : (act : Act) → DoesLine (actor p) (op_of (state p a).running) act [] (op_of (state p a).running)
+    nothing_played : (act : Act) → DoesLine (actor p) (running_op (state p a).running) act [] (running_op (state p a).running)
         → IsInState (state_left_at act) (state p a) → Plays names act p a p a None
     nothing_played act does turn = record
         { part = []; grown = laws.nothing p a fit; does = does; turn = turn; few = omega arith; shows = refl }
 
-    busy_none : op_of (state p a).running ≡ None
-    busy_none = ap op_of none
+    busy_none : running_op (state p a).running ≡ None
+    busy_none = ap running_op none
 
     pub steps_nothing : (n : ℕ) → (state p a).stopped ≡ false → Plays names (acts.Step n) p a p a None
     steps_nothing n goes_on = nothing_played (acts.Step n)
@@ -132,11 +133,11 @@ module _ {P A : Type 0} (counts : A → Counts) (fits : P → A → Type 0) (act
       → Plays names (acts.Step n) p a q b None
   steps_on names n p q a b fit then running goes_on goes =
       let keeps = on_keeps p q a b n goes in
-      let after : op_of (state q b).running ≡ Some (op p a) = laws.busy q b then (keeps.running running) ∙ ap Some (on_op p q a b n goes) in
+      let after : running_op (state q b).running ≡ Some (op p a) = laws.busy q b then (keeps.running running) ∙ ap Some (on_op p q a b n goes) in
       record {
         part = goes.acts;
         grown = goes.grown;
-        does = subst (λ (o : Option OpId). DoesLine (actor p) o (acts.Step n) goes.acts (op_of (state q b).running))
+        does = subst (λ (o : Option OpId). DoesLine (actor p) o (acts.Step n) goes.acts (running_op (state q b).running))
             (sym (laws.busy p a fit running)) (inl (goes.are_acts, after));
         turn = keeps.stopped ∙ goes_on;
         few = omega (arith, keeps.number);
@@ -165,15 +166,15 @@ module _ {P A : Type 0} (counts : A → Counts) (fits : P → A → Type 0) (act
     end_after : EndsAfter (op p a) end.count part
     end_after = (end.acts, end.end, refl, end.are_acts, is_end (op p a) end.end x end.ends)
 
-    ended : op_of (state q b).running ≡ None
-    ended = ap op_of rests.running
+    ended : running_op (state q b).running ≡ None
+    ended = ap running_op rests.running
 
     module _ (fit : fits p a) (running : IsSome (state p a).running) (goes_on : (state p a).stopped ≡ false) where
       pub runs_on : Plays names acts.Run p a q b (Some line)
       runs_on = record {
         part = part;
         grown = end.grown;
-        does = subst (λ (o : Option OpId). DoesLine (actor p) o acts.Run part (op_of (state q b).running)) (sym (laws.busy p a fit running))
+        does = subst (λ (o : Option OpId). DoesLine (actor p) o acts.Run part (running_op (state q b).running)) (sym (laws.busy p a fit running))
             ((end.count, end_after), ended);
         turn = (rests.running, rests.stopped ∙ goes_on);
         few = omega (arith, rests.number);
@@ -184,7 +185,7 @@ module _ {P A : Type 0} (counts : A → Counts) (fits : P → A → Type 0) (act
       steps_to_end n few = record {
         part = part;
         grown = end.grown;
-        does = subst (λ (o : Option OpId). DoesLine (actor p) o (acts.Step n) part (op_of (state q b).running))
+        does = subst (λ (o : Option OpId). DoesLine (actor p) o (acts.Step n) part (running_op (state q b).running))
             (sym (laws.busy p a fit running)) (inr (end.count, few, end_after, ended));
         turn = rests.stopped ∙ goes_on;
         few = omega (arith, rests.number);
@@ -215,8 +216,8 @@ module _ {P A : Type 0} (counts : A → Counts) (fits : P → A → Type 0) (act
     begins fit = record {
       part = begun.begin ∷ [];
       grown = begun.grown;
-      does = subst (λ (o : Option OpId). DoesLine (actor p) o (acts.Begin c) (begun.begin ∷ []) (op_of (state q b).running))
-          (sym (ap op_of none))
+      does = subst (λ (o : Option OpId). DoesLine (actor p) o (acts.Begin c) (begun.begin ∷ []) (running_op (state q b).running))
+          (sym (ap running_op none))
           (next, begun.begin, refl, refl, begun.begins, laws.busy q b fit starts.some ∙ ap Some begun_op);
       turn = starts.stopped ∙ goes_on;
       few = omega (arith, starts.number);
@@ -234,8 +235,8 @@ module _ {P A : Type 0} (counts : A → Counts) (fits : P → A → Type 0) (act
         record {
           part = begun.begin ∷ rest;
           grown = laws.both p q r a b d (begun.begin ∷ []) rest begun.grown end.grown;
-          does = subst (λ (o : Option OpId). DoesLine (actor p) o (acts.Do c) (begun.begin ∷ rest) (op_of (state r d).running))
-              (sym (ap op_of none))
+          does = subst (λ (o : Option OpId). DoesLine (actor p) o (acts.Do c) (begun.begin ∷ rest) (running_op (state r d).running))
+              (sym (ap running_op none))
               ((next, begun.begin, rest, refl, refl, begun.begins, ends), ended names q r b d x end line is);
           turn = (after.running, after.stopped ∙ starts.stopped ∙ goes_on);
           few = omega (arith, after.number, starts.number);
@@ -263,8 +264,8 @@ module _ {P A : Type 0} (counts : A → Counts) (fits : P → A → Type 0) (act
       record {
         part = Stopped (op p a) ∷ [];
         grown = grown;
-        does = subst (λ (o : Option OpId). DoesLine (actor p) o acts.Stop (Stopped (op p a) ∷ []) (op_of (state q b).running))
-            (sym (laws.busy p a fit running)) (refl, ap op_of none);
+        does = subst (λ (o : Option OpId). DoesLine (actor p) o acts.Stop (Stopped (op p a) ∷ []) (running_op (state q b).running))
+            (sym (laws.busy p a fit running)) (refl, ap running_op none);
         turn = none;
         few = omega (arith, number);
         shows = ap (λ (l : ReportLine). l ∷ []) is ∙ ap (λ (o : OpId). answer_line names (history q b) o answers.Stopped ∷ []) same

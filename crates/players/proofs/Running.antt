@@ -12,7 +12,7 @@ use Rattle.world_runs.specs.declared.event.Event.{Event}
 use Rattle.world_runs.specs.declared.event.Event.TheVariants.{Began, NotBegun, Acted, Ended, Stopped, Failed, Dumped}
 use Rattle.world_runs.specs.Moments.{Actor, idle_actor, heard}
 use Rattle.world_runs.specs.Races.{is_own}
-use Rattle.world_runs.specs.Standing.{op_of}
+use Rattle.program_rules.specs.Asking.{running_op}
 use Rattle.world_runs.specs.Events.{own}
 use Rattle.world_runs.specs.OwnRuns.{own_after, own_state}
 use Rattle.world_runs.proofs.Actors.{one_number}
@@ -75,7 +75,7 @@ runs_last counts a s (e ∷ es) mine last = runs_last counts a (own_after counts
 -- ---- of a client
 
 busy_by : (a n : ℕ) (o : Option Program) → IsSome o → ForSome o (λ p. (p.op.actor ≡ a) × (p.op.number ≡ n))
-    → op_of o ≡ Some (record { actor = a; number = n })
+    → running_op o ≡ Some (record { actor = a; number = n })
 busy_by a n None is last = absurd cc
 busy_by a n (Some p) is last =
     let own = last p refl in
@@ -88,4 +88,4 @@ busy_some life is runs =
     (runs_last life.counts life.actor idle_actor (events_in life) (all_own life.actor (events_in life) is.own) (λ p none. absurd cc))
 
 pub busy_none : (life : ClientLife) → (state_in life).running ≡ None → busy_in life ≡ None
-busy_none life none = ap op_of none
+busy_none life none = ap running_op none

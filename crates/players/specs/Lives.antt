@@ -3,13 +3,13 @@ use Rattle.std.specs.Prelude.{ℕ, Option, List, ◌++◌}
 use Rattle.tect_ids.specs.declared.ids.OpId.{OpId}
 use Rattle.entry_words.specs.declared.entry.Moment.{Moment}
 use Rattle.world_runs.specs.declared.event.Event.{Event}
-use Rattle.world_runs.specs.Standing.{op_of}
+use Rattle.program_rules.specs.Asking.{running_op}
 use Rattle.world_runs.specs.Events.{events_of}
 use Rattle.clients.specs.Lives.{ClientLife, state_in}
 
 -- its op that has begun and not ended
 abbrev pub busy_in : ClientLife → Option OpId
-busy_in life = op_of (state_in life).running
+busy_in life = running_op (state_in life).running
 
 -- the client after further moments, or further events of refused ops, with its pass's clock at that number
 abbrev pub grown : ClientLife → ℕ → List Moment → List Event → ClientLife

@@ -13,7 +13,8 @@ use Rattle.world_runs.specs.Follows.{Acts, DoesLine, IsBeginOf}
 use Rattle.world_runs.specs.Moments.{Actor}
 use Rattle.world_runs.specs.OwnRuns.{own_state}
 use Rattle.world_runs.specs.Races.{own_lines}
-use Rattle.world_runs.specs.Standing.{IsInState, op_of}
+use Rattle.world_runs.specs.Standing.{IsInState}
+use Rattle.program_rules.specs.Asking.{running_op}
 use Rattle.world_runs.specs.ClientStates.{state_left_at}
 use Rattle.clients.specs.declared.turned.Turned.{Turned}
 use Rattle.clients.specs.declared.turned.Turned.TheVariants.{Going, Done}
@@ -86,7 +87,7 @@ pub record IsPlayer {P A : Type 0} (counts : A → Counts) (fits : P → A → T
   pub same_counts : (p q : P) (a b : A) (es : List Event) → grows p a q b es → counts b ≡ counts a
   pub more_history : (p q : P) (a b : A) (es : List Event) → grows p a q b es → history q b ≡ history p a ++ es
   pub next_state : (p q : P) (a b : A) (es : List Event) → grows p a q b es → state q b ≡ own_state (counts a) (state p a) es
-  pub busy : (p : P) (a : A) → fits p a → IsSome (state p a).running → op_of (state p a).running ≡ Some (op_at (actor p) (state p a))
+  pub busy : (p : P) (a : A) → fits p a → IsSome (state p a).running → running_op (state p a).running ≡ Some (op_at (actor p) (state p a))
 
 -- ---- a line
 
@@ -100,7 +101,7 @@ pub record Played {P A : Type 0} (counts : A → Counts) (actor : P → ℕ) (hi
     (told : Option ReportLine) : Type 0 where
   pub part : List Event
   pub grown : grows p a q b part
-  pub does : DoesLine (actor p) (op_of (state p a).running) act part (op_of (state q b).running)
+  pub does : DoesLine (actor p) (running_op (state p a).running) act part (running_op (state q b).running)
   pub turn : IsInState (state_left_at act) (state q b)
   pub few : (state q b).number ≤ (state p a).number + 1
   pub shows : told_lines told ≡ own_lines (counts a) names (actor p) (history p a) part

@@ -38,6 +38,6 @@ abbrev pub WasRefused : Option Program → Type 0
 WasRefused None = Unit {0}
 WasRefused (Some p) = p.phase ≡ End no_room
 
-abbrev pub op_running : Option Program → Option OpId
-op_running None = None
-op_running (Some p) = Some p.op
+abbrev pub running_op : Option Program → Option OpId
+running_op None = None
+running_op (Some p) = Some p.op

@@ -1,5 +1,5 @@
 -- a run within its limits is all that is claimed of a history
-use Rattle.std.proofs.Common.{◌≡◌, ◌≢◌, ℕ, zero, suc, Some, List, [], ◌∷◌, take, ap, ◌∙◌, subst}
+use Rattle.std.proofs.Common.{◌≡◌, ◌≢◌, ℕ, Some, List, take, ap, ◌∙◌}
 use Rattle.std.specs.List.{slice_get}
 use Rattle.tect_ids.specs.declared.ids.Counts.{Counts}
 use Rattle.tect_ids.specs.declared.ids.OpId.{OpId}
@@ -8,18 +8,12 @@ use Rattle.tect_ids.specs.declared.answer.Answer.{Answer}
 use Rattle.tect_ids.specs.declared.answer.Answer.TheVariants.{Odd}
 use Rattle.world_runs.specs.declared.event.Event.{Event}
 use Rattle.world_runs.specs.declared.event.Event.TheVariants.{Ended}
-use Rattle.world_runs.specs.Moments.{WorldState, IsWorldRun, May, RunFrom, after, after_all, answered, moment, opening}
-use Rattle.script_runs.proofs.Histories.{front_runs}
+use Rattle.world_runs.specs.Moments.{IsWorldRun, answered, moment, opening}
+use Rattle.world_runs.proofs.Fronts.{front_runs, may_at}
 use Rattle.sound_runs.proofs.RunsKeep.{no_run_answers_odd, sound_at_each_moment}
 use Rattle.tree_runs.proofs.Headlines.{run_headline}
 use Rattle.run_claims.proofs.RunsShort.{each_is_short}
 use Rattle.run_claims.specs.Claims.{EveryRunIsClaimed}
-
--- each event of a run may happen at the moment after those before it
-may_at : (m : WorldState) (es : List Event) (n : ℕ) (e : Event) → RunFrom m es → slice_get es n ≡ Some e → May (after_all m (take n es)) e
-may_at m [] n e run at = absurd cc
-may_at m (f ∷ es) zero e run at = let same : f ≡ e = cc in subst (λ (x : Event). May m x) same run.0
-may_at m (f ∷ es) (suc n) e run at = may_at (after m f) es n e run.1 at
 
 no_end_is_odd : (counts : Counts) (history : List Event) → IsWorldRun counts history → (op : OpId) (a : Answer) (n : ℕ)
     → slice_get history n ≡ Some (Ended op a)

@@ -289,7 +289,7 @@ pub record Begins (m : WorldState) (e : Event) (op : OpId) : Type 0 where
   pub runs : Runs (after m e) op (started op command)
   pub none : IsNone op e
 
--- it is not_begun: it runs with nothing left to do
+-- it is refused: it runs with nothing left to do
 pub record Declines (m : WorldState) (e : Event) (op : OpId) : Type 0 where
   pub program : Program
   pub runs : Runs (after m e) op program
@@ -301,7 +301,7 @@ pub record Declines (m : WorldState) (e : Event) (op : OpId) : Type 0 where
 abbrev pub Starts : WorldState → Event → OpId → Type 0
 Starts m e op = Begins m e op ⊎ Declines m e op
 
--- the program of an op that was not_begun
+-- the program of an op that was refused
 abbrev declined : OpId → Command → Program
 declined op c = record { op = op; command = c; phase = End no_room }
 

@@ -275,9 +275,9 @@ module _ (full : List Event → ℕ → Bool) where
     refuses = c.refuses;
   }
 
-  module _ (client : List ℕ) (a : ℕ) (act : Act) (ls : List Line) (before : List Event) (m : WorldState) (turns : ClientStates) (k : ℕ)
+  module _ (client : List ℕ) (a : ℕ) (act : Act) (ls : List Line) (before : List Event) (m : WorldState) (states : ClientStates) (k : ℕ)
       (s : AllWell m)
-      (in_turn : FitStatesFrom turns (lines.Client client a act ∷ ls)) (all : AllStand m turns k) where
+      (in_turn : FitStatesFrom states (lines.Client client a act ∷ ls)) (all : AllStand m states k) where
     -- the first line began, and the others did not
     line_then : (h : List Event) → k + 1 + length ls < 2 ^ 31 → Completes m a (busy_at m a) act h
         → CanFinish before h m (lines.Client client a act ∷ ls)
@@ -286,8 +286,8 @@ module _ (full : List Event → ℕ → Bool) where
         let n : WorldState = after_all m part in
         let done : IsDone m n a act c.next = line_does m s a act part c.next c.run c.does in
         let rest : CanRunOut full (before ++ c.tail) n ls =
-        lines_run_out full ls (before ++ c.tail) n (with_state turns a (state_left_at act)) (k + 1) (run_well part m s c.run) in_turn.3
-        (stand_after m n turns k a act part c.next done c.does in_turn.2 all) few in
+        lines_run_out full ls (before ++ c.tail) n (with_state states a (state_left_at act)) (k + 1) (run_well part m s c.run) in_turn.3
+        (stand_after m n states k a act part c.next done c.does in_turn.2 all) few in
         let one : part ++ rest.events ≡ h ++ (c.tail ++ rest.events) = append_assoc h c.tail rest.events in
         record {
           events = c.tail ++ rest.events;
@@ -334,17 +334,17 @@ module _ (full : List Event → ℕ → Bool) where
           refuses = f.refuses;
         }
 
-  cut_run_out : (front back : List Line) (before h rest : List Event) (m : WorldState) (turns : ClientStates) (k : ℕ) → AllWell m
-      → FitStatesFrom turns (front ++ back) → AllStand m turns k
+  cut_run_out : (front back : List Line) (before h rest : List Event) (m : WorldState) (states : ClientStates) (k : ℕ) → AllWell m
+      → FitStatesFrom states (front ++ back) → AllStand m states k
       → k + length (front ++ back) < 2 ^ 31 → RunFrom m h → FollowsFrom (busy_at m) front (h ++ rest) → EndsAtOnce m (h ++ rest)
       → CanFinish before h m (front ++ back)
-  cut_run_out front back before [] rest m turns k s in_turn all few run f at_once = from_here before m (front ++ back)
-      (lines_run_out full (front ++ back) before m turns k s in_turn all few)
-  cut_run_out [] back before (d ∷ h) rest m turns k s in_turn all few run f at_once = absurd (let z : d ∷ h ++ rest ≡ [] = f in cc)
-  cut_run_out (lines.Client client a act ∷ ls) back before (d ∷ h) rest m turns k s in_turn all few run f at_once =
+  cut_run_out front back before [] rest m states k s in_turn all few run f at_once = from_here before m (front ++ back)
+      (lines_run_out full (front ++ back) before m states k s in_turn all few)
+  cut_run_out [] back before (d ∷ h) rest m states k s in_turn all few run f at_once = absurd (let z : d ∷ h ++ rest ≡ [] = f in cc)
+  cut_run_out (lines.Client client a act ∷ ls) back before (d ∷ h) rest m states k s in_turn all few run f at_once =
       elim (fronts (d ∷ h) rest f.0 f.1 f.3) [
         | inl w ↦
-            line_then client a act (ls ++ back) before m turns k s in_turn all (d ∷ h) (omega (arith, few))
+            line_then client a act (ls ++ back) before m states k s in_turn all (d ∷ h) (omega (arith, few))
             (line_on m s a d h w.tail run (busy_at m a) act f.2 refl (λ op is. (busy_is m s a op is).own)
             (subst (λ (l : List Event). DoesLine a (busy_at m a) act l f.2) w.parts f.4))
         | inr b ↦
@@ -360,19 +360,19 @@ module _ (full : List Event → ℕ → Bool) where
             (b.first ∷ b.tail) rest in
             let later : EndsAtOnce n (b.first ∷ b.tail ++ rest) = at_once-rest m part (b.first ∷ b.tail ++ rest)
             (subst (λ (l : List Event). EndsAtOnce m l) parts at_once) in
-            line_done_then client a act (ls ++ back) before m turns k s in_turn all (d ∷ h) rest part f.2 b.first b.tail b.parts mine f.4
+            line_done_then client a act (ls ++ back) before m states k s in_turn all (d ∷ h) rest part f.2 b.first b.tail b.parts mine f.4
             at_once
-            (cut_run_out ls back before (b.first ∷ b.tail) rest n (with_state turns a (state_left_at act)) (k + 1) (run_well part m s mine)
+            (cut_run_out ls back before (b.first ∷ b.tail) rest n (with_state states a (state_left_at act)) (k + 1) (run_well part m s mine)
             in_turn.3
-            (stand_after m n turns k a act part f.2 done f.4 in_turn.2 all) (omega (arith, few)) (run-rest m part (b.first ∷ b.tail) both)
+            (stand_after m n states k a act part f.2 done f.4 in_turn.2 all) (omega (arith, few)) (run-rest m part (b.first ∷ b.tail) both)
             on later)
       ]
-  cut_run_out (lines.Dump ∷ ls) back before (d ∷ h) rest m turns k s in_turn all few run f at_once =
+  cut_run_out (lines.Dump ∷ ls) back before (d ∷ h) rest m states k s in_turn all few run f at_once =
       let same : d ≡ Dumped = (let z : d ∷ h ++ rest ≡ Dumped ∷ f.0 = f.1 in cc) in
       let others : f.0 ≡ h ++ rest = (let z : d ∷ h ++ rest ≡ Dumped ∷ f.0 = f.1 in cc) in
       let ran : RunFrom m (Dumped ∷ h) = subst (λ (e : Event). RunFrom m (e ∷ h)) same run in
       let once : EndsAtOnce m (Dumped ∷ h ++ rest) = subst (λ (e : Event). EndsAtOnce m (e ∷ h ++ rest)) same at_once in
-      let c : CanFinish before h m (ls ++ back) = cut_run_out ls back before h rest m turns k s in_turn all (omega (arith, few)) ran.1
+      let c : CanFinish before h m (ls ++ back) = cut_run_out ls back before h rest m states k s in_turn all (omega (arith, few)) ran.1
       (subst (λ (l : List Event). FollowsFrom (busy_at m) ls l) others f.2) once.1 in
       record {
         events = c.events;
@@ -381,9 +381,9 @@ module _ (full : List Event → ℕ → Bool) where
         at_once = subst (λ (e : Event). EndsAtOnce m (e ∷ h ++ c.events)) (sym same) (tt, c.at_once);
         refuses = c.refuses;
       }
-  cut_run_out (lines.Store counts ∷ ls) back before (d ∷ h) rest m turns k s in_turn all few run f at_once = absurd f
-  cut_run_out (lines.Sweep ∷ ls) back before (d ∷ h) rest m turns k s in_turn all few run f at_once = absurd f
-  cut_run_out (lines.Lose disk ∷ ls) back before (d ∷ h) rest m turns k s in_turn all few run f at_once = absurd f
+  cut_run_out (lines.Store counts ∷ ls) back before (d ∷ h) rest m states k s in_turn all few run f at_once = absurd f
+  cut_run_out (lines.Sweep ∷ ls) back before (d ∷ h) rest m states k s in_turn all few run f at_once = absurd f
+  cut_run_out (lines.Lose disk ∷ ls) back before (d ∷ h) rest m states k s in_turn all few run f at_once = absurd f
 
 pub each_cut_line_can_be_run_out : EachCutLineCanBeRunOut
 each_cut_line_can_be_run_out full counts front back history rest in_turn few run f at_once =

@@ -1,4 +1,4 @@
--- a run follows on, and its actors stand by their turns
+-- a run follows on, and its actors stand by their clients' states
 use Rattle.std.proofs.Common.{◌≡◌, ◌≢◌, ℕ, ◌+◌, List, [], ◌∷◌, ◌++◌, length, Option, refl, sym, ap, subst, ◌∙◌, arith, append_assoc}
 use Rattle.tect_ids.specs.declared.ids.Counts.{Counts}
 use Rattle.tect_ids.specs.declared.ids.OpId.{OpId}
@@ -72,54 +72,54 @@ pub run_follows_on : RunFollowsOn
 run_follows_on counts front back history more run f then =
     follows_on front back (opening counts) history more (opening_well counts) (run-front (opening counts) history more run) f then
 
--- ---- turns
+-- ---- states
 
-pub turn_front : (front back : List Line) (turns : ClientStates) → FitStatesFrom turns (front ++ back) → FitStatesFrom turns front
-turn_front [] back turns t = tt
-turn_front (lines.Client client a act ∷ ls) back turns t = (t.0, t.1, t.2, turn_front ls back (with_state turns a (state_left_at act)) t.3)
-turn_front (lines.Dump ∷ ls) back turns t = turn_front ls back turns t
-turn_front (lines.Store counts ∷ ls) back turns t = absurd t
-turn_front (lines.Sweep ∷ ls) back turns t = absurd t
-turn_front (lines.Lose disk ∷ ls) back turns t = absurd t
+pub turn_front : (front back : List Line) (states : ClientStates) → FitStatesFrom states (front ++ back) → FitStatesFrom states front
+turn_front [] back states t = tt
+turn_front (lines.Client client a act ∷ ls) back states t = (t.0, t.1, t.2, turn_front ls back (with_state states a (state_left_at act)) t.3)
+turn_front (lines.Dump ∷ ls) back states t = turn_front ls back states t
+turn_front (lines.Store counts ∷ ls) back states t = absurd t
+turn_front (lines.Sweep ∷ ls) back states t = absurd t
+turn_front (lines.Lose disk ∷ ls) back states t = absurd t
 
-pub turn_back : (front back : List Line) (turns : ClientStates) → FitStatesFrom turns (front ++ back)
-    → FitStatesFrom (states_after turns front) back
-turn_back [] back turns t = t
-turn_back (lines.Client client a act ∷ ls) back turns t = turn_back ls back (with_state turns a (state_left_at act)) t.3
-turn_back (lines.Dump ∷ ls) back turns t = turn_back ls back turns t
-turn_back (lines.Store counts ∷ ls) back turns t = absurd t
-turn_back (lines.Sweep ∷ ls) back turns t = absurd t
-turn_back (lines.Lose disk ∷ ls) back turns t = absurd t
+pub turn_back : (front back : List Line) (states : ClientStates) → FitStatesFrom states (front ++ back)
+    → FitStatesFrom (states_after states front) back
+turn_back [] back states t = t
+turn_back (lines.Client client a act ∷ ls) back states t = turn_back ls back (with_state states a (state_left_at act)) t.3
+turn_back (lines.Dump ∷ ls) back states t = turn_back ls back states t
+turn_back (lines.Store counts ∷ ls) back states t = absurd t
+turn_back (lines.Sweep ∷ ls) back states t = absurd t
+turn_back (lines.Lose disk ∷ ls) back states t = absurd t
 
 -- each actor stands so, and began at most that many commands
 abbrev pub AllStand : WorldState → ClientStates → ℕ → Type 0
-AllStand m turns n = (a : ℕ) → Stands (turns a) n (m.actors a)
+AllStand m states n = (a : ℕ) → Stands (states a) n (m.actors a)
 
--- they stand by the turns after a line
-pub stand_after : (m n : WorldState) (turns : ClientStates) (k a : ℕ) (act : Act) (part : List Event) (next : Option OpId)
+-- they stand by the states after a line
+pub stand_after : (m n : WorldState) (states : ClientStates) (k a : ℕ) (act : Act) (part : List Event) (next : Option OpId)
     → IsDone m n a act next
     → DoesLine a (busy_at m a) act part next
-    → TakesAct (turns a) act → AllStand m turns k → AllStand n (with_state turns a (state_left_at act)) (k + 1)
-stand_after m n turns k a act part next done does takes all b =
-    changed (λ t. Stands t (k + 1) (n.actors b)) turns a (state_left_at act) b (λ e. rw e own) other
+    → TakesAct (states a) act → AllStand m states k → AllStand n (with_state states a (state_left_at act)) (k + 1)
+stand_after m n states k a act part next done does takes all b =
+    changed (λ t. Stands t (k + 1) (n.actors b)) states a (state_left_at act) b (λ e. rw e own) other
   where
     own : Stands (state_left_at act) (k + 1) (n.actors a)
     own = record {
-      stands = turn_stands m n a (busy_at m a) (turns a) act part next done does takes (all a).stands;
+      stands = turn_stands m n a (busy_at m a) (states a) act part next done does takes (all a).stands;
       began = omega (arith, done.number, (all a).began);
     }
 
-    other : b ≢ a → Stands (turns b) (k + 1) (n.actors b)
+    other : b ≢ a → Stands (states b) (k + 1) (n.actors b)
     other d = rw (done.others b d) record { stands = (all b).stands; began = omega (arith, (all b).began) }
 
 -- so they do after all lines
-pub stand_by_turn : (ls : List Line) (m : WorldState) (turns : ClientStates) (k : ℕ) (history : List Event) → AllWell m
-    → FitStatesFrom turns ls
+pub stand_by_turn : (ls : List Line) (m : WorldState) (states : ClientStates) (k : ℕ) (history : List Event) → AllWell m
+    → FitStatesFrom states ls
     → RunFrom m history → FollowsFrom (busy_at m) ls history
-    → AllStand m turns k → AllStand (after_all m history) (states_after turns ls) (k + length ls)
-stand_by_turn [] m turns k history s in_turn run f all = rw f
+    → AllStand m states k → AllStand (after_all m history) (states_after states ls) (k + length ls)
+stand_by_turn [] m states k history s in_turn run f all = rw f
     (λ a. record { stands = (all a).stands; began = omega (arith, (all a).began) })
-stand_by_turn (lines.Client client a act ∷ ls) m turns k history s in_turn run f all =
+stand_by_turn (lines.Client client a act ∷ ls) m states k history s in_turn run f all =
     let part : List Event = f.0 in
     let rest : List Event = f.1 in
     let whole : RunFrom m (part ++ rest) = rw f.3 at run in
@@ -127,20 +127,20 @@ stand_by_turn (lines.Client client a act ∷ ls) m turns k history s in_turn run
     let n : WorldState = after_all m part in
     let done : IsDone m n a act f.2 = line_does m s a act part f.2 mine f.4 in
     let on : FollowsFrom (busy_at n) ls rest = subst (λ (b : Busy). FollowsFrom b ls rest) (busy_after m n a act f.2 done) f.5 in
-    let now : AllStand n (with_state turns a (state_left_at act)) (k + 1) = stand_after m n turns k a act part f.2 done f.4 in_turn.2 all in
-    let last : AllStand (after_all n rest) (states_after (with_state turns a (state_left_at act)) ls) (k + 1 + length ls) =
-    stand_by_turn ls n (with_state turns a (state_left_at act)) (k + 1) rest (run_well part m s mine) in_turn.3 (run-rest m part rest whole)
+    let now : AllStand n (with_state states a (state_left_at act)) (k + 1) = stand_after m n states k a act part f.2 done f.4 in_turn.2 all in
+    let last : AllStand (after_all n rest) (states_after (with_state states a (state_left_at act)) ls) (k + 1 + length ls) =
+    stand_by_turn ls n (with_state states a (state_left_at act)) (k + 1) rest (run_well part m s mine) in_turn.3 (run-rest m part rest whole)
     on now in
     rw (moment_by m history part rest f.3) (λ b. record { stands = (last b).stands; began = omega (arith, (last b).began) })
-stand_by_turn (lines.Dump ∷ ls) m turns k history s in_turn run f all =
+stand_by_turn (lines.Dump ∷ ls) m states k history s in_turn run f all =
     let rest : List Event = f.0 in
     let whole : RunFrom m (Dumped ∷ rest) = rw f.1 at run in
-    let last : AllStand (after_all m rest) (states_after turns ls) (k + length ls) = stand_by_turn ls m turns k rest s in_turn whole.1 f.2
+    let last : AllStand (after_all m rest) (states_after states ls) (k + length ls) = stand_by_turn ls m states k rest s in_turn whole.1 f.2
     all in
     rw f.1 (λ b. record { stands = (last b).stands; began = omega (arith, (last b).began) })
-stand_by_turn (lines.Store counts ∷ ls) m turns k history s in_turn run f all = absurd f
-stand_by_turn (lines.Sweep ∷ ls) m turns k history s in_turn run f all = absurd f
-stand_by_turn (lines.Lose disk ∷ ls) m turns k history s in_turn run f all = absurd f
+stand_by_turn (lines.Store counts ∷ ls) m states k history s in_turn run f all = absurd f
+stand_by_turn (lines.Sweep ∷ ls) m states k history s in_turn run f all = absurd f
+stand_by_turn (lines.Lose disk ∷ ls) m states k history s in_turn run f all = absurd f
 
 -- before any line
 pub opening_stand : (counts : Counts) → AllStand (opening counts) all_idle 0

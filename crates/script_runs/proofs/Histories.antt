@@ -1,5 +1,5 @@
 -- histories that grow: their runs and lines, and that none of their commands fails
-use Rattle.std.proofs.Common.{◌≡◌, ◌≤◌, arith, ℕ, zero, suc, take, List, [], ◌∷◌, ◌++◌, sym, ap, ◌∙◌, append_assoc}
+use Rattle.std.proofs.Common.{◌≡◌, ◌≤◌, arith, ℕ, List, [], ◌∷◌, ◌++◌, sym, ap, ◌∙◌, append_assoc}
 use Rattle.std.proofs.lemmas.List.{append-nil}
 use Rattle.tect_ids.specs.declared.ids.Counts.{Counts}
 use Rattle.tect_ids.specs.declared.ids.OpId.{OpId}
@@ -22,12 +22,6 @@ run-rest m (e ∷ es) fs r = run-rest (after m e) es fs r.1
 pub run-append : (m : WorldState) (es fs : List Event) → RunFrom m es → RunFrom (after_all m es) fs → RunFrom m (es ++ fs)
 run-append m [] fs r q = q
 run-append m (e ∷ es) fs r q = (r.0, run-append (after m e) es fs r.1 q)
-
--- a front of a run is a run
-pub front_runs : (n : ℕ) (events : List Event) (m : WorldState) → RunFrom m events → RunFrom m (take n events)
-front_runs zero events m run = tt
-front_runs (suc n) [] m run = tt
-front_runs (suc n) (e ∷ es) m run = (run.0, front_runs n es (after m e) run.1)
 
 pub report-append : (counts : Counts) (clients : List (List ℕ)) (before es fs : List Event)
     → report_after counts clients before (es ++ fs) ≡ report_after counts clients before es ++ report_after counts clients (before ++ es) fs

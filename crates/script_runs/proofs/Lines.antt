@@ -12,8 +12,9 @@ use Rattle.world_runs.specs.declared.event.Event.TheVariants.{Stopped}
 use Rattle.world_runs.specs.Moments.{running, program_of, Actor, WorldState, after, after_all, RunFrom}
 use Rattle.world_runs.specs.Follows.{Acts, EndsAfter, IsBeginOf, BeginsAndEnds, DoesLine, with_busy}
 use Rattle.world_runs.specs.ClientStates.{ClientState, TakesAct, state_left_at}
-use Rattle.world_runs.specs.ClientStates as turns
-use Rattle.world_runs.specs.Standing.{op_of, busy_at, IsInState}
+use Rattle.world_runs.specs.ClientStates as states
+use Rattle.world_runs.specs.Standing.{busy_at, IsInState}
+use Rattle.program_rules.specs.Asking.{running_op}
 use Rattle.script_runs.proofs.Running.{AllWell}
 use Rattle.world_runs.proofs.Actors.{changed}
 use Rattle.script_runs.proofs.Moves.{Moves, Keeps, none_moves, moves_on, acts_move, ends_move, begin_moves, stopped_moves}
@@ -27,7 +28,7 @@ pub record IsBusy (m : WorldState) (a : ℕ) (op : OpId) : Type 0 where
   pub its : program.op ≡ op
   pub own : op.actor ≡ a
 
-program_of_op : (o : Option Program) (op : OpId) → op_of o ≡ Some op → (p : Program) × (o ≡ Some p) × (p.op ≡ op)
+program_of_op : (o : Option Program) (op : OpId) → running_op o ≡ Some op → (p : Program) × (o ≡ Some p) × (p.op ≡ op)
 program_of_op None op e = absurd (let k : None ≡ Some op = e in cc)
 program_of_op (Some p) op e = (p, refl, cc)
 
@@ -48,7 +49,7 @@ pub busy_runs : (m : WorldState) (a : ℕ) (op : OpId) → (b : IsBusy m a op) �
 busy_runs m a op b = runs_as_its_op (m.actors op.actor).running b.program op (rw b.own b.runs) b.its
 
 -- who is not busy runs nothing
-pub idle_is : (o : Option Program) → op_of o ≡ None → o ≡ None
+pub idle_is : (o : Option Program) → running_op o ≡ None → o ≡ None
 idle_is None e = refl
 idle_is (Some p) e = absurd (let k : Some p.op ≡ None = e in cc)
 
@@ -149,13 +150,13 @@ busy_so : (m n : WorldState) (a : ℕ) (act : Act) (next : Option OpId) → IsDo
     → with_busy (busy_at m) a next b ≡ busy_at n b
 busy_so m n a act next d b =
     changed (λ o. o ≡ busy_at n b) (busy_at m) a next b (λ e. rw e (sym d.busy))
-    (λ e. ap (λ (st : Actor). op_of st.running) (sym (d.others b e)))
+    (λ e. ap (λ (st : Actor). running_op st.running) (sym (d.others b e)))
 
 pub busy_after : (m n : WorldState) (a : ℕ) (act : Act) (next : Option OpId) → IsDone m n a act next
     → with_busy (busy_at m) a next ≡ busy_at n
 busy_after m n a act next d i b = busy_so m n a act next d b i
 
--- ---- turns
+-- ---- states
 
 -- where the line leaves no command running
 abbrev LeavesNone : Act → Type 0
@@ -184,20 +185,20 @@ module _ (m n : WorldState) (a : ℕ) (busy : Option OpId) (act : Act) (part : L
   rests : LeavesNone act → (n.actors a).running ≡ None
   rests r = idle_is (n.actors a).running (done.busy ∙ rests_next a busy act part next r does)
 
--- the actor stands as its turn after the line tells
-pub turn_stands : (m n : WorldState) (a : ℕ) (busy : Option OpId) (turn : ClientState) (act : Act) (part : List Event) (next : Option OpId)
+-- the actor stands as its client's state after the line tells
+pub turn_stands : (m n : WorldState) (a : ℕ) (busy : Option OpId) (state : ClientState) (act : Act) (part : List Event) (next : Option OpId)
     → IsDone m n a act next → DoesLine a busy act part next
-    → TakesAct turn act → IsInState turn (m.actors a) → IsInState (state_left_at act) (n.actors a)
-turn_stands m n a busy turns.Idle (acts.Do c) part next done does takes stood =
+    → TakesAct state act → IsInState state (m.actors a) → IsInState (state_left_at act) (n.actors a)
+turn_stands m n a busy states.Idle (acts.Do c) part next done does takes stood =
     (rests m n a busy (acts.Do c) part next done does tt, done.goes_on tt ∙ stood.1)
-turn_stands m n a busy turns.Idle (acts.Begin c) part next done does takes stood = done.goes_on tt ∙ stood.1
-turn_stands m n a busy turns.Idle (acts.Step k) part next done does takes stood = absurd takes
-turn_stands m n a busy turns.Idle acts.Run part next done does takes stood = absurd takes
-turn_stands m n a busy turns.Idle acts.Stop part next done does takes stood = absurd takes
-turn_stands m n a busy turns.Busy (acts.Do c) part next done does takes stood = absurd takes
-turn_stands m n a busy turns.Busy (acts.Begin c) part next done does takes stood = absurd takes
-turn_stands m n a busy turns.Busy (acts.Step k) part next done does takes stood = done.goes_on tt ∙ stood
-turn_stands m n a busy turns.Busy acts.Run part next done does takes stood =
+turn_stands m n a busy states.Idle (acts.Begin c) part next done does takes stood = done.goes_on tt ∙ stood.1
+turn_stands m n a busy states.Idle (acts.Step k) part next done does takes stood = absurd takes
+turn_stands m n a busy states.Idle acts.Run part next done does takes stood = absurd takes
+turn_stands m n a busy states.Idle acts.Stop part next done does takes stood = absurd takes
+turn_stands m n a busy states.Busy (acts.Do c) part next done does takes stood = absurd takes
+turn_stands m n a busy states.Busy (acts.Begin c) part next done does takes stood = absurd takes
+turn_stands m n a busy states.Busy (acts.Step k) part next done does takes stood = done.goes_on tt ∙ stood
+turn_stands m n a busy states.Busy acts.Run part next done does takes stood =
     (rests m n a busy acts.Run part next done does tt, done.goes_on tt ∙ stood)
-turn_stands m n a busy turns.Busy acts.Stop part next done does takes stood = rests m n a busy acts.Stop part next done does tt
-turn_stands m n a busy turns.Gone act part next done does takes stood = absurd takes
+turn_stands m n a busy states.Busy acts.Stop part next done does takes stood = rests m n a busy acts.Stop part next done does tt
+turn_stands m n a busy states.Gone act part next done does takes stood = absurd takes

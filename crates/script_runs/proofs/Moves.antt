@@ -12,7 +12,8 @@ use Rattle.world_runs.specs.declared.event.Event.TheVariants.{Began, NotBegun, A
 use Rattle.world_runs.specs.Moments.{Actor, WorldState, May, after, after_all, with_actor, heard, went_on, begun, not_begun}
 use Rattle.world_runs.specs.Follows.{Acts, IsEndOf, IsBeginOf, EndsAfter}
 use Rattle.world_runs.proofs.Actors.{after_all-append, changed, changed_there}
-use Rattle.world_runs.specs.Standing.{op_of, busy_at}
+use Rattle.world_runs.specs.Standing.{busy_at}
+use Rattle.program_rules.specs.Asking.{running_op}
 
 -- from one moment to another nothing but that actor changes: it has this number then, is stopped so, and is busy with this
 pub record Moves (m n : WorldState) (a i : ℕ) (halts : Bool) (op : Option OpId) : Type 0 where
@@ -39,16 +40,16 @@ moves_on m n k a number stopped busy last f s = record {
 
 -- the actor is put in this state
 pub put_moves : (m : WorldState) (s : Store) (a : ℕ) (state : Actor)
-    → Moves m (with_actor (record m { store = s }) a state) a state.number state.stopped (op_of state.running)
+    → Moves m (with_actor (record m { store = s }) a state) a state.number state.stopped (running_op state.running)
 put_moves m s a state = record {
   others = λ b d. changed (λ st. st ≡ m.actors b) m.actors a state b (λ e. absurd (d e)) (λ e. refl);
   number = changed_there (λ st. st.number ≡ state.number) m.actors a state refl;
   stopped = changed_there (λ st. st.stopped ≡ state.stopped) m.actors a state refl;
-  busy = changed_there (λ st. op_of st.running ≡ op_of state.running) m.actors a state refl;
+  busy = changed_there (λ st. running_op st.running ≡ running_op state.running) m.actors a state refl;
 }
 
 -- a program that hears a reply is the same op's
-heard_op : (counts : Counts) (serial : ℕ) (q : AnyReq) (x : AnyReply) (o : Option Program) → op_of (heard counts serial q x o) ≡ op_of o
+heard_op : (counts : Counts) (serial : ℕ) (q : AnyReq) (x : AnyReply) (o : Option Program) → running_op (heard counts serial q x o) ≡ running_op o
 heard_op counts serial q x None = refl
 heard_op counts serial q x (Some p) = refl
 

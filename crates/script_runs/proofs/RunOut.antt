@@ -22,9 +22,10 @@ use Rattle.world_runs.specs.Moments.{program_of, begun, not_begun}
 use Rattle.world_runs.specs.Follows.{IsEndOf, IsBeginOf, DoesLine, Busy, FollowsFrom}
 use Rattle.world_runs.specs.ClientStates.{ClientState, ClientStates, all_idle, with_state, state_left_at, states_after, TakesAct}
 use Rattle.world_runs.specs.ClientStates.{FitStatesFrom}
-use Rattle.world_runs.specs.ClientStates as turns
+use Rattle.world_runs.specs.ClientStates as states
 use Rattle.script_runs.proofs.Histories.{run-append}
-use Rattle.world_runs.specs.Standing.{op_of, busy_at, IsInState}
+use Rattle.world_runs.specs.Standing.{busy_at, IsInState}
+use Rattle.program_rules.specs.Asking.{running_op}
 use Rattle.world_runs.specs.Smooth.{EndsAtOnce}
 use Rattle.script_runs.proofs.Running.{AllWell, opening_well, run_well, all_well}
 use Rattle.script_runs.specs.RunningOut.{RefusesAsFull}
@@ -104,7 +105,7 @@ module _ (full : List Event → ℕ → Bool) where
 
   -- an idle actor
   module _ (before : List Event) (m : WorldState) (a : ℕ) (c : Command) (from : 1 ≤ a) (upto : a ≤ 64) (served : IsServed c)
-      (stood : IsInState turns.Idle (m.actors a))
+      (stood : IsInState states.Idle (m.actors a))
       (few : (m.actors a).number + 1 < 2 ^ 31) where
     -- its next op
     abbrev op : OpId
@@ -113,7 +114,7 @@ module _ (full : List Event → ℕ → Bool) where
     can_begin : CanBegin (m.actors a) op
     can_begin = record { idle = stood.0; goes_on = stood.1; next = refl; few = few; is_actor = (from, omega (arith, upto)) }
 
-    -- it begins the command, or is not_begun
+    -- it begins the command, or is refused
     record Begins : Type 0 where
       begin : Event
       may : May m begin
@@ -122,7 +123,7 @@ module _ (full : List Event → ℕ → Bool) where
       runs : running (after m begin) op ≡ Some program
       refuses : RefusesAsFull full before (begin ∷ [])
 
-    -- the program of a not_begun op
+    -- the program of a refused op
     abbrev declined : Program
     declined = record { op = op; command = c; phase = End no_room }
 
@@ -208,22 +209,22 @@ module _ (full : List Event → ℕ → Bool) where
         }
 
     -- any line in turn
-    line_can : (turn : ClientState) (act : Act) → 1 ≤ a → a ≤ 64 → TakesAct turn act → IsInState turn (m.actors a)
+    line_can : (state : ClientState) (act : Act) → 1 ≤ a → a ≤ 64 → TakesAct state act → IsInState state (m.actors a)
         → (m.actors a).number + 1 < 2 ^ 31 → CanDo before m a (busy_at m a) act
-    line_can turns.Idle (acts.Do c) from upto takes stood few =
-        subst (λ (o : Option OpId). CanDo before m a o (acts.Do c)) (sym (ap op_of stood.0)) (do_can before m a c from upto takes stood few)
-    line_can turns.Idle (acts.Begin c) from upto takes stood few =
-        subst (λ (o : Option OpId). CanDo before m a o (acts.Begin c)) (sym (ap op_of stood.0))
+    line_can states.Idle (acts.Do c) from upto takes stood few =
+        subst (λ (o : Option OpId). CanDo before m a o (acts.Do c)) (sym (ap running_op stood.0)) (do_can before m a c from upto takes stood few)
+    line_can states.Idle (acts.Begin c) from upto takes stood few =
+        subst (λ (o : Option OpId). CanDo before m a o (acts.Begin c)) (sym (ap running_op stood.0))
         (begin_can before m a c from upto takes stood few)
-    line_can turns.Idle (acts.Step n) from upto takes stood few = absurd takes
-    line_can turns.Idle acts.Run from upto takes stood few = absurd takes
-    line_can turns.Idle acts.Stop from upto takes stood few = absurd takes
-    line_can turns.Busy (acts.Do c) from upto takes stood few = absurd takes
-    line_can turns.Busy (acts.Begin c) from upto takes stood few = absurd takes
-    line_can turns.Busy (acts.Step n) from upto takes stood few = step_can n (busy_at m a) refl
-    line_can turns.Busy acts.Run from upto takes stood few = run_can (busy_at m a) refl
-    line_can turns.Busy acts.Stop from upto takes stood few = stop_can (busy_at m a) refl
-    line_can turns.Gone act from upto takes stood few = absurd takes
+    line_can states.Idle (acts.Step n) from upto takes stood few = absurd takes
+    line_can states.Idle acts.Run from upto takes stood few = absurd takes
+    line_can states.Idle acts.Stop from upto takes stood few = absurd takes
+    line_can states.Busy (acts.Do c) from upto takes stood few = absurd takes
+    line_can states.Busy (acts.Begin c) from upto takes stood few = absurd takes
+    line_can states.Busy (acts.Step n) from upto takes stood few = step_can n (busy_at m a) refl
+    line_can states.Busy acts.Run from upto takes stood few = run_can (busy_at m a) refl
+    line_can states.Busy acts.Stop from upto takes stood few = stop_can (busy_at m a) refl
+    line_can states.Gone act from upto takes stood few = absurd takes
 
   -- ---- lines
 
@@ -234,19 +235,19 @@ module _ (full : List Event → ℕ → Bool) where
     pub follows : FollowsFrom (busy_at m) ls events
     pub refuses : RefusesAsFull full before events
 
-  pub lines_run_out : (ls : List Line) (before : List Event) (m : WorldState) (turns : ClientStates) (k : ℕ) → AllWell m
-      → FitStatesFrom turns ls
-      → AllStand m turns k → k + length ls < 2 ^ 31
+  pub lines_run_out : (ls : List Line) (before : List Event) (m : WorldState) (states : ClientStates) (k : ℕ) → AllWell m
+      → FitStatesFrom states ls
+      → AllStand m states k → k + length ls < 2 ^ 31
       → CanRunOut before m ls
-  lines_run_out [] before m turns k s in_turn all few = record { events = []; run = tt; follows = refl; refuses = tt }
-  lines_run_out (lines.Client client a act ∷ ls) before m turns k s in_turn all few =
-      let d : CanDo before m a (busy_at m a) act = line_can before m s a (turns a) act in_turn.0 in_turn.1 in_turn.2 (all a).stands
+  lines_run_out [] before m states k s in_turn all few = record { events = []; run = tt; follows = refl; refuses = tt }
+  lines_run_out (lines.Client client a act ∷ ls) before m states k s in_turn all few =
+      let d : CanDo before m a (busy_at m a) act = line_can before m s a (states a) act in_turn.0 in_turn.1 in_turn.2 (all a).stands
       (omega (arith, (all a).began, few)) in
       let n : WorldState = after_all m d.events in
       let done : IsDone m n a act d.next = line_does m s a act d.events d.next d.run d.does in
       let rest : CanRunOut (before ++ d.events) n ls =
-      lines_run_out ls (before ++ d.events) n (with_state turns a (state_left_at act)) (k + 1) (run_well d.events m s d.run) in_turn.3
-      (stand_after m n turns k a act d.events d.next done d.does in_turn.2 all) (omega (arith, few)) in
+      lines_run_out ls (before ++ d.events) n (with_state states a (state_left_at act)) (k + 1) (run_well d.events m s d.run) in_turn.3
+      (stand_after m n states k a act d.events d.next done d.does in_turn.2 all) (omega (arith, few)) in
       record {
         events = d.events ++ rest.events;
         run = run-append m d.events rest.events d.run rest.run;
@@ -261,13 +262,13 @@ module _ (full : List Event → ℕ → Bool) where
         );
         refuses = refuses-append before d.events rest.events d.refuses rest.refuses;
       }
-  lines_run_out (lines.Dump ∷ ls) before m turns k s in_turn all few =
-      let rest : CanRunOut (before ++ Dumped ∷ []) m ls = lines_run_out ls (before ++ Dumped ∷ []) m turns k s in_turn all
+  lines_run_out (lines.Dump ∷ ls) before m states k s in_turn all few =
+      let rest : CanRunOut (before ++ Dumped ∷ []) m ls = lines_run_out ls (before ++ Dumped ∷ []) m states k s in_turn all
       (omega (arith, few)) in
       record { events = Dumped ∷ rest.events; run = (tt, rest.run); follows = (rest.events, refl, rest.follows); refuses = rest.refuses }
-  lines_run_out (lines.Store counts ∷ ls) before m turns k s in_turn all few = absurd in_turn
-  lines_run_out (lines.Sweep ∷ ls) before m turns k s in_turn all few = absurd in_turn
-  lines_run_out (lines.Lose disk ∷ ls) before m turns k s in_turn all few = absurd in_turn
+  lines_run_out (lines.Store counts ∷ ls) before m states k s in_turn all few = absurd in_turn
+  lines_run_out (lines.Sweep ∷ ls) before m states k s in_turn all few = absurd in_turn
+  lines_run_out (lines.Lose disk ∷ ls) before m states k s in_turn all few = absurd in_turn
 
 pub each_script_can_be_run_out : EachScriptCanBeRunOut
 each_script_can_be_run_out full counts front back history in_turn few run f =

@@ -16,9 +16,9 @@ RunFollowsOn =
     (counts : Counts) (front back : List Line) (history more : List Event) → IsWorldRun counts (history ++ more) → Follows front history
     → FollowsFrom (busy_at (moment counts history)) back more → Follows (front ++ back) (history ++ more)
 
--- the actor stands as its turn tells, and began at most one command for each line
-pub record Stands (turn : ClientState) (lines : ℕ) (a : Actor) : Type 0 where
-  pub stands : IsInState turn a
+-- the actor stands as its client's state tells, and began at most one command for each line
+pub record Stands (state : ClientState) (lines : ℕ) (a : Actor) : Type 0 where
+  pub stands : IsInState state a
   pub began : a.number ≤ lines
 
 -- so does each actor after a run that follows a script in turn

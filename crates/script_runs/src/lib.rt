@@ -12,9 +12,9 @@ pub fn run_follows_on()
     ensures { RunFollowsOn }
 {}
 
-/// Where a run of the world follows a script in turn, each actor stands as its turn tells: an idle one has no running command
-/// and may go on, a busy one may go on, and one that is gone has no running command. None began more commands than the script
-/// has lines.
+/// Where a run of the world follows a script in turn, each actor stands as its client's state tells: an idle one has no running
+/// command and may go on, a busy one may go on, and one that is gone has no running command. None began more commands than the
+/// script has lines.
 pub fn stands_by_state()
     ensures { StandsByState }
 {}

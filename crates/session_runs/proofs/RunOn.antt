@@ -15,11 +15,12 @@ use Rattle.world_runs.specs.Moments.{WorldState, May, opening, after, after_all,
 use Rattle.world_runs.specs.Follows.{Acts, DoesLine, Busy, FollowsFrom, NoneFails}
 use Rattle.world_runs.specs.ClientStates.{ClientState, ClientStates, all_idle, with_state, state_left_at, states_after, TakesAct}
 use Rattle.world_runs.specs.ClientStates.{FitStatesFrom}
-use Rattle.world_runs.specs.ClientStates as turns
+use Rattle.world_runs.specs.ClientStates as states
 use Rattle.script_runs.proofs.Running.{AllWell, all_well, event_well, opening_well, run_well}
-use Rattle.script_runs.proofs.Histories.{front_runs}
+use Rattle.world_runs.proofs.Fronts.{front_runs}
 use Rattle.script_runs.proofs.Histories.{run-front, run-append, none_fails-append, acts_none_fail}
-use Rattle.world_runs.specs.Standing.{op_of, busy_at, IsInState}
+use Rattle.world_runs.specs.Standing.{busy_at, IsInState}
+use Rattle.program_rules.specs.Asking.{running_op}
 use Rattle.world_runs.specs.Smooth.{EndsAtOnce}
 use Rattle.session_runs.specs.RunningOn.{EachScriptCanBeRunOn}
 use Rattle.world_runs.proofs.Actors.{changed_there}
@@ -44,7 +45,7 @@ nothing m a busy next act does = record { events = []; next = next; run = tt; do
 
 -- an idle actor
 module _ (m : WorldState) (s : AllWell m) (a : ℕ) (c : Command) (from : 1 ≤ a) (upto : a ≤ 64) (served : IsServed c)
-    (stood : IsInState turns.Idle (m.actors a))
+    (stood : IsInState states.Idle (m.actors a))
     (few : (m.actors a).number + 1 < 2 ^ 31) where
   -- its next op
   abbrev op : OpId
@@ -153,21 +154,21 @@ module _ (m : WorldState) (s : AllWell m) (a : ℕ) where
   stop_can (Some op) is = can_stop m s a op is
 
   -- any line in turn
-  line_can : (turn : ClientState) (act : Act) → 1 ≤ a → a ≤ 64 → TakesAct turn act → IsInState turn (m.actors a)
+  line_can : (state : ClientState) (act : Act) → 1 ≤ a → a ≤ 64 → TakesAct state act → IsInState state (m.actors a)
       → (m.actors a).number + 1 < 2 ^ 31 → CanDo m a (busy_at m a) act
-  line_can turns.Idle (acts.Do c) from upto takes stood few =
-      subst (λ (o : Option OpId). CanDo m a o (acts.Do c)) (sym (ap op_of stood.0)) (can_do m s a c from upto takes stood few)
-  line_can turns.Idle (acts.Begin c) from upto takes stood few =
-      subst (λ (o : Option OpId). CanDo m a o (acts.Begin c)) (sym (ap op_of stood.0)) (can_begin m s a c from upto takes stood few)
-  line_can turns.Idle (acts.Step n) from upto takes stood few = absurd takes
-  line_can turns.Idle acts.Run from upto takes stood few = absurd takes
-  line_can turns.Idle acts.Stop from upto takes stood few = absurd takes
-  line_can turns.Busy (acts.Do c) from upto takes stood few = absurd takes
-  line_can turns.Busy (acts.Begin c) from upto takes stood few = absurd takes
-  line_can turns.Busy (acts.Step n) from upto takes stood few = step_can n (busy_at m a) refl
-  line_can turns.Busy acts.Run from upto takes stood few = run_can (busy_at m a) refl
-  line_can turns.Busy acts.Stop from upto takes stood few = stop_can (busy_at m a) refl
-  line_can turns.Gone act from upto takes stood few = absurd takes
+  line_can states.Idle (acts.Do c) from upto takes stood few =
+      subst (λ (o : Option OpId). CanDo m a o (acts.Do c)) (sym (ap running_op stood.0)) (can_do m s a c from upto takes stood few)
+  line_can states.Idle (acts.Begin c) from upto takes stood few =
+      subst (λ (o : Option OpId). CanDo m a o (acts.Begin c)) (sym (ap running_op stood.0)) (can_begin m s a c from upto takes stood few)
+  line_can states.Idle (acts.Step n) from upto takes stood few = absurd takes
+  line_can states.Idle acts.Run from upto takes stood few = absurd takes
+  line_can states.Idle acts.Stop from upto takes stood few = absurd takes
+  line_can states.Busy (acts.Do c) from upto takes stood few = absurd takes
+  line_can states.Busy (acts.Begin c) from upto takes stood few = absurd takes
+  line_can states.Busy (acts.Step n) from upto takes stood few = step_can n (busy_at m a) refl
+  line_can states.Busy acts.Run from upto takes stood few = run_can (busy_at m a) refl
+  line_can states.Busy acts.Stop from upto takes stood few = stop_can (busy_at m a) refl
+  line_can states.Gone act from upto takes stood few = absurd takes
 
 -- ---- lines
 
@@ -179,17 +180,17 @@ record CanFollow (m : WorldState) (ls : List Line) : Type 0 where
   none_fails : NoneFails events
   at_once : EndsAtOnce m events
 
-lines_can : (ls : List Line) (m : WorldState) (turns : ClientStates) (k : ℕ) → AllWell m → FitStatesFrom turns ls → AllStand m turns k
+lines_can : (ls : List Line) (m : WorldState) (states : ClientStates) (k : ℕ) → AllWell m → FitStatesFrom states ls → AllStand m states k
     → k + length ls < 2 ^ 31 → CanFollow m ls
-lines_can [] m turns k s in_turn all few = record { events = []; run = tt; follows = refl; none_fails = tt; at_once = tt }
-lines_can (lines.Client client a act ∷ ls) m turns k s in_turn all few =
-    let d : CanDo m a (busy_at m a) act = line_can m s a (turns a) act in_turn.0 in_turn.1 in_turn.2 (all a).stands
+lines_can [] m states k s in_turn all few = record { events = []; run = tt; follows = refl; none_fails = tt; at_once = tt }
+lines_can (lines.Client client a act ∷ ls) m states k s in_turn all few =
+    let d : CanDo m a (busy_at m a) act = line_can m s a (states a) act in_turn.0 in_turn.1 in_turn.2 (all a).stands
     (omega (arith, (all a).began, few)) in
     let n : WorldState = after_all m d.events in
     let done : IsDone m n a act d.next = line_does m s a act d.events d.next d.run d.does in
     let rest : CanFollow n ls =
-    lines_can ls n (with_state turns a (state_left_at act)) (k + 1) (run_well d.events m s d.run) in_turn.3
-    (stand_after m n turns k a act d.events d.next done d.does in_turn.2 all) (omega (arith, few)) in
+    lines_can ls n (with_state states a (state_left_at act)) (k + 1) (run_well d.events m s d.run) in_turn.3
+    (stand_after m n states k a act d.events d.next done d.does in_turn.2 all) (omega (arith, few)) in
     record {
       events = d.events ++ rest.events;
       run = run-append m d.events rest.events d.run rest.run;
@@ -205,8 +206,8 @@ lines_can (lines.Client client a act ∷ ls) m turns k s in_turn all few =
       none_fails = none_fails-append d.events rest.events d.none_fails rest.none_fails;
       at_once = at_once-append m d.events rest.events d.at_once rest.at_once;
     }
-lines_can (lines.Dump ∷ ls) m turns k s in_turn all few =
-    let rest : CanFollow m ls = lines_can ls m turns k s in_turn all (omega (arith, few)) in
+lines_can (lines.Dump ∷ ls) m states k s in_turn all few =
+    let rest : CanFollow m ls = lines_can ls m states k s in_turn all (omega (arith, few)) in
     record {
       events = Dumped ∷ rest.events;
       run = (tt, rest.run);
@@ -214,9 +215,9 @@ lines_can (lines.Dump ∷ ls) m turns k s in_turn all few =
       none_fails = (tt, rest.none_fails);
       at_once = (tt, rest.at_once);
     }
-lines_can (lines.Store counts ∷ ls) m turns k s in_turn all few = absurd in_turn
-lines_can (lines.Sweep ∷ ls) m turns k s in_turn all few = absurd in_turn
-lines_can (lines.Lose disk ∷ ls) m turns k s in_turn all few = absurd in_turn
+lines_can (lines.Store counts ∷ ls) m states k s in_turn all few = absurd in_turn
+lines_can (lines.Sweep ∷ ls) m states k s in_turn all few = absurd in_turn
+lines_can (lines.Lose disk ∷ ls) m states k s in_turn all few = absurd in_turn
 
 -- ---- a script of two parts
 

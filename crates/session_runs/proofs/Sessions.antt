@@ -9,17 +9,17 @@ use Rattle.world_runs.specs.Moments.{IsWorldRun}
 use Rattle.world_runs.specs.Follows.{Follows, NoneFails}
 use Rattle.world_runs.specs.Served.{IsServed}
 use Rattle.world_runs.specs.ClientStates.{ClientStates, TakesAct, FitStatesFrom, all_idle, with_state}
-use Rattle.world_runs.specs.ClientStates as turns
+use Rattle.world_runs.specs.ClientStates as states
 use Rattle.session_runs.specs.Session.{session_script}
 use Rattle.session_runs.proofs.RunOn.{each_script_can_be_run_on}
 
 -- the client is idle before each of its commands
-session_in_turn : (client : List ℕ) (now : ClientStates) (cs : List Command) → now 1 ≡ turns.Idle → AllByRecursion IsServed cs
+session_in_turn : (client : List ℕ) (now : ClientStates) (cs : List Command) → now 1 ≡ states.Idle → AllByRecursion IsServed cs
     → FitStatesFrom now (session_script client cs)
 session_in_turn client now [] idle all = tt
 session_in_turn client now (c ∷ cs) idle all =
     let takes : TakesAct (now 1) (acts.Do c) = rw idle all.0 in
-    (omega arith, omega arith, takes, session_in_turn client (with_state now 1 turns.Idle) cs refl all.1)
+    (omega arith, omega arith, takes, session_in_turn client (with_state now 1 states.Idle) cs refl all.1)
 
 session_length : (client : List ℕ) (cs : List Command) → length (session_script client cs) ≡ length cs
 session_length client [] = refl

@@ -21,7 +21,7 @@ use Rattle.store_world.specs.Requests.{Needs, touched_by}
 use Rattle.sound_runs.specs.Pasts.{ghost_after, ghosts_after, ghosts, world_of, world}
 use Rattle.sound_runs.specs.Known.{PhaseKnows, Knows, AllSound, is_odd}
 use Rattle.sound_runs.specs.Laws.{EveryMomentIsSound, NoRunAnswersOdd, HasSmallNumbers, NumbersStaySmall}
-use Rattle.script_runs.proofs.Histories.{front_runs}
+use Rattle.world_runs.proofs.Fronts.{front_runs}
 use Rattle.script_runs.proofs.Running.{RunsAs, Asks, asks_by, running_is_of}
 use Rattle.sound_runs.proofs.MomentsKeep.{event_sound, opening_all_sound, asks_what_it_needs, touches_its_own}
 

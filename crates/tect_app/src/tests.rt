@@ -111,31 +111,6 @@ fn statuses_and_texts(rt: HostRuntime) -> Result<(), Fail> {
 }
 
 #[test]
-fn two_clients_in_turn(rt: HostRuntime) -> Result<(), Fail> {
-    // The second client's create comes between the two transactions of the first one's, which replaces its file.
-    let input: &[u8] = b"store 4 2 1 3 3\n\
-          c1 begin create /a\n\
-          c1 step 1\n\
-          c2 create /a\n\
-          c1 run\n\
-          c2 begin look /a\n\
-          c2 stop\n\
-          dump\n";
-    let output: &[u8] = b"c2 1 2 ok file 8589934593\n\
-          c1 1 3 ok file 4294967297\n\
-          c2 2 0 stopped\n\
-          dir 1 parent 0 open entries 1 holds 0\n\
-          entry 1 a file 4294967297\n\
-          file 4294967297 open token none blocks 0 holds 1\n\
-          file 8589934593 open token none blocks 0 holds 0\n\
-          end\n";
-    let (status, text) = outcome(&rt, rt.alloc(), &["replay"], input, &[], &[])?;
-    assert_eq!(rt; status, 0);
-    assert_eq!(rt; text.as_slice(), output);
-    Ok(())
-}
-
-#[test]
 fn nothing_fails_over_sure_ends(rt: HostRuntime) -> Result<(), Fail> {
     let words = strings(rt.alloc(), &["replay"])?;
     let mut source = SureSource::new(Vec::from_slice(rt.alloc(), ROW)?);
@@ -143,69 +118,6 @@ fn nothing_fails_over_sure_ends(rt: HostRuntime) -> Result<(), Fail> {
     let status = run(&rt, rt.alloc(), &words, &mut source, &mut sink, &OpenGate);
     assert_eq!(rt; status, Status::Ok);
     assert_eq!(rt; sink.bytes(), b"c1 1 2 ok file 4294967297\n".as_slice());
-    Ok(())
-}
-
-#[test]
-fn words_of_no_mode(rt: HostRuntime) -> Result<(), Fail> {
-    let cases: [&[&str]; 11] = [
-        &[],
-        &["race"],
-        &["race", "--workers"],
-        &["race", "--workers", "0"],
-        &["race", "--workers", "65"],
-        &["race", "--workers", "08"],
-        &["race", "--workers", "4294967298"],
-        &["race", "--workers=8"],
-        &["race", "--workers", "8", "--workers", "8"],
-        &["--workers", "8", "race"],
-        &["replay", "--workers", "8"],
-    ];
-    for words in cases {
-        let (status, text) = outcome(&rt, rt.alloc(), words, ROW, &[], &[])?;
-        assert_eq!(rt; status, 2);
-        assert_eq!(rt;
-            text.as_slice(),
-            b"usage: tect replay, race, make or judge\n".as_slice()
-        );
-    }
-    Ok(())
-}
-
-#[test]
-fn a_race_by_two_workers(rt: HostRuntime) -> Result<(), Fail> {
-    // The answers stand client by client, each client's in its own order, whatever the order in which they came.
-    let input: &[u8] = b"store 2 2 1 3 3\n\
-          c2 mkdir /d\n\
-          c1 create /a\n\
-          c2 create /d/b\n\
-          c1 begin create /c\n\
-          dump\n\
-          c1 stop\n\
-          c3 list /d\n";
-    let output: &[u8] = b"c2 1 2 ok dir 4294967297\n\
-          c2 2 3 ok file 4294967298\n\
-          c1 1 2 ok file 8589934593\n\
-          dir 1 parent 0 open entries 2 holds 0\n\
-          entry 1 a file 8589934593\n\
-          entry 1 d dir 4294967297\n\
-          dir 4294967297 parent 1 open entries 1 holds 1\n\
-          entry 4294967297 b file 4294967298\n\
-          file 4294967298 open token none blocks 0 holds 1\n\
-          file 8589934593 open token none blocks 0 holds 1\n\
-          c1 2 0 stopped\n\
-          c3 1 2 ok 1 b file 4294967298\n\
-          end\n";
-    let (status, text) = outcome(
-        &rt,
-        rt.alloc(),
-        &["race", "--workers", "2"],
-        input,
-        &[],
-        &[],
-    )?;
-    assert_eq!(rt; status, 0);
-    assert_eq!(rt; text.as_slice(), output);
     Ok(())
 }
 

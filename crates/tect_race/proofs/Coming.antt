@@ -1,7 +1,7 @@
 -- What is known of a race when a line is passed, when a dump ends a part, and when the script ends.
-use Rattle.std.proofs.Common.{◌≡◌, ℕ, ◌+◌, ◌-◌, ◌<◌, ◌≤◌, Some, List, [], ◌∷◌, ◌++◌, length, length-drop, take, drop, slice_get}
+use Rattle.std.proofs.Common.{◌≡◌, ℕ, ◌+◌, ◌-◌, ◌<◌, ◌^◌, ◌≤◌, Some, List, [], ◌∷◌, ◌++◌, length, length-drop, take, drop, slice_get}
 use Rattle.std.proofs.Common.{slice_range, get_or, refl, sym, ap, subst, ◌∙◌, arith, take-append-drop}
-use Rattle.std.specs.List.{All, flat_map}
+use Rattle.std.specs.List.{All, AllZip, flat_map}
 use Rattle.std.proofs.lemmas.List.{take_all}
 use Rattle.std.proofs.lemmas.List.Elements.{recursion_from_All}
 use Rattle.std.proofs.lemmas.Option.{slice_get_within, get_or_from_slice_get}

@@ -74,9 +74,9 @@ module _ (counts : Counts) (names : List (List ℕ)) where
           let number : (state_in r.client).number ≡ 0 = ap (λ (w : ClientLife). (state_in w).number) life in
           record {
             counts_are = ap (λ (w : ClientLife). w.counts) life;
-            turns = all_idle;
+            states = all_idle;
             in_turn = script.in_turn;
-            turn = (ap (λ (w : ClientLife). (state_in w).running) life, ap (λ (w : ClientLife). (state_in w).stopped) life);
+            state = (ap (λ (w : ClientLife). (state_in w).running) life, ap (λ (w : ClientLife). (state_in w).stopped) life);
             few = (let f = script.few in omega arith);
           };
     };
@@ -112,13 +112,16 @@ no_dumps n (lines.Store counts ∷ ls) h = absurd h.0
 no_dumps n (lines.Sweep ∷ ls) h = absurd h.0
 no_dumps n (lines.Lose disk ∷ ls) h = absurd h.0
 
+same_actor : (k : ℕ) (r t : Racer) → Closed k r t → t.client.actor ≡ r.client.actor
+same_actor k r t closed = ap (λ (w : ClientLife). w.actor) closed.client
+
 ready_closed : (counts : Counts) (ls : List Line) (k : ℕ) (r t : Racer) → Closed k r t → IsReady counts (lines.Dump ∷ ls) r
     → IsReady counts ls t
 ready_closed counts ls k r t closed ready = record {
   counts_are = ap (λ (w : ClientLife). w.counts) closed.client ∙ ready.counts_are;
-  turns = ready.turns;
+  states = ready.states;
   in_turn = ready.in_turn;
-  turn = subst (λ (w : ClientLife). IsInState (ready.turns w.actor) (state_in w)) (sym closed.client) ready.turn;
+  state = subst (λ (w : ClientLife). IsInState (ready.states w.actor) (state_in w)) (sym closed.client) ready.state;
   few = (let f = ready.few in let n = ap (λ (w : ClientLife). (state_in w).number) closed.client in omega arith);
 }
 
@@ -251,8 +254,8 @@ module _ (counts : Counts) (names : List (List ℕ)) (done left part : List Line
     numbered = λ i p e.
         let u = also_at ps us i p e (sym (zip_length IsPassOf us ps taken)) in
         let r = also_at us ts i u.0 u.1 (sym (zip_length (Closed k) ts us closed)) in
-        (zip_at IsPassOf us ps i u.0 p taken u.1 e).actor ∙ ap (λ (w : ClientLife). w.actor)
-        (zip_at (Closed k) ts us i r.0 u.0 closed r.1 u.1).client ∙ ready.own i r.0 r.1;
+        (zip_at IsPassOf us ps i u.0 p taken u.1 e).actor ∙ same_actor k r.0 u.0 (zip_at (Closed k) ts us i r.0 u.0 closed r.1 u.1)
+        ∙ ready.own i r.0 r.1;
     stories = grown.0;
     each = all_finished counts names (done ++ part) (clocks_of es) k low ts us ps grown.0 grown.1 closed
         (recursion_from_All (λ r. r.client.clock ≤ k) ts high) taken;

@@ -10,14 +10,14 @@ use Rattle.race_runs.specs.Gathered.{IsLineOf}
 use Rattle.tect_race.specs.Done.{IsScript}
 use Rattle.world_runs.specs.Playable.{IsWithin, IsPlayable}
 
-asked : (n : ℕ) (turns : ClientStates) (ls : List Line) → FitStatesFrom turns ls → AllByRecursion (IsWithin n) ls
+asked : (n : ℕ) (states : ClientStates) (ls : List Line) → FitStatesFrom states ls → AllByRecursion (IsWithin n) ls
     → AllByRecursion (IsLineOf n) ls
-asked n turns [] t w = tt
-asked n turns (lines.Client client actor act ∷ ls) t w = ((t.0, (w.0).0), asked n (with_state turns actor (state_left_at act)) ls t.3 w.1)
-asked n turns (lines.Dump ∷ ls) t w = (tt, asked n turns ls t w.1)
-asked n turns (lines.Store counts ∷ ls) t w = absurd t
-asked n turns (lines.Sweep ∷ ls) t w = absurd t
-asked n turns (lines.Lose disk ∷ ls) t w = absurd t
+asked n states [] t w = tt
+asked n states (lines.Client client actor act ∷ ls) t w = ((t.0, (w.0).0), asked n (with_state states actor (state_left_at act)) ls t.3 w.1)
+asked n states (lines.Dump ∷ ls) t w = (tt, asked n states ls t w.1)
+asked n states (lines.Store counts ∷ ls) t w = absurd t
+asked n states (lines.Sweep ∷ ls) t w = absurd t
+asked n states (lines.Lose disk ∷ ls) t w = absurd t
 
 pub script_of : (plan : Plan) → IsPlayable plan → IsScript (length plan.clients) plan.lines
 script_of plan is = record {

@@ -159,23 +159,23 @@ ran_on names ls (lines.Lose disk) r s t ran w = absurd w
 
 -- ---- readiness
 
-set_there : (turns : ClientStates) (actor other : ℕ) (turn : ClientState) → actor ≢ other → with_state turns actor turn other ≡ turns other
-set_there turns actor other turn ne =
-    ap (λ (b : Bool). if b then turn else turns other) (flipped other actor ∙ other_number actor other ne)
+set_there : (states : ClientStates) (actor other : ℕ) (state : ClientState) → actor ≢ other → with_state states actor state other ≡ states other
+set_there states actor other state ne =
+    ap (λ (b : Bool). if b then state else states other) (flipped other actor ∙ other_number actor other ne)
 
-set_here : (turns : ClientStates) (actor other : ℕ) (turn : ClientState) → actor ≡ other → with_state turns actor turn other ≡ turn
-set_here turns actor other turn is =
-    ap (λ (b : Bool). if b then turn else turns other) (ap (λ k. eqb other k) is ∙ same_number other)
+set_here : (states : ClientStates) (actor other : ℕ) (state : ClientState) → actor ≡ other → with_state states actor state other ≡ state
+set_here states actor other state is =
+    ap (λ (b : Bool). if b then state else states other) (ap (λ k. eqb other k) is ∙ same_number other)
 
 pub ready_on : (names : List (List ℕ)) (counts : Counts) (line : Line) (later : List Line) (r t : Racer) → IsReady counts (line ∷ later) r
     → PlaysOrRests names line r t → IsReady counts later t
 ready_on names counts (lines.Client client actor act) later r t ready (inl w) =
     subst (λ (x : Racer). IsReady counts later x) (sym w.1) (record {
       counts_are = ready.counts_are;
-      turns = with_state ready.turns actor (state_left_at act);
+      states = with_state ready.states actor (state_left_at act);
       in_turn = ready.in_turn.3;
-      turn = subst (λ (x : ClientState). IsInState x (state_in r.client))
-          (sym (set_there ready.turns actor r.client.actor (state_left_at act) w.0)) ready.turn;
+      state = subst (λ (x : ClientState). IsInState x (state_in r.client))
+          (sym (set_there ready.states actor r.client.actor (state_left_at act) w.0)) ready.state;
       few = (let f = ready.few in omega arith);
     })
 ready_on names counts (lines.Client client actor act) later r t ready (inr w) =
@@ -183,10 +183,10 @@ ready_on names counts (lines.Client client actor act) later r t ready (inr w) =
     let own : t.client.actor ≡ r.client.actor = adds_actor names r t plays.news plays.more plays.adds in
     record {
       counts_are = adds_counts names r t plays.news plays.more plays.adds ∙ ready.counts_are;
-      turns = with_state ready.turns actor (state_left_at act);
+      states = with_state ready.states actor (state_left_at act);
       in_turn = ready.in_turn.3;
-      turn = subst (λ (x : ClientState). IsInState x (state_in t.client))
-          (sym (set_here ready.turns actor t.client.actor (state_left_at act) (w.0 ∙ sym own))) plays.turn;
+      state = subst (λ (x : ClientState). IsInState x (state_in t.client))
+          (sym (set_here ready.states actor t.client.actor (state_left_at act) (w.0 ∙ sym own))) plays.turn;
       few = (let f = ready.few in let g = plays.few in omega arith);
     }
 ready_on names counts lines.Dump later r t ready w = absurd w

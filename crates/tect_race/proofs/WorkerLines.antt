@@ -165,10 +165,10 @@ module _ (counts : Counts) (names : List (List ℕ)) (clients worker_count : ℕ
       pub line_few : (state_in r.client).number + 1 < 2 ^ 31
       line_few = let f = racer_ready.few in omega arith
 
-      pub line_takes : (turn : ClientState) × IsInState turn (state_in r.client) × TakesAct turn act
+      pub line_takes : (state : ClientState) × IsInState state (state_in r.client) × TakesAct state act
       line_takes =
-          let turns = racer_ready.turns in
-          (turns actor, subst (λ k. IsInState (turns k) (state_in r.client)) actor_is racer_ready.turn, racer_ready.in_turn.2)
+          let states = racer_ready.states in
+          (states actor, subst (λ k. IsInState (states k) (state_in r.client)) actor_is racer_ready.state, racer_ready.in_turn.2)
 
       pub line_plays : {E F : Type 0} → (o : Result (Unit {0}) E) (q : Result (Unit {0}) F) → (IsOk q → IsOk o) → (t : Racer) (d : Worker)
           → d.number ≡ c.number → d.racers.items ≡ set c.racers.items ((actor - 1) / worker_count) t

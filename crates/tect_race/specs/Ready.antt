@@ -15,16 +15,16 @@ abbrev pub IsOfClient : ℕ → Line → Type 0
 IsOfClient clients (lines.Client client actor act) = (1 ≤ actor) × (actor ≤ clients)
 IsOfClient clients line = ⊥
 
--- The lines are in turn from where its last line left it, and its ops stay few.
+-- The lines fit the state that its last line left it at, and its ops stay few.
 pub record IsReady (counts : Counts) (ls : List Line) (r : Racer) : Type 0 where
   pub counts_are : r.client.counts ≡ counts
-  pub turns : ClientStates
-  pub in_turn : FitStatesFrom turns ls
-  pub turn : IsInState (turns r.client.actor) (state_in r.client)
+  pub states : ClientStates
+  pub in_turn : FitStatesFrom states ls
+  pub state : IsInState (states r.client.actor) (state_in r.client)
   pub few : (state_in r.client).number + length ls < 2 ^ 31
 
--- Of so many clients the worker of a worker has those whose number, from 0, leaves the worker's number when it is divided by that
--- of all workers, in order; each is ready for these lines.
+-- Of so many clients the worker has those whose number, from 0, leaves its own when it is divided by that of all workers, in
+-- order; each is ready for these lines.
 pub record IsWorker (counts : Counts) (clients worker_count : ℕ) (ls : List Line) (c : Worker) : Type 0 where
   pub number : c.number < worker_count
   pub filled : (slot : ℕ) → (slot < length c.racers.items) ↔ (slot * worker_count + c.number < clients)
@@ -36,7 +36,7 @@ pub record AreRacers (counts : Counts) (ls : List Line) (rs : List Racer) : Type
   pub own : (i : ℕ) (r : Racer) → slice_get rs i ≡ Some r → r.client.actor ≡ i + 1
   pub ready : (i : ℕ) (r : Racer) → slice_get rs i ≡ Some r → IsReady counts ls r
 
--- the workers of so many workers
+-- so many workers
 pub record AreWorkers (counts : Counts) (clients worker_count : ℕ) (ls : List Line) (cs : List Worker) : Type 0 where
   pub count : length cs ≡ worker_count
   pub numbers : (k : ℕ) (c : Worker) → slice_get cs k ≡ Some c → c.number ≡ k

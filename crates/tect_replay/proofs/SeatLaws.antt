@@ -8,7 +8,7 @@ use Rattle.world_runs.specs.Events.{own}
 use Rattle.world_runs.specs.Moments.{WorldState, IsWorldRun, opening}
 use Rattle.world_runs.specs.OwnRuns.{own_state}
 use Rattle.world_runs.specs.Smooth.{EndsAtOnce}
-use Rattle.world_runs.specs.Standing.{op_of}
+use Rattle.program_rules.specs.Asking.{running_op}
 use Rattle.world_runs.proofs.Actors.{own-append}
 use Rattle.world_runs.proofs.Owns.{actors_are_their_own, counts_stay}
 use Rattle.script_runs.proofs.Running.{running_is_last_begun}
@@ -26,12 +26,12 @@ grown-nil : (w : Life) → w ≡ grown w []
 grown-nil w i = record { counts = w.counts; history = sym (append-nil w.history) i }
 
 busy_some : (w : Life) (actor : ℕ) → IsWorldRun w.counts w.history → IsSome ((present w).actors actor).running
-    → op_of ((present w).actors actor).running ≡ Some (last_op (present w) actor)
+    → running_op ((present w).actors actor).running ≡ Some (last_op (present w) actor)
 busy_some w actor run some =
     let p = some_of ((present w).actors actor).running some in
     let k = running_is_last_begun w.counts w.history run actor p.0 p.1 in
     let same : (p.0).op ≡ last_op (present w) actor = λ i. record { actor = k.own i; number = k.last i } in
-    ap op_of p.1 ∙ ap Some same
+    ap running_op p.1 ∙ ap Some same
 
 seat_both : (p q r : Seat) (a b c : Life) (es fs : List Event) → SeatGrew p a q b es → SeatGrew q b r c fs → SeatGrew p a r c (es ++ fs)
 seat_both p q r a b c es fs first second = record {

@@ -12,7 +12,7 @@ use Rattle.world_runs.specs.declared.event.Event.{Event}
 use Rattle.world_runs.specs.declared.event.Event.TheVariants.{Dumped}
 use Rattle.world_runs.specs.Races.{is_own, own_lines}
 use Rattle.world_runs.specs.Report.{lines_at, report_after}
-use Rattle.world_runs.specs.Standing.{op_of}
+use Rattle.program_rules.specs.Asking.{running_op}
 use Rattle.players.specs.Players.{Played, told_lines}
 use Rattle.players.proofs.Running.{AllOwn, all_own}
 use Rattle.tect_world.specs.Life.{Life, present, grown}
@@ -39,7 +39,7 @@ seat_played clients name act s t old new told played run =
       part = played.part;
       grew = g.history;
       run = run;
-      follows = (played.part, [], op_of ((present new).actors t.actor).running, sym (append-nil played.part), played.does, refl);
+      follows = (played.part, [], running_op ((present new).actors t.actor).running, sym (append-nil played.part), played.does, refl);
       at_once = g.at_once;
       shows = own_report old.counts clients s.actor old.history played.part (all_own s.actor played.part g.mine) ∙ sym played.shows;
     }

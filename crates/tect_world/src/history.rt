@@ -77,13 +77,19 @@ fn gathered(alloc: Global, kepts: &[AnyKept], passes: &[Pass]) -> Result<Vec<Mom
     }
 }
 
-#[tactic(auto, using(entry_words::proofs::Clones::same_moment))]
 fn copies(alloc: Global, moments: &[&Moment]) -> Result<Vec<Moment>, NoMemory>
     ensures { IfOk result (λ v. v.items ≡ map (λ m. m.now) moments.now) }
 {
     let mut copies = Vec::with_capacity(alloc, moments.len())?;
     'each: for moment in moments {
-        copies.push(moment.clone()?)?;
+        copies.push(copied(moment)?)?;
     }
     Ok(copies)
+}
+
+#[tactic(auto, using(entry_words::proofs::Clones::same_moment))]
+fn copied(moment: &Moment) -> Result<Moment, NoMemory>
+    ensures { IfOk result (λ same. same ≡ moment.now) }
+{
+    Ok(moment.clone()?)
 }

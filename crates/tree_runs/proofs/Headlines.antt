@@ -1,7 +1,6 @@
 -- each answer is the one that the tree gives at the command's point
-use Rattle.std.proofs.Common.{◌≡◌, ◌≢◌, ◌<◌, ◌⊎◌, ℕ, zero, suc, Bool, true, false, ◌||◌, if◌then◌else◌, Option, Some, None, List, [], ◌∷◌}
+use Rattle.std.proofs.Common.{◌≡◌, ◌≢◌, ◌<◌, ◌⊎◌, ℕ, Bool, true, false, ◌||◌, if◌then◌else◌, Option, Some, None, List, [], ◌∷◌}
 use Rattle.std.proofs.Common.{◌++◌, refl, sym, ap, subst, ◌∙◌, arith, inl, inr, append_assoc, take}
-use Rattle.std.specs.List.{slice_get}
 use Rattle.std.proofs.lemmas.List.{append-nil}
 use Rattle.tect_ids.specs.declared.ids.Counts.{Counts}
 use Rattle.tect_ids.specs.declared.ids.OpId.{OpId}
@@ -30,6 +29,7 @@ use Rattle.claim_words.specs.TreeSteps.{Told, told_of, tree_steps, tree_step, sa
 use Rattle.claim_words.specs.Points.{of_op, Walked, LacksName}
 use Rattle.claim_words.specs.Headline.{begun_by, or_later, command_of, refuses, was_refused, Explains, HadNoRoom, Headline}
 use Rattle.world_runs.proofs.Actors.{changed}
+use Rattle.world_runs.proofs.Fronts.{front_runs, may_at}
 use Rattle.tree_runs.specs.View.{view, AllMade, MakesNew}
 use Rattle.tree_runs.proofs.Tracks.{Tracks, Knows, opening_tracks}
 use Rattle.tree_runs.proofs.Runs.{Asks, asks_of, acts, made_all, event_tracked, world_tracked, tree_after-append}
@@ -343,21 +343,10 @@ opening_told counts = record { tracks = opening_tracks counts; tells = λ a. tt;
 
 -- ---- each place of a history
 
-run-take : (m : WorldState) (es : List Event) (place : ℕ) → RunFrom m es → RunFrom m (take place es)
-run-take m es zero run = tt
-run-take m [] (suc place) run = tt
-run-take m (e ∷ es) (suc place) run = (run.0, run-take (after m e) es place run.1)
-
-may_at : (m : WorldState) (es : List Event) (place : ℕ) (e : Event) → RunFrom m es → slice_get es place ≡ Some e
-    → May (after_all m (take place es)) e
-may_at m [] place e run is = absurd (let z : None ≡ Some e = is in cc)
-may_at m (d ∷ es) zero e run is = let same : d ≡ e = cc in subst (λ (z : Event). May m z) same run.0
-may_at m (d ∷ es) (suc place) e run is = may_at (after m d) es place e run.1 is
-
 told_at : (counts : Counts) (events : List Event) (place : ℕ) → IsWorldRun counts events
     → AllTold (take place events) (after_all (opening counts) (take place events))
 told_at counts events place run = run_told [] (opening counts) (take place events) (opening_told counts)
-    (run-take (opening counts) events place run)
+    (front_runs place events (opening counts) run)
 
 -- a command that has come to its answer
 explains : (h : List Event) (op : OpId) (c : Command) (at : Phase) (a : Answer) → command_of h op ≡ Some c → phase_answer at ≡ Some a

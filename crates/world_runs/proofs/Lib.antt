@@ -2,3 +2,4 @@ pub mod Actors
 pub mod Owns
 pub mod Limits
 pub mod OwnLines
+pub mod Fronts

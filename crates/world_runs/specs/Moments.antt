@@ -96,7 +96,7 @@ next_serial serial x = if is_made x then serial + 1 else serial
 abbrev pub begun : Actor → OpId → Command → Actor
 begun a op c = record a { number = op.number; running = Some (started op c) }
 
--- an op that is not_begun has its answer from the first
+-- an op that is refused has its answer from the first
 abbrev pub not_begun : Actor → OpId → Command → Actor
 not_begun a op c = record a { number = op.number; running = Some record { op = op; command = c; phase = End no_room } }
 
