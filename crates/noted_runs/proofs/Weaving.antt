@@ -31,7 +31,8 @@ filter-swap p q [] = refl
 filter-swap p q (x ∷ xs) =
     elim (p x) as (λ a. p x ≡ a → filter p (filter q (x ∷ xs)) ≡ filter q (if a then x ∷ filter p xs else filter p xs)) [
       | true ↦ λ h. elim (q x) as
-          (λ b. filter p (if b then x ∷ filter q xs else filter q xs) ≡ (if b then x ∷ filter q (filter p xs) else filter q (filter p xs))) [
+          (λ b. filter p (if b then x ∷ filter q xs else filter q xs)
+          ≡ (if b then x ∷ filter q (filter p xs) else filter q (filter p xs))) [
             | true ↦ rw h (ap (λ ys. x ∷ ys) (filter-swap p q xs))
             | false ↦ filter-swap p q xs
           ]

@@ -193,7 +193,8 @@ fn give_back(heard: &Heard, op: OpId, key: &Key, node: Node) -> Result<Phase, No
 }
 
 fn bound_heard_of(heard: &Heard, op: OpId, key: &Key, node: Node) -> Result<Phase, NoMemory>
-    ensures { IfOk result (λ phase. phase ≡ bound_heard heard.now.place op key.now node heard.now.reply.now (as_bound heard.now.reply.now)) }
+    ensures { IfOk result (λ phase. phase
+        ≡ bound_heard heard.now.place op key.now node heard.now.reply.now (as_bound heard.now.reply.now)) }
 {
     match heard.reply.as_bound() {
         Some(old) => Ok(then_release_of(old, Answer::Found { node })),

@@ -39,32 +39,40 @@ client_laws counts_of = record {
   same_actor = λ p q a b es g. grows_actor p q g.news g.more g.grows;
   same_counts = λ p q a b es g. g.there;
   more_history = λ p q a b es g. grows_events p q g.news g.more g.grows ∙ ap (λ (xs : List Event). events_in p ++ xs) g.are;
-  next_state = λ p q a b es g. grows_state p q g.news g.more g.grows ∙ ap (λ (k : Counts). own_state k (state_in p) (news_events g.news g.more)) (sym g.here) ∙ ap
+  next_state = λ p q a b es g. grows_state p q g.news g.more g.grows ∙ ap
+      (λ (k : Counts). own_state k (state_in p) (news_events g.news g.more)) (sym g.here) ∙ ap
       (own_state (counts_of a) (state_in p)) g.are;
   busy = λ p a fit running. busy_some p fit.0 running;
 }
 
 -- ---- its calls
 
-by_growth : {W : Type 0} (counts_of : W → Counts) (old new : ClientLife) (w v : W) → counts_of w ≡ old.counts → counts_of v ≡ counts_of w → (news : List Moment) (more : List Event)
+by_growth : {W : Type 0} (counts_of : W → Counts) (old new : ClientLife) (w v : W) → counts_of w ≡ old.counts → counts_of v ≡ counts_of w
+    → (news : List Moment) (more : List Event)
     → Grows old new news more → GrewBy counts_of old w new v (news_events news more)
-by_growth counts_of old new w v here there news more grows = record { here = here; there = there; news = news; more = more; grows = grows; are = refl }
+by_growth counts_of old new w v here there news more grows = record
+    { here = here; there = there; news = news; more = more; grows = grows; are = refl }
 
-module _ {W : Type 0} (counts_of : W → Counts) (old new : ClientLife) (w v : W) (here : counts_of w ≡ old.counts) (there : counts_of v ≡ counts_of w) where
+module _ {W : Type 0} (counts_of : W → Counts) (old new : ClientLife) (w v : W) (here : counts_of w ≡ old.counts)
+    (there : counts_of v ≡ counts_of w) where
   pub client_begins : (c : Command) → Begins old new c → IsLife new → HasBegun (GrewBy counts_of old w new v) (next_op_in old) c
   client_begins c begins life =
       let begun = has_begun old new c begins life in
       record {
         begin = begun.begin;
         begins = begun.begins;
-        grown = subst (GrewBy counts_of old w new v) begun.events (by_growth counts_of old new w v here there begun.news begun.more begun.grows);
+        grown = subst (GrewBy counts_of old w new v) begun.events
+            (by_growth counts_of old new w v here there begun.news begun.more begun.grows);
       }
 
   pub client_stops : new ≡ stopped_life old → GrewBy counts_of old w new v (Stopped (op_in old) ∷ [])
   client_stops is =
       let stopped = has_stopped old new is in
-      subst (GrewBy counts_of old w new v) stopped.events (by_growth counts_of old new w v here there stopped.news stopped.more stopped.grows)
+      subst (GrewBy counts_of old w new v) stopped.events
+      (by_growth counts_of old new w v here there stopped.news stopped.more stopped.grows)
 
-  pub client_steps : (done : W → W → ℕ → AnyReq → Result Entry Refused → Type 0) → IsLife old → (turned : Turned) → OwnStep done w v old new turned
+  pub client_steps : (done : W → W → ℕ → AnyReq → Result Entry Refused → Type 0) → IsLife old → (turned : Turned)
+      → OwnStep done w v old new turned
       → StepsOnce (GrewBy counts_of old w new v) (op_in old) turned
-  client_steps done is turned step = steps_once done w v old new (GrewBy counts_of old w new v) (by_growth counts_of old new w v here there) is turned step
+  client_steps done is turned step = steps_once done w v old new (GrewBy counts_of old w new v) (by_growth counts_of old new w v here there)
+      is turned step

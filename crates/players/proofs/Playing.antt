@@ -133,7 +133,8 @@ module _ {P A : Type 0} (counts : A → Counts) (fits : P → A → Type 0) (act
       → Plays names (acts.Step n) p a q b None
   steps_on names n p q a b fit then running goes_on goes =
       let keeps = on_keeps p q a b n goes in
-      let after : running_op (state q b).running ≡ Some (op p a) = laws.busy q b then (keeps.running running) ∙ ap Some (on_op p q a b n goes) in
+      let after : running_op (state q b).running ≡ Some (op p a) = laws.busy q b then (keeps.running running) ∙ ap Some
+      (on_op p q a b n goes) in
       record {
         part = goes.acts;
         grown = goes.grown;
@@ -174,7 +175,8 @@ module _ {P A : Type 0} (counts : A → Counts) (fits : P → A → Type 0) (act
       runs_on = record {
         part = part;
         grown = end.grown;
-        does = subst (λ (o : Option OpId). DoesLine (actor p) o acts.Run part (running_op (state q b).running)) (sym (laws.busy p a fit running))
+        does = subst (λ (o : Option OpId). DoesLine (actor p) o acts.Run part (running_op (state q b).running))
+            (sym (laws.busy p a fit running))
             ((end.count, end_after), ended);
         turn = (rests.running, rests.stopped ∙ goes_on);
         few = omega (arith, rests.number);

@@ -92,7 +92,9 @@ module _ (m : WorldState) (a : ℕ) (d e : List Event) (one : RunFrom m d) (two 
   where
     line_same : (act : Act) (busy next last : Option OpId) → DoesLine a busy act d next → DoesLine a busy act e last
         → IsSettled (after_all m d) act next → IsSettled (after_all m e) act last → d ≡ e
-    line_same (acts.Do c) None next last first second settled also = does_same m a c d e one two none clean (begins_to_end a c d none first.0)
+    line_same (acts.Do c) None next last first second settled also =
+        does_same m a c d e one two none clean
+        (begins_to_end a c d none first.0)
         (begins_to_end a c e clean second.0)
     line_same (acts.Begin c) None next last first second settled also =
         begins_same m a c d e first.0 second.0 first.2 second.2 (begins_alone first.0 c first.1 d none first.3 first.4)

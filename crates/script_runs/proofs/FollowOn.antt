@@ -76,7 +76,8 @@ run_follows_on counts front back history more run f then =
 
 pub turn_front : (front back : List Line) (states : ClientStates) → FitStatesFrom states (front ++ back) → FitStatesFrom states front
 turn_front [] back states t = tt
-turn_front (lines.Client client a act ∷ ls) back states t = (t.0, t.1, t.2, turn_front ls back (with_state states a (state_left_at act)) t.3)
+turn_front (lines.Client client a act ∷ ls) back states t =
+    (t.0, t.1, t.2, turn_front ls back (with_state states a (state_left_at act)) t.3)
 turn_front (lines.Dump ∷ ls) back states t = turn_front ls back states t
 turn_front (lines.Store counts ∷ ls) back states t = absurd t
 turn_front (lines.Sweep ∷ ls) back states t = absurd t
@@ -127,9 +128,11 @@ stand_by_turn (lines.Client client a act ∷ ls) m states k history s in_turn ru
     let n : WorldState = after_all m part in
     let done : IsDone m n a act f.2 = line_does m s a act part f.2 mine f.4 in
     let on : FollowsFrom (busy_at n) ls rest = subst (λ (b : Busy). FollowsFrom b ls rest) (busy_after m n a act f.2 done) f.5 in
-    let now : AllStand n (with_state states a (state_left_at act)) (k + 1) = stand_after m n states k a act part f.2 done f.4 in_turn.2 all in
+    let now : AllStand n (with_state states a (state_left_at act)) (k + 1) = stand_after m n states k a act part f.2 done f.4 in_turn.2 all
+    in
     let last : AllStand (after_all n rest) (states_after (with_state states a (state_left_at act)) ls) (k + 1 + length ls) =
-    stand_by_turn ls n (with_state states a (state_left_at act)) (k + 1) rest (run_well part m s mine) in_turn.3 (run-rest m part rest whole)
+    stand_by_turn ls n (with_state states a (state_left_at act)) (k + 1) rest (run_well part m s mine) in_turn.3
+    (run-rest m part rest whole)
     on now in
     rw (moment_by m history part rest f.3) (λ b. record { stands = (last b).stands; began = omega (arith, (last b).began) })
 stand_by_turn (lines.Dump ∷ ls) m states k history s in_turn run f all =

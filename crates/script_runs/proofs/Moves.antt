@@ -49,7 +49,8 @@ put_moves m s a state = record {
 }
 
 -- a program that hears a reply is the same op's
-heard_op : (counts : Counts) (serial : ℕ) (q : AnyReq) (x : AnyReply) (o : Option Program) → running_op (heard counts serial q x o) ≡ running_op o
+heard_op : (counts : Counts) (serial : ℕ) (q : AnyReq) (x : AnyReply) (o : Option Program)
+    → running_op (heard counts serial q x o) ≡ running_op o
 heard_op counts serial q x None = refl
 heard_op counts serial q x (Some p) = refl
 

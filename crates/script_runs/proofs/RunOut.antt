@@ -212,7 +212,8 @@ module _ (full : List Event → ℕ → Bool) where
     line_can : (state : ClientState) (act : Act) → 1 ≤ a → a ≤ 64 → TakesAct state act → IsInState state (m.actors a)
         → (m.actors a).number + 1 < 2 ^ 31 → CanDo before m a (busy_at m a) act
     line_can states.Idle (acts.Do c) from upto takes stood few =
-        subst (λ (o : Option OpId). CanDo before m a o (acts.Do c)) (sym (ap running_op stood.0)) (do_can before m a c from upto takes stood few)
+        subst (λ (o : Option OpId). CanDo before m a o (acts.Do c)) (sym (ap running_op stood.0))
+        (do_can before m a c from upto takes stood few)
     line_can states.Idle (acts.Begin c) from upto takes stood few =
         subst (λ (o : Option OpId). CanDo before m a o (acts.Begin c)) (sym (ap running_op stood.0))
         (begin_can before m a c from upto takes stood few)

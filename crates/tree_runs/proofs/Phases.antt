@@ -270,7 +270,9 @@ module _ (s : Store) (made : Made) (all : AllMade s made) (number own : ℕ) (fe
         (made_knows number (after_it q) place (commands.Create (n ∷ ns)) k (nodes.File record { 0 = i }) over.File (heard_by q)
         (is_made (heard_by q)))
 
-    mkdir_first : (d : DirId) (p : List (List ℕ)) → own ≤ number → ActIf (commands.Mkdir p) (Walk d []) (first_ask op i d (commands.Mkdir p))
+    mkdir_first : (d : DirId) (p : List (List ℕ)) → own ≤ number
+        → ActIf (commands.Mkdir p) (Walk d [])
+        (first_ask op i d (commands.Mkdir p))
     mkdir_first d [] left = tt
     mkdir_first d (n ∷ ns) left =
         let k : Key = key_in d (last_name (n ∷ ns)) in
