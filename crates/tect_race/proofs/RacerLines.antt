@@ -159,7 +159,8 @@ ran_on names ls (lines.Lose disk) r s t ran w = absurd w
 
 -- ---- readiness
 
-set_there : (states : ClientStates) (actor other : ℕ) (state : ClientState) → actor ≢ other → with_state states actor state other ≡ states other
+set_there : (states : ClientStates) (actor other : ℕ) (state : ClientState) → actor ≢ other
+    → with_state states actor state other ≡ states other
 set_there states actor other state ne =
     ap (λ (b : Bool). if b then state else states other) (flipped other actor ∙ other_number actor other ne)
 
