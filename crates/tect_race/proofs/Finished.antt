@@ -4,7 +4,6 @@ use Rattle.std.specs.List.{All, AllByRecursion}
 use Rattle.std.proofs.lemmas.List.Elements.{All-from_recursion, recursion_from_All}
 use Rattle.tect_ids.specs.declared.ids.Counts.{Counts}
 use Rattle.tect_ids.specs.declared.script.Line.{Line}
-use Rattle.entry_words.specs.declared.entry.Moment.{Moment}
 use Rattle.world_runs.specs.Moments.{idle_actor}
 use Rattle.world_runs.specs.Events.{IsPlaced, IsOwnNote}
 use Rattle.world_runs.specs.Woven.{IsSilent}

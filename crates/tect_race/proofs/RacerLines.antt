@@ -1,6 +1,6 @@
 -- What a racer does in some lines, and then in one more.
-use Rattle.std.proofs.Common.{◌≡◌, ◌≢◌, ℕ, ◌≤◌, Bool, true, false, nat_lt, nat_le, eqb, if◌then◌else◌, List, [], ◌∷◌, ◌++◌, filter, refl}
-use Rattle.std.proofs.Common.{sym, ap, subst, ◌∙◌, append_assoc, arith, ◌⊎◌, inl, inr}
+use Rattle.std.proofs.Common.{◌≡◌, ◌≢◌, ℕ, Bool, true, false, eqb, if◌then◌else◌, List, [], ◌∷◌, ◌++◌, filter, refl}
+use Rattle.std.proofs.Common.{sym, ap, subst, ◌∙◌, append_assoc, arith, inl, inr}
 use Rattle.std.proofs.lemmas.List.{append-nil}
 use Rattle.std.proofs.lemmas.List.Elements.{filter-append}
 use Rattle.tect_ids.specs.declared.ids.Counts.{Counts}
@@ -20,7 +20,7 @@ use Rattle.world_runs.proofs.OwnLines.{own_lines-append}
 use Rattle.world_runs.proofs.Actors.{same_number, other_number, flipped}
 use Rattle.clients.specs.Lives.{ClientLife, events_in, state_in}
 use Rattle.players.specs.declared.racer.Racer.{Racer}
-use Rattle.players.specs.Lives.{busy_in, grown, news_events}
+use Rattle.players.specs.Lives.{busy_in, news_events}
 use Rattle.players.specs.Lines.{Adds, Plays}
 use Rattle.players.specs.Steps.{Grows}
 use Rattle.players.proofs.Growths.{added_events, grows_actor, grows_both, grows_counts, grows_events, grows_none}
@@ -159,7 +159,8 @@ ran_on names ls (lines.Lose disk) r s t ran w = absurd w
 
 -- ---- readiness
 
-set_there : (states : ClientStates) (actor other : ℕ) (state : ClientState) → actor ≢ other → with_state states actor state other ≡ states other
+set_there : (states : ClientStates) (actor other : ℕ) (state : ClientState) → actor ≢ other
+    → with_state states actor state other ≡ states other
 set_there states actor other state ne =
     ap (λ (b : Bool). if b then state else states other) (flipped other actor ∙ other_number actor other ne)
 

@@ -1,6 +1,6 @@
 -- A list that is shared out one after another: of so many shares, share number k has the items whose number, from 0, leaves k when it is
 -- divided by that of all shares, in their order.
-use Rattle.std.proofs.Common.{◌⊎◌, ◌≡◌, ◌≢◌, ℕ, zero, suc, ◌+◌, ◌-◌, ◌*◌, ◌/◌, ◌%◌, ◌<◌, ◌≤◌, ◌↔◌, Option, Some, None, List, [], ◌∷◌, ◌++◌}
+use Rattle.std.proofs.Common.{◌⊎◌, ◌≡◌, ◌≢◌, ℕ, zero, suc, ◌+◌, ◌-◌, ◌*◌, ◌/◌, ◌%◌, ◌<◌, ◌≤◌, ◌↔◌, Some, None, List, [], ◌∷◌, ◌++◌}
 use Rattle.std.proofs.Common.{set, length, length-append, inl, inr, refl, sym, ap, subst, ◌∙◌, arith, slice_get}
 use Rattle.std.proofs.Math.Arith.{digits_mod, digits_div}
 use Rattle.std.proofs.Math.Nat.{mod-add-div', mod-lt, mul-le-mul_right}

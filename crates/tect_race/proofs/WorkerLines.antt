@@ -1,6 +1,6 @@
 -- What a worker does in some lines, and then in one more.
 use Rattle.std.proofs.Common.{◌≡◌, ◌≢◌, ℕ, ◌+◌, ◌-◌, ◌*◌, ◌/◌, ◌%◌, ◌^◌, ◌<◌, ◌≤◌, Some, Result, Ok, Err, OnOk, IsOk, List, [], ◌∷◌, ◌++◌}
-use Rattle.std.proofs.Common.{length, set, refl, sym, ap, subst, ◌∙◌, arith, ◌⊎◌, inl, inr, slice_get, slice_index_or, length-set}
+use Rattle.std.proofs.Common.{length, set, refl, sym, ap, subst, ◌∙◌, arith, inl, inr, slice_get, slice_index_or, length-set}
 use Rattle.std.proofs.lemmas.Option.{slice_get_read}
 use Rattle.tect_ids.specs.declared.ids.Counts.{Counts}
 use Rattle.tect_ids.specs.declared.script.Act.{Act}

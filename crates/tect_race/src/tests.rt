@@ -9,7 +9,7 @@ use std::process::Abort;
 use std::sync::Wait;
 use std::test::Fail;
 use std::thread::Threads;
-use tect_edge::{Gate, MeetGate, OpenGate};
+use tect_edge::OpenGate;
 use tect_ids::{
     Act, Answer, BadName, Command, Counts, DirId, DumpLine, FileId, Items, Line, Name, Node, Path,
     Plan, ReportLine,
@@ -50,26 +50,11 @@ fn line(alloc: Global, actor: u32, act: Act) -> Result<Line, Fail>
     Ok(Line::Client { client, actor, act })
 }
 
-/// Each of two clients creates a file in the root, and then comes a dump.
-fn ask_two_files(alloc: Global, lines: &mut Items<Line>) -> Result<(), Fail>
-    requires { lines.old ≡ [] }
-    ensures turns { OnOk result (FitStates lines.new) }
-    ensures few { OnOk result (length lines.new < 2 ^ 31) }
-    ensures within { OnOk result (AllByRecursion (IsWithin 2) lines.new) }
-{
-    let first = path(alloc, b"a")?;
-    lines.push(line(alloc, 1, Act::Do(Command::Create { path: first }))?)?;
-    let second = path(alloc, b"b")?;
-    lines.push(line(alloc, 2, Act::Do(Command::Create { path: second }))?)?;
-    lines.push(Line::Dump)?;
-    Ok(())
-}
-
 /// The second client stops between the two transactions of its command, while the first one goes on. A dump comes before and
 /// behind that.
 fn ask_with_stop(alloc: Global, lines: &mut Items<Line>) -> Result<(), Fail>
     requires { lines.old ≡ [] }
-    ensures turns { OnOk result (FitStates lines.new) }
+    ensures fit { OnOk result (FitStates lines.new) }
     ensures few { OnOk result (length lines.new < 2 ^ 31) }
     ensures within { OnOk result (AllByRecursion (IsWithin 2) lines.new) }
 {
@@ -87,7 +72,7 @@ fn ask_with_stop(alloc: Global, lines: &mut Items<Line>) -> Result<(), Fail>
 }
 
 fn plan_of(alloc: Global, lines: Items<Line>) -> Result<Plan, Fail>
-    requires turns { FitStates lines }
+    requires fit { FitStates lines }
     requires few { length lines < 2 ^ 31 }
     requires within { AllByRecursion (IsWithin 2) lines }
     ensures playable { IfOk result IsPlayable }
@@ -104,20 +89,19 @@ fn plan_of(alloc: Global, lines: Items<Line>) -> Result<Plan, Fail>
 }
 
 /// The report of that plan, by so many workers.
-fn report_of<R: Threads + Wait + Sync, G: Gate + Sync>(
+fn report_of<R: Threads + Wait + Sync>(
     rt: &R,
     alloc: Global,
     lines: Items<Line>,
     workers: u32,
-    gate: &G,
 ) -> Result<Vec<ReportLine>, Fail>
-    requires turns { FitStates lines }
+    requires fit { FitStates lines }
     requires few { length lines < 2 ^ 31 }
     requires within { AllByRecursion (IsWithin 2) lines }
     requires workers { (1 ≤ workers) × (workers ≤ 64) }
 {
     let plan = plan_of(alloc, lines)?;
-    Ok(race(rt, alloc, &plan, workers, gate)?.report)
+    Ok(race(rt, alloc, &plan, workers, &OpenGate)?.report)
 }
 
 /// The line of a create, which took two transactions.
@@ -161,19 +145,6 @@ fn shows_root(line: &ReportLine, count: u32) -> bool {
     }
 }
 
-fn shows_entry(line: &ReportLine, name: &[u8], file: u64) -> bool {
-    match line {
-        ReportLine::Dump(
-            DumpLine::Entry {
-                key,
-                node: Node::File(FileId(id)),
-                ..
-            },
-        ) => key.name.bytes() == name && *id == file,
-        _ => false,
-    }
-}
-
 fn shows_file(line: &ReportLine, file: u64) -> bool {
     match line {
         ReportLine::Dump(
@@ -185,25 +156,6 @@ fn shows_file(line: &ReportLine, file: u64) -> bool {
         ) => *id == file,
         _ => false,
     }
-}
-
-#[test]
-fn clients_of_two_workers_meet(rt: HostRuntime) -> Result<(), Fail> {
-    let alloc = rt.alloc();
-    let gate = MeetGate::start(200_000_000);
-    let mut lines = Items::new(alloc);
-    ask_two_files(alloc, &mut lines)?;
-    let report = report_of(&rt, alloc, lines, 2, &gate)?;
-    assert!(&rt; gate.met());
-    assert_eq!(&rt; report.len(), 7);
-    assert!(&rt; tells_created(&report[0], b"c1", 1, FIRST));
-    assert!(&rt; tells_created(&report[1], b"c2", 1, SECOND));
-    assert!(&rt; shows_root(&report[2], 2));
-    assert!(&rt; shows_entry(&report[3], b"a", FIRST));
-    assert!(&rt; shows_entry(&report[4], b"b", SECOND));
-    assert!(&rt; shows_file(&report[5], FIRST));
-    assert!(&rt; shows_file(&report[6], SECOND));
-    Ok(())
 }
 
 /// The answers come client by client, and each dump behind those of its part.
@@ -223,7 +175,7 @@ fn a_client_stops_among_one_and_three_workers(rt: HostRuntime) -> Result<(), Fai
     for workers in [1, 3] {
         let mut lines = Items::new(alloc);
         ask_with_stop(alloc, &mut lines)?;
-        let report = report_of(&rt, alloc, lines, workers, &OpenGate)?;
+        let report = report_of(&rt, alloc, lines, workers)?;
         is_report_with_stop(&rt, report.as_slice());
     }
     Ok(())

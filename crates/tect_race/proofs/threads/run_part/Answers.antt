@@ -1,4 +1,4 @@
-use Rattle.std.proofs.Common.{◌≡◌, ◌<◌, List, length, drop, sym, subst, ◌∙◌}
+use Rattle.std.proofs.Common.{◌≡◌, ◌<◌, length, drop, sym, subst, ◌∙◌}
 use Rattle.tect_race.specs.Ready.{AreAssigned, CanBeCollected}
 use Rattle.tect_race.proofs.Collecting.{can_collect, racers_ran, racers_ready, workers_ready}
 use Rattle.tect_race.proofs.threads.run_part.Goals as goal
