@@ -185,7 +185,8 @@ module _ (old new : Inside) (a : ℕ) (s : ClientLife) (es : List Event) (ms : L
           → (if t then [] else events_in (client_at c new.clients.items b)) ≡
           (if t then [] else events_in (client_at c old.clients.items b))) [
             | true ↦ λ e. refl
-            | false ↦ λ e. ap events_in (at_other b (let some : b ≢ 0 = λ z. grind (arith, num_eq_cases b 0, z, e) in omega (arith, some)) d)
+            | false ↦ λ e. ap events_in
+                (at_other b (let some : b ≢ 0 = λ z. grind (arith, num_eq_cases b 0, z, e) in omega (arith, some)) d)
           ] refl
 
   history_more : (life_of new).history ≡ (life_of old).history ++ es
