@@ -60,7 +60,7 @@ fn swaps_a_for_b(tree: &mut Tree) -> Result<bool, Fail> {
 fn count_in_root(tree: &mut Tree) -> Result<usize, Fail> {
     match tree.play(&TreeStep::List { dir: ROOT })? {
         TreeReply::Ok {
-            shown: StepValue::Entries { items, .. },
+            value: StepValue::Entries { items, .. },
         } => Ok(items.len()),
         _ => Err(Fail::new(format_args!("no listing"))),
     }
