@@ -22,7 +22,7 @@ use Rattle.script_words.specs.declared.limits.Limit.TheVariants as limits
 use Rattle.script_words.specs.declared.limits.Fit.{Fit}
 use Rattle.script_words.specs.declared.limits.Fit.TheVariants.{Fits, Over, Unfit}
 use Rattle.script_words.specs.WordForm.{names_fit}
-use Rattle.script_forms.specs.declared.clients.ClientState.{ClientState}
+use Rattle.script_forms.specs.declared.clients.ClientState.{ClientState as ReadState}
 use Rattle.script_forms.specs.declared.clients.ClientState.TheVariants as states
 use Rattle.script_forms.specs.LineText.{command_words, act_words, line_text}
 use Rattle.script_forms.specs.LineForms.{IsCommand, IsAct, AreCounts, path_limit, first_limit, command_limit, act_limit}
@@ -92,7 +92,7 @@ bounded counts acts.Stop is fits = tt
 
 -- ---- the states of clients, by their numbers
 
-abbrev turn_of : ClientState → ClientState
+abbrev turn_of : ReadState → ClientState
 turn_of states.Idle = Idle
 turn_of states.Busy = Busy
 turn_of states.Gone = Gone
@@ -128,7 +128,7 @@ module _ (eq : List ℕ → List ℕ → Bool) (name : List ℕ) where
       by others true h = rw h agree.0
       by others false h = rw h (ap turns (omega arith) ∙ others)
 
-  agree_set : (turns : ClientStates) (n : ℕ) (seen : Seen) (st : ClientState) → Agree turns n seen
+  agree_set : (turns : ClientStates) (n : ℕ) (seen : Seen) (st : ReadState) → Agree turns n seen
       → Agree (with_state turns (n + (place seen + 1)) (turn_of st)) n (insert_entry eq seen name st)
   agree_set turns n [] st agree = (
     with_own turns (n + 1) (turn_of st),
@@ -157,7 +157,7 @@ module _ (eq : List ℕ → List ℕ → Bool) (name : List ℕ) where
       by others false h = rw h (omega (arith, others))
 
   -- a client that is seen has its place among them, and stays there
-  place_found : (seen : Seen) (st : ClientState) → is_none (lookup (eq name) seen) ≡ false → (place seen < length seen)
+  place_found : (seen : Seen) (st : ReadState) → is_none (lookup (eq name) seen) ≡ false → (place seen < length seen)
       × (length (insert_entry eq seen name st) ≡ length seen)
   place_found [] st some = absurd (grind (arith, some))
   place_found (e ∷ seen) st some = by (place_found seen st) (eq name e.0) refl
@@ -170,7 +170,7 @@ module _ (eq : List ℕ → List ℕ → Bool) (name : List ℕ) where
           let rest = others (rw h at some) in
           rw h (omega (arith, rest.0), omega (arith, rest.1))
 
-  grows : (seen : Seen) (st : ClientState) → (place seen < length (insert_entry eq seen name st))
+  grows : (seen : Seen) (st : ReadState) → (place seen < length (insert_entry eq seen name st))
       × (length seen ≤ length (insert_entry eq seen name st)) × (length (insert_entry eq seen name st) ≤ length seen + 1)
   grows [] st = (omega arith, omega arith, omega arith)
   grows (e ∷ seen) st = by (grows seen st) (eq name e.0) refl
@@ -185,7 +185,7 @@ module _ (eq : List ℕ → List ℕ → Bool) (name : List ℕ) where
           rw h (omega (arith, rest.0), omega (arith, rest.1), omega (arith, rest.2))
 
 -- one more of 64 clients
-few_more : (seen : Seen) (name : List ℕ) (st : ClientState) → length seen ≤ 64 → is_one_too_many seen name ≡ false
+few_more : (seen : Seen) (name : List ℕ) (st : ReadState) → length seen ≤ 64 → is_one_too_many seen name ≡ false
     → (client_number seen name ≤ 64) × (length (insert_entry same_name seen name st) ≤ 64)
 few_more seen name st few room = by (is_none (lookup (same_name name) seen)) refl
   where
@@ -227,12 +227,12 @@ plain (commands.Repair disk index) = (_, _, refl, refl)
 plain commands.SweepAll = (_, _, refl, refl)
 plain (commands.Lose disk) = (_, _, refl, refl)
 
-begins_now : (st : ClientState) (w : List ℕ) → goes_on w ≡ false → not (takes_word st w) ≡ false → turn_of st ≡ Idle
+begins_now : (st : ReadState) (w : List ℕ) → goes_on w ≡ false → not (takes_word st w) ≡ false → turn_of st ≡ Idle
 begins_now states.Idle w is takes = refl
 begins_now states.Busy w is takes = absurd (grind (arith, is, takes))
 begins_now states.Gone w is takes = absurd (grind (arith, takes))
 
-goes_now : (st : ClientState) (w : List ℕ) → goes_on w ≡ true → not (takes_word st w) ≡ false → turn_of st ≡ Busy
+goes_now : (st : ReadState) (w : List ℕ) → goes_on w ≡ true → not (takes_word st w) ≡ false → turn_of st ≡ Busy
 goes_now states.Idle w is takes = absurd (grind (arith, is, takes))
 goes_now states.Busy w is takes = refl
 goes_now states.Gone w is takes = absurd (grind (arith, takes))
