@@ -7,6 +7,3 @@ mod requests;
 mod shard;
 
 pub use shard::FileShard;
-
-#[cfg(test)]
-mod tests;

@@ -9,6 +9,3 @@ mod readings;
 mod shard;
 
 pub use shard::NameShard;
-
-#[cfg(test)]
-mod tests;

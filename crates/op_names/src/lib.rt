@@ -13,6 +13,3 @@ mod showing;
 mod start;
 
 pub use running::Running;
-
-#[cfg(test)]
-mod tests;

@@ -21,6 +21,3 @@ pub use places::place;
 pub use store_rules::{AnyReply, AnyReq};
 pub use teaching::{Learned, learn};
 pub use tokens::{Fact, Granted, Made, Spent};
-
-#[cfg(test)]
-mod tests;
