@@ -8,7 +8,7 @@ use Rattle.tect_ids.specs.Keys.{op_eq}
 use Rattle.tree_model.specs.Tree.{opening_tree}
 use Rattle.world_runs.specs.declared.event.Event.{Event}
 use Rattle.world_runs.specs.declared.event.Event.TheVariants.{Began, NotBegun, Acted, Ended, Stopped, Failed, Dumped}
-use Rattle.program_rules.specs.Lacks.{no_room}
+use Rattle.program_forms.specs.Lacks.{no_room}
 use Rattle.claim_words.specs.TreeSteps.{tree_steps, IsTreeRun}
 use Rattle.claim_words.specs.Points.{of_op, Point, LacksName}
 

@@ -17,7 +17,7 @@ use Rattle.passes.specs.declared.pass.Pass.{Pass}
 use Rattle.passes.specs.Commits as passes
 use Rattle.world_runs.specs.declared.event.Event.{Event}
 use Rattle.world_runs.specs.declared.event.Event.TheVariants.{Began, NotBegun, Ended, Stopped}
-use Rattle.program_rules.specs.Lacks.{no_room}
+use Rattle.program_forms.specs.Lacks.{no_room}
 use Rattle.world_runs.specs.Moments.{Actor, idle_actor, begun, not_begun, program_of, program_answer}
 use Rattle.world_runs.specs.Report.{transactions}
 use Rattle.world_runs.specs.Served.{IsServed}

@@ -15,7 +15,7 @@ use Rattle.store_rules.specs.Views.{is_made}
 use Rattle.program_rules.specs.declared.program.Program.{Program}
 use Rattle.world_runs.specs.declared.event.Event.{Event}
 use Rattle.world_runs.specs.declared.event.Event.TheVariants.{Began, NotBegun, Acted, Ended, Stopped, Failed, Dumped}
-use Rattle.program_rules.specs.Lacks.{IsLack}
+use Rattle.program_forms.specs.Lacks.{IsLack}
 use Rattle.world_runs.specs.Moments.{Actor, idle_actor, program_of, program_ask, heard, next_serial}
 use Rattle.world_runs.specs.Races.{is_own}
 use Rattle.world_runs.specs.Report.{is_act_of, transactions}

@@ -9,7 +9,7 @@ use Rattle.entry_words.specs.declared.entry.Refused.{Refused}
 use Rattle.entry_words.specs.Moments.{running_in}
 use Rattle.world_runs.specs.declared.event.Event.{Event}
 use Rattle.world_runs.specs.declared.event.Event.TheVariants.{Ended, Stopped}
-use Rattle.program_rules.specs.Lacks.{no_room}
+use Rattle.program_forms.specs.Lacks.{no_room}
 use Rattle.world_runs.specs.Events.{events_of}
 use Rattle.clients.specs.declared.turned.Turned.TheVariants as turns
 use Rattle.clients.specs.Lives.{ClientLife, events_in, state_in, op_in, IsLife, stopped_with}

@@ -22,7 +22,7 @@ use Rattle.passes.specs.declared.pass.Pass.{Pass}
 use Rattle.passes.specs.Commits as passes
 use Rattle.world_runs.specs.declared.event.Event.{Event}
 use Rattle.world_runs.specs.declared.event.Event.TheVariants.{Acted, Ended, Failed}
-use Rattle.program_rules.specs.Lacks.{IsLack}
+use Rattle.program_forms.specs.Lacks.{IsLack}
 use Rattle.world_runs.specs.Moments.{Actor, idle_actor, program_of, program_ask, program_answer, heard, went_on}
 use Rattle.world_runs.specs.Races.{is_own}
 use Rattle.world_runs.specs.Report.{transactions}

@@ -4,7 +4,7 @@ ghost use Rattle.tect_ids.specs.Places.{HasPlaces};
 ghost use Rattle.tect_calls.specs.Knowing.{IsActor};
 ghost use Rattle.entry_words.specs.declared.entry.Refused.TheVariants as refusals;
 ghost use Rattle.world_runs.specs.declared.event.Event.TheVariants as events;
-ghost use Rattle.program_rules.specs.Lacks.{no_room};
+ghost use Rattle.program_forms.specs.Lacks.{no_room};
 ghost use Rattle.world_runs.specs.Moments.{program_ask};
 ghost use Rattle.world_runs.specs.Report.{transactions};
 ghost use Rattle.world_runs.specs.Served.{IsServed};

@@ -9,6 +9,7 @@ use Rattle.entry_words.specs.contracts.entry.EntryClone.TheImpl as entry_clone
 use Rattle.entry_words.specs.contracts.entry.MomentClone.TheImpl as moment_clone
 use Rattle.entry_words.specs.contracts.entry.NoteClone.TheImpl as note_clone
 use Rattle.entry_words.specs.declared.entry.Entry.{Entry}
+use Rattle.program_forms.specs.declared.heard.Heard.{Heard}
 use Rattle.entry_words.specs.declared.entry.Moment.{Moment}
 use Rattle.entry_words.specs.declared.entry.Moment.TheVariants.{Act, Local}
 use Rattle.entry_words.specs.declared.entry.Note.{Note}
@@ -41,8 +42,14 @@ same_note (Stopped op) b h = grind arith
 tie_local : (s m : ℕ) (n : Note) (t k : ℕ) (o : Note) → t ≡ s → k ≡ m → o ≡ n → Local t k o ≡ Local s m n
 tie_local s m n t k o e f g = cc
 
+tie_act : (a b : Entry) (x y : Heard) → b ≡ a → y ≡ x → Act b y ≡ Act a x
+tie_act a b x y e f = cc
+
+same_heard : (x y : Heard) → y ≡ x → y ≡ x
+same_heard x y e = e
+
 pub same_moment : (a b : Moment) → (moment_clone.ghosts).is_clone a b → b ≡ a
-same_moment (Act a) (Act b) h = ap Act (same_entry a b h)
-same_moment (Act a) (Local stamp actor note) h = elim h [ ]
-same_moment (Local s m n) (Act b) h = elim h [ ]
+same_moment (Act a x) (Act b y) h = tie_act a b x y (same_entry a b h.0) (same_heard x y h.1)
+same_moment (Act a x) (Local stamp actor note) h = elim h [ ]
+same_moment (Local s m n) (Act b y) h = elim h [ ]
 same_moment (Local s m n) (Local t k o) h = tie_local s m n t k o h.0 h.1.0 (same_note n o h.1.1)

@@ -5,26 +5,27 @@ use Rattle.tect_ids.specs.declared.ids.OpId.{OpId}
 use Rattle.entry_words.specs.declared.entry.Entry.{Entry}
 use Rattle.entry_words.specs.declared.entry.Note.{Note}
 use Rattle.entry_words.specs.declared.entry.Note.TheVariants.{Began, Ended, Stopped}
+use Rattle.program_forms.specs.declared.heard.Heard.{Heard}
 use Rattle.entry_words.specs.declared.entry.Moment.{Moment}
 use Rattle.entry_words.specs.declared.entry.Moment.TheVariants.{Act, Local}
 use Rattle.store_rules.specs.ReplyBytes.{reply_bytes}
 
 abbrev pub stamp_of : Moment → ℕ
-stamp_of (Act e) = e.stamp
+stamp_of (Act e h) = e.stamp
 stamp_of (Local stamp actor note) = stamp
 
 abbrev pub actor_of : Moment → ℕ
-actor_of (Act e) = e.actor
+actor_of (Act e h) = e.actor
 actor_of (Local stamp actor note) = actor
 
 -- the number of its place; a note stands behind all places
 abbrev pub place_of_moment : Moment → ℕ
-place_of_moment (Act e) = e.place.0
+place_of_moment (Act e h) = e.place.0
 place_of_moment (Local stamp actor note) = 256
 
 -- whether it is a transaction at that place
 abbrev pub is_at : ℕ → Moment → Bool
-is_at place (Act e) = e.place.0 == place
+is_at place (Act e h) = e.place.0 == place
 is_at place (Local stamp actor note) = false
 
 abbrev pub is_of : ℕ → Moment → Bool
@@ -33,7 +34,7 @@ is_of actor m = actor_of m == actor
 -- the entries alone
 abbrev pub trail_of : List Moment → List Entry
 trail_of [] = []
-trail_of (Act e ∷ ms) = e ∷ trail_of ms
+trail_of (Act e h ∷ ms) = e ∷ trail_of ms
 trail_of (Local stamp actor note ∷ ms) = trail_of ms
 
 -- the stamps rise, from above low, and none is above high
@@ -62,12 +63,12 @@ op_of (Stopped op) = op
 
 abbrev pub all_notes_of : ℕ → List Moment → Bool
 all_notes_of actor [] = true
-all_notes_of actor (Act e ∷ ms) = all_notes_of actor ms
+all_notes_of actor (Act e h ∷ ms) = all_notes_of actor ms
 all_notes_of actor (Local stamp by note ∷ ms) = ((op_of note).actor == actor) && all_notes_of actor ms
 
 -- the room that it takes of its pass: the beginning of an op takes that of the op's end as well
 abbrev pub moment_cost : Moment → ℕ
-moment_cost (Act e) = 1
+moment_cost (Act e h) = 1
 moment_cost (Local stamp actor (Began op command)) = 2
 moment_cost (Local stamp actor (Ended op answer)) = 0
 moment_cost (Local stamp actor (Stopped op)) = 0
@@ -77,7 +78,7 @@ moments_cost ms = sum_by moment_cost ms
 
 -- the op that has begun and not ended
 abbrev pub running_after : Option OpId → Moment → Option OpId
-running_after running (Act e) = running
+running_after running (Act e h) = running
 running_after running (Local stamp actor (Began op command)) = Some op
 running_after running (Local stamp actor (Ended op answer)) = None
 running_after running (Local stamp actor (Stopped op)) = None
@@ -85,3 +86,13 @@ running_after running (Local stamp actor (Stopped op)) = None
 abbrev pub running_in : Option OpId → List Moment → Option OpId
 running_in running [] = running
 running_in running (m ∷ ms) = running_in (running_after running m) ms
+
+abbrev pub heard_as : Heard → Moment → Moment
+heard_as heard (Act e h) = Act e heard
+heard_as heard (Local stamp actor note) = Local stamp actor note
+
+-- the last of them is a transaction, which its command heard so
+abbrev pub heard_last : Heard → List Moment → List Moment
+heard_last heard [] = []
+heard_last heard (m ∷ []) = heard_as heard m ∷ []
+heard_last heard (m ∷ n ∷ ms) = m ∷ heard_last heard (n ∷ ms)

@@ -1,5 +1,6 @@
 ghost use Rattle.std.specs.Prelude.{◌≡◌, ◌↔◌, IsTrue};
 
+use program_forms::Heard;
 use store_rules::{AnyReply, AnyReq};
 use tect_ids::{Answer, Command, OpId, Place};
 
@@ -47,7 +48,8 @@ pub enum Note {
 /// What one actor did: a transaction, or a note.
 #[derive(Clone, Drop)]
 pub enum Moment {
-    Act(Entry),
+    /// A transaction, and how its command heard the reply.
+    Act { entry: Entry, heard: Heard },
     Local { stamp: u64, actor: u32, note: Note },
 }
 
@@ -59,7 +61,7 @@ impl Moment {
         ensures { result ≡ stamp_of self.now }
     {
         match self {
-            Moment::Act(entry) => entry.stamp,
+            Moment::Act { entry, .. } => entry.stamp,
             Moment::Local { stamp, .. } => *stamp,
         }
     }

@@ -19,7 +19,7 @@ use Rattle.entry_words.specs.declared.entry.Refused.{Refused}
 use Rattle.entry_words.specs.Moments.{rises, running_in}
 use Rattle.world_runs.specs.declared.event.Event.{Event}
 use Rattle.world_runs.specs.declared.event.Event.TheVariants.{Ended, Acted}
-use Rattle.program_rules.specs.Lacks.{no_room}
+use Rattle.program_forms.specs.Lacks.{no_room}
 use Rattle.world_runs.specs.Moments.{program_ask}
 use Rattle.world_runs.specs.Events.{end_event}
 use Rattle.clients.specs.declared.turned.Turned.{Turned}

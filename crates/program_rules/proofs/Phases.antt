@@ -30,7 +30,7 @@ use Rattle.program_rules.specs.Paths.{last_name}
 use Rattle.program_rules.specs.Programs.{phase_ask, phase_answer, phase_hear, name_refusal, file_refusal, refusal, dir_refusal, walked}
 use Rattle.program_rules.specs.Programs.{looked, checked, entries_heard, made_heard, unbound_heard, source_heard, first_hear, then_release}
 use Rattle.program_rules.specs.Programs.{bound_heard, swapped_heard, first_phase}
-use Rattle.program_rules.specs.Lacks.{IsLack}
+use Rattle.program_forms.specs.Lacks.{IsLack}
 use Rattle.program_rules.specs.Asking.{HasFirstAsk, GivesName, IsSmooth}
 
 -- ---- where a command begins

@@ -1,12 +1,10 @@
 -- What a running command of a client comes to: it asks a request or has its answer, which is no want of memory or of room.
-use Rattle.std.specs.Prelude.{◌≡◌, ◌∷◌, Option, Some, None}
-use Rattle.tect_ids.specs.declared.ids.OpId.{OpId}
+use Rattle.std.specs.Prelude.{◌∷◌}
 use Rattle.tect_ids.specs.declared.command.Command.{Command}
 use Rattle.tect_ids.specs.declared.command.Command.TheVariants as commands
 use Rattle.program_rules.specs.declared.program.Phase.{Phase}
 use Rattle.program_rules.specs.declared.program.Phase.TheVariants.{Walk, Bind, Grant, Swap, Release, End}
-use Rattle.program_rules.specs.declared.program.Program.{Program}
-use Rattle.program_rules.specs.Lacks.{IsLack, no_room}
+use Rattle.program_forms.specs.Lacks.{IsLack}
 
 -- the command asks something where its walk ends
 abbrev pub HasFirstAsk : Command → Type 0
@@ -29,15 +27,3 @@ IsSmooth c (Grant k n) = GivesName c
 IsSmooth c (Swap k n) = GivesName c
 IsSmooth c (Release n h old a) = ¬ IsLack a
 IsSmooth c (End a) = ¬ IsLack a
-
-abbrev pub RunsSmoothly : Option Program → Type 0
-RunsSmoothly None = Unit {0}
-RunsSmoothly (Some p) = IsSmooth p.command p.phase
-
-abbrev pub WasRefused : Option Program → Type 0
-WasRefused None = Unit {0}
-WasRefused (Some p) = p.phase ≡ End no_room
-
-abbrev pub running_op : Option Program → Option OpId
-running_op None = None
-running_op (Some p) = Some p.op

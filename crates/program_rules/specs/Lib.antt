@@ -1,4 +1,4 @@
 pub mod Paths
 pub mod Programs
-pub mod Lacks
 pub mod Asking
+pub mod Served

@@ -227,9 +227,9 @@ first_phase (commands.Rename p []) = End answers.NoName
 first_phase (commands.Rename p (n ∷ to)) = from_root p (but_last p)
 first_phase _ = End answers.NoName
 
--- the program of a command that begins as that op
-abbrev pub started : OpId → Command → Program
-started op c = record { op = op; command = c; phase = first_phase c }
+-- the program of a command that begins
+abbrev pub started : Command → Program
+started c = record { command = c; phase = first_phase c }
 
 -- the answer that it has come to
 abbrev pub phase_answer : Phase → Option Answer

@@ -2,7 +2,7 @@ ghost use Rattle.std.specs.Prelude.{◌≡◌};
 ghost use Rattle.std.specs.Option.{option_copied};
 
 use store_rules::Replaced;
-use tect_ids::{Answer, Command, DirId, Hold, Key, Node, OpId, Over, Path};
+use tect_ids::{Answer, Command, DirId, Hold, Key, Node, Over, Path};
 
 /// Where a running command stands.
 #[derive(Drop)]
@@ -44,7 +44,6 @@ pub enum Phase {
 /// A running command.
 #[derive(Drop)]
 pub struct Program {
-    pub op: OpId,
     pub command: Command,
     pub phase: Phase,
 }

@@ -15,7 +15,7 @@ use Rattle.program_rules.specs.declared.program.Program.{Program}
 use Rattle.program_rules.specs.Programs.{object_number, phase_ask, phase_hear, started}
 use Rattle.world_runs.specs.declared.event.Event.{Event}
 use Rattle.world_runs.specs.declared.event.Event.TheVariants.{Began, NotBegun, Acted, Ended, Stopped, Failed, Dumped}
-use Rattle.program_rules.specs.Lacks.{no_room}
+use Rattle.program_forms.specs.Lacks.{no_room}
 use Rattle.world_runs.specs.Moments.{WorldState, Actor, May, after, program_of, running, program_ask, program_answer, begun, not_begun}
 use Rattle.world_runs.specs.Moments.{went_on, heard}
 use Rattle.claim_words.specs.Headline.{begun_by}

@@ -16,7 +16,7 @@ use Rattle.program_rules.specs.Programs.{started}
 use Rattle.world_runs.specs.declared.event.Event.{Event}
 use Rattle.world_runs.specs.declared.event.Event.TheVariants.{Began, NotBegun, Acted, Ended, Stopped, Failed, Dumped}
 use Rattle.world_runs.specs.Served.{IsServed}
-use Rattle.program_rules.specs.Lacks.{no_room}
+use Rattle.program_forms.specs.Lacks.{no_room}
 use Rattle.world_runs.specs.Moments.{WorldState, May, CanBegin, opening, after, after_all, RunFrom, IsWorldRun, moment, running, answered}
 use Rattle.world_runs.specs.Moments.{program_of, begun, not_begun}
 use Rattle.world_runs.specs.Follows.{IsEndOf, IsBeginOf, DoesLine, Busy, FollowsFrom}

@@ -14,7 +14,7 @@ use Rattle.program_rules.specs.declared.program.Phase.{Phase}
 use Rattle.program_rules.specs.declared.program.Phase.TheVariants.{End}
 use Rattle.program_rules.specs.declared.program.Program.{Program}
 use Rattle.program_rules.specs.Programs.{object_number, phase_ask, phase_answer, phase_hear}
-use Rattle.program_rules.specs.Lacks.{no_room}
+use Rattle.program_forms.specs.Lacks.{no_room}
 use Rattle.program_rules.specs.Asking.{IsSmooth}
 use Rattle.program_rules.proofs.Phases.{smooth_begins, smooth_goes, smooth_hears}
 use Rattle.world_runs.specs.declared.event.Event.{Event}

@@ -17,7 +17,7 @@ use Rattle.program_rules.specs.Programs.{root, object_number, own_hold, phase_as
 use Rattle.world_runs.specs.declared.event.Event.{Event}
 use Rattle.world_runs.specs.declared.event.Event.TheVariants.{Began, NotBegun, Acted, Ended, Stopped, Failed, Dumped}
 use Rattle.world_runs.specs.Served.{IsServed}
-use Rattle.program_rules.specs.Lacks.{no_room}
+use Rattle.program_forms.specs.Lacks.{no_room}
 use Rattle.world_runs.specs.Moments.{Actor, WorldState, CanBegin, May, after, went_on, next_serial, opening, with_actor}
 use Rattle.store_world.specs.Worlds.{World, Ghost, next, ghost_next, opening_ghost}
 use Rattle.store_world.specs.Later.{actor_of, Later, Within, by_actor}

@@ -10,7 +10,7 @@ use Rattle.tect_ids.specs.declared.script.Line.TheVariants as lines
 use Rattle.tect_ids.specs.declared.script.Plan.{Plan}
 use Rattle.tect_ids.specs.declared.script.ReportLine.TheVariants as report_lines
 use Rattle.store_rules.specs.Dumps.{store_dump}
-use Rattle.program_rules.specs.Lacks.{IsLack}
+use Rattle.program_forms.specs.Lacks.{IsLack}
 use Rattle.world_runs.specs.declared.event.Event.{Event}
 use Rattle.world_runs.specs.declared.event.Event.TheVariants.{Began, NotBegun, Acted, Ended, Stopped, Failed, Dumped}
 use Rattle.world_runs.specs.Follows.{Follows}

@@ -1,5 +1,6 @@
 ghost use Rattle.std.specs.Prelude.{◌≡◌, ◌+◌, ◌^◌, ◌<◌, IfOk};
 ghost use Rattle.tect_ids.specs.Places.{HasPlaces};
+ghost use Rattle.program_forms.specs.Memories.{opening_memory};
 ghost use Rattle.tect_calls.specs.Knowing.{IsActor, next_number};
 
 use std::alloc::Global;
@@ -20,7 +21,7 @@ impl Model for Memory {
 
     ghost Value = { Known };
 
-    ghost view = { λ m. record { actor = m.actor; serial = m.serial; counts = m.counts } };
+    ghost view = { λ m. record { actor = m.actor; counts = m.counts; memory = record { serial = m.serial } } };
 
     ghost invariant = { λ m. IsActor m.actor };
 }
@@ -29,7 +30,7 @@ impl Memory {
     /// What an actor knows at the start: it has made nothing, and that takes no memory. Actors are numbered from 1 to 65.
     pub fn start(_alloc: Global, actor: u32, counts: Counts) -> Result<Memory, NoMemory>
         requires { IsActor actor }
-        ensures { IfOk result (λ memory. memory ≡ record { actor = actor; serial = 1; counts = counts }) }
+        ensures { IfOk result (λ memory. memory ≡ record { actor = actor; counts = counts; memory = opening_memory }) }
     {
         Ok(Memory {
             actor,
@@ -54,8 +55,8 @@ impl Memory {
 
     /// The next object was made: the one after it has the next serial. It takes no memory.
     pub fn take_serial(&mut self)
-        requires { self.old.serial + 1 < 2 ^ 32 }
-        ensures { self.new ≡ record self.old { serial = self.old.serial + 1 } }
+        requires { self.old.memory.serial + 1 < 2 ^ 32 }
+        ensures { self.new ≡ record self.old { memory = record self.old.memory { serial = self.old.memory.serial + 1 } } }
     {
         self.serial += 1;
     }

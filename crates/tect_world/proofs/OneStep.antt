@@ -12,7 +12,7 @@ use Rattle.store_rules.specs.Store.{Store, store_step}
 use Rattle.entry_words.specs.declared.entry.Refused.TheVariants as refusals
 use Rattle.world_runs.specs.declared.event.Event.{Event}
 use Rattle.world_runs.specs.declared.event.Event.TheVariants.{Ended, Failed}
-use Rattle.program_rules.specs.Lacks.{IsLack}
+use Rattle.program_forms.specs.Lacks.{IsLack}
 use Rattle.world_runs.specs.Events.{end_event}
 use Rattle.world_runs.specs.OwnRuns.{RepliesAre, stored_after}
 use Rattle.clients.specs.Lives.{ClientLife}

@@ -22,7 +22,7 @@ use Rattle.tect_ids.specs.declared.command.Command.{Command}
 use Rattle.entry_words.specs.declared.entry.Refused.TheVariants as refusals
 use Rattle.world_runs.specs.declared.event.Event.{Event}
 use Rattle.world_runs.specs.declared.event.Event.TheVariants.{Acted, Ended, Failed}
-use Rattle.program_rules.specs.Lacks.{IsLack}
+use Rattle.program_forms.specs.Lacks.{IsLack}
 use Rattle.world_runs.specs.Moments.{Actor, idle_actor, program_of, program_ask, program_answer, went_on, heard}
 use Rattle.world_runs.specs.Events.{end_event}
 use Rattle.world_runs.specs.OwnRuns.{OwnRun, own_state}

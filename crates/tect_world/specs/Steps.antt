@@ -6,7 +6,7 @@ use Rattle.tect_ids.specs.declared.command.Command.{Command}
 use Rattle.world_runs.specs.declared.event.Event.{Event}
 use Rattle.world_runs.specs.declared.event.Event.TheVariants.{Began, NotBegun, Acted, Ended, Stopped, Failed, Dumped}
 use Rattle.world_runs.specs.Follows.{Acts, IsBeginOf}
-use Rattle.program_rules.specs.Lacks.{IsLack}
+use Rattle.program_forms.specs.Lacks.{IsLack}
 use Rattle.clients.specs.declared.turned.Turned.{Turned}
 use Rattle.clients.specs.declared.turned.Turned.TheVariants.{Done}
 use Rattle.clients.specs.Turns.{turned_by}

@@ -2,33 +2,49 @@
 use Rattle.std.specs.Prelude.{◌≡◌, ℕ, ◌+◌, ◌≤◌, eqb, if◌then◌else◌, Option, Some, None, List, [], ◌∷◌, ◌++◌, ◌⊎◌}
 use Rattle.std.specs.List.{AllByRecursion}
 use Rattle.tect_ids.specs.declared.ids.OpId.{OpId}
+use Rattle.tect_ids.specs.declared.answer.Answer.{Answer}
+use Rattle.tect_ids.specs.declared.answer.Answer.TheVariants as answers
 use Rattle.tect_ids.specs.declared.command.Command.{Command}
 use Rattle.tect_ids.specs.declared.script.Act.{Act}
 use Rattle.tect_ids.specs.declared.script.Act.TheVariants as acts
 use Rattle.tect_ids.specs.declared.script.Line.{Line}
 use Rattle.tect_ids.specs.declared.script.Line.TheVariants as lines
+use Rattle.program_forms.specs.declared.heard.Heard.{Heard}
+use Rattle.program_forms.specs.declared.heard.Heard.TheVariants.{Whole, Unkept, Left}
 use Rattle.world_runs.specs.declared.event.Event.{Event}
-use Rattle.world_runs.specs.declared.event.Event.TheVariants.{Began, NotBegun, Acted, Ended, Stopped, Failed, Dumped}
+use Rattle.world_runs.specs.declared.event.Event.TheVariants.{Own, Dumped}
+use Rattle.world_runs.specs.declared.event.Happening.{Happening}
+use Rattle.world_runs.specs.declared.event.Happening.TheVariants.{Began, NotBegun, Acted, Ended, Stopped, Failed}
+
+abbrev pub IsAct : Happening → Type 0
+IsAct (Acted q x h) = Unit {0}
+IsAct (Began c) = ⊥
+IsAct (NotBegun c) = ⊥
+IsAct (Ended a) = ⊥
+IsAct Stopped = ⊥
+IsAct (Failed a) = ⊥
+
+-- a transaction of the op
+abbrev pub IsActOf : OpId → Event → Type 0
+IsActOf op (Own other h) = (other ≡ op) × IsAct h
+IsActOf op Dumped = ⊥
 
 -- just that many transactions of the op
 abbrev pub Acts : OpId → ℕ → List Event → Type 0
 Acts op n [] = n ≡ 0
-Acts op n (Acted other q x ∷ es) = (other ≡ op) × ((rest : ℕ) × (n ≡ rest + 1) × Acts op rest es)
-Acts op n (Began other c ∷ es) = ⊥
-Acts op n (NotBegun other c ∷ es) = ⊥
-Acts op n (Ended other a ∷ es) = ⊥
-Acts op n (Stopped other ∷ es) = ⊥
-Acts op n (Failed other a ∷ es) = ⊥
-Acts op n (Dumped ∷ es) = ⊥
+Acts op n (e ∷ es) = IsActOf op e × ((rest : ℕ) × (n ≡ rest + 1) × Acts op rest es)
+
+abbrev pub IsEnd : Happening → Type 0
+IsEnd (Ended a) = Unit {0}
+IsEnd (Failed a) = Unit {0}
+IsEnd (Began c) = ⊥
+IsEnd (NotBegun c) = ⊥
+IsEnd (Acted q x h) = ⊥
+IsEnd Stopped = ⊥
 
 -- the op comes to its answer, or memory or room was wanting
 abbrev pub IsEndOf : OpId → Event → Type 0
-IsEndOf op (Ended other a) = other ≡ op
-IsEndOf op (Failed other a) = other ≡ op
-IsEndOf op (Began other c) = ⊥
-IsEndOf op (NotBegun other c) = ⊥
-IsEndOf op (Acted other q x) = ⊥
-IsEndOf op (Stopped other) = ⊥
+IsEndOf op (Own other h) = (other ≡ op) × IsEnd h
 IsEndOf op Dumped = ⊥
 
 -- transactions of the op, that many, and then its end
@@ -39,14 +55,36 @@ EndsAfter op n es = (front : List Event) × (end : Event) × (es ≡ front ++ en
 abbrev pub RunsToEnd : OpId → List Event → Type 0
 RunsToEnd op es = (n : ℕ) × EndsAfter op n es
 
+abbrev pub tries_for : Answer → ℕ
+tries_for (answers.HistoryFull p) = 1
+tries_for _ = 0
+
+-- a request for which the actor's own history had no room was a step, though no transaction was done
+abbrev pub tries : Event → ℕ
+tries (Own op (Failed a)) = tries_for a
+tries (Own op (Ended a)) = 0
+tries (Own op (Began c)) = 0
+tries (Own op (NotBegun c)) = 0
+tries (Own op (Acted q x h)) = 0
+tries (Own op Stopped) = 0
+tries Dumped = 0
+
+-- the op comes to its end within so many steps
+abbrev pub EndsWithin : OpId → ℕ → List Event → Type 0
+EndsWithin op n es =
+    (m : ℕ) × (front : List Event) × (end : Event) × (es ≡ front ++ end ∷ []) × Acts op m front × IsEndOf op end × (m + tries end ≤ n)
+
+abbrev pub Begins : Command → Happening → Type 0
+Begins c (Began d) = d ≡ c
+Begins c (NotBegun d) = d ≡ c
+Begins c (Acted q x h) = ⊥
+Begins c (Ended a) = ⊥
+Begins c Stopped = ⊥
+Begins c (Failed a) = ⊥
+
 -- the op begins the command, or is refused
 abbrev pub IsBeginOf : OpId → Command → Event → Type 0
-IsBeginOf op c (Began other d) = (other ≡ op) × (d ≡ c)
-IsBeginOf op c (NotBegun other d) = (other ≡ op) × (d ≡ c)
-IsBeginOf op c (Acted other q x) = ⊥
-IsBeginOf op c (Ended other a) = ⊥
-IsBeginOf op c (Stopped other) = ⊥
-IsBeginOf op c (Failed other a) = ⊥
+IsBeginOf op c (Own other h) = (other ≡ op) × Begins c h
 IsBeginOf op c Dumped = ⊥
 
 abbrev pub BeginsAndEnds : ℕ → Command → List Event → Type 0
@@ -65,10 +103,9 @@ DoesLine actor None acts.Run es next = (es ≡ []) × (next ≡ None)
 DoesLine actor None acts.Stop es next = (es ≡ []) × (next ≡ None)
 DoesLine actor (Some op) (acts.Do c) es next = ⊥
 DoesLine actor (Some op) (acts.Begin c) es next = ⊥
-DoesLine actor (Some op) (acts.Step n) es next =
-    (Acts op n es × (next ≡ Some op)) ⊎ ((m : ℕ) × (m ≤ n) × EndsAfter op m es × (next ≡ None))
+DoesLine actor (Some op) (acts.Step n) es next = (Acts op n es × (next ≡ Some op)) ⊎ (EndsWithin op n es × (next ≡ None))
 DoesLine actor (Some op) acts.Run es next = RunsToEnd op es × (next ≡ None)
-DoesLine actor (Some op) acts.Stop es next = (es ≡ Stopped op ∷ []) × (next ≡ None)
+DoesLine actor (Some op) acts.Stop es next = (es ≡ Own op Stopped ∷ []) × (next ≡ None)
 
 -- the busy ops, by actor
 abbrev pub Busy : Type 0
@@ -94,12 +131,25 @@ FollowsFrom busy (lines.Lose disk ∷ ls) es = ⊥
 abbrev pub Follows : List Line → List Event → Type 0
 Follows ls es = FollowsFrom none_busy ls es
 
--- the event is no failure for want of memory or room
-abbrev pub FindsMemory : Event → Type 0
-FindsMemory (Failed op a) = ⊥
-FindsMemory (NotBegun op c) = ⊥
-FindsMemory _ = Unit {0}
+abbrev pub IsWhole : Heard → Type 0
+IsWhole Whole = Unit {0}
+IsWhole Unkept = ⊥
+IsWhole Left = ⊥
 
--- no op of the history fails or is refused
-abbrev pub NoneFails : List Event → Type 0
-NoneFails = AllByRecursion FindsMemory
+abbrev pub HasMemory : Answer → Type 0
+HasMemory answers.NoMemory = ⊥
+HasMemory _ = Unit {0}
+
+-- no memory was wanting: the reply was heard whole, and the command does not fail for that
+abbrev pub FindsMemory : Event → Type 0
+FindsMemory (Own op (Acted q x h)) = IsWhole h
+FindsMemory (Own op (Failed a)) = HasMemory a
+FindsMemory (Own op (Began c)) = Unit {0}
+FindsMemory (Own op (NotBegun c)) = Unit {0}
+FindsMemory (Own op (Ended a)) = Unit {0}
+FindsMemory (Own op Stopped) = Unit {0}
+FindsMemory Dumped = Unit {0}
+
+-- no memory was wanting in the history
+abbrev pub AllFindMemory : List Event → Type 0
+AllFindMemory = AllByRecursion FindsMemory

@@ -1,10 +1,10 @@
 -- One history of the moments that were noted, of the events of refused ops, which no moment notes, and of dumps.
 use Rattle.std.specs.Prelude.{ℕ, Bool, not, nat_le, List, [], ◌∷◌, ◌++◌, map, filter}
-use Rattle.std.specs.List.{All}
 use Rattle.entry_words.specs.declared.entry.Moment.{Moment}
 use Rattle.entry_words.specs.Moments.{stamp_of}
 use Rattle.world_runs.specs.declared.event.Event.{Event}
-use Rattle.world_runs.specs.declared.event.Event.TheVariants.{Began, NotBegun, Acted, Ended, Stopped, Failed, Dumped}
+use Rattle.world_runs.specs.declared.event.Event.TheVariants.{Dumped}
+use Rattle.world_runs.specs.Refusals.{AreOfRefused}
 use Rattle.world_runs.specs.Events.{events_of, own}
 
 -- where a dump stands: behind the moments that are stamped up to this, and behind these events of refused ops
@@ -31,15 +31,10 @@ own_cut actor c = record { stamp = c.stamp; silent = own actor c.silent }
 abbrev pub own_cuts : ℕ → List Cut → List Cut
 own_cuts actor = map (own_cut actor)
 
--- the event is of an op that was refused, or may be: no transaction, no begin and no dump
-abbrev pub IsSilent : Event → Type 0
-IsSilent (NotBegun op c) = Unit {0}
-IsSilent (Ended op a) = Unit {0}
-IsSilent (Stopped op) = Unit {0}
-IsSilent (Failed op a) = Unit {0}
-IsSilent (Began op c) = ⊥
-IsSilent (Acted op q x) = ⊥
-IsSilent Dumped = ⊥
+-- the silent events are of refused ops alone, whose refusal is one of them
+abbrev pub AreSilentAfter : List Event → List Cut → List Event → Type 0
+AreSilentAfter before [] last = AreOfRefused before last
+AreSilentAfter before (c ∷ cs) last = AreOfRefused before c.silent × AreSilentAfter (before ++ c.silent) cs last
 
 abbrev pub AreSilent : List Cut → List Event → Type 0
-AreSilent cuts last = All (λ c. All IsSilent c.silent) cuts × All IsSilent last
+AreSilent cuts last = AreSilentAfter [] cuts last

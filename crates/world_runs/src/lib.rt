@@ -4,4 +4,4 @@
 
 mod event;
 
-pub use event::Event;
+pub use event::{Event, Happening};

@@ -1,7 +1,7 @@
 use Rattle.std.proofs.Common.{◌∙◌, ap, refl, ◌++◌, ◌∷◌, []}
 use Rattle.tect_ids.specs.declared.ids.OpId.{OpId}
 use Rattle.world_runs.specs.declared.event.Event.TheVariants.{Ended}
-use Rattle.program_rules.specs.Lacks.{no_room}
+use Rattle.program_forms.specs.Lacks.{no_room}
 use Rattle.clients.specs.declared.client.Client.TheInside.{Inside}
 use Rattle.clients.proofs.Begins.{refused_end}
 use Rattle.clients.proofs.Closings.{runs_here, some_here}
