@@ -4,13 +4,15 @@ use Rattle.std.proofs.lemmas.List.Elements.{filter-append}
 use Rattle.tect_ids.specs.declared.ids.Counts.{Counts}
 use Rattle.tect_ids.proofs.KeyTests.{num_eq_cases}
 use Rattle.world_runs.specs.declared.event.Event.{Event}
-use Rattle.world_runs.specs.declared.event.Event.TheVariants.{Began, NotBegun, Acted, Ended, Stopped, Failed, Dumped}
-use Rattle.store_rules.specs.Store.{Store, store_step}
-use Rattle.world_runs.specs.Moments.{Actor, WorldState, May, opening, after, after_all, moment}
+use Rattle.world_runs.specs.declared.event.Event.TheVariants.{Own, Dumped}
+use Rattle.store_rules.specs.Store.{Store}
+use Rattle.program_forms.specs.Kinds.{Programs}
+use Rattle.world_runs.specs.Actors.{Actor, own_after}
+use Rattle.world_runs.specs.Moments.{WorldState, May, opening, after, after_all, moment}
 use Rattle.world_runs.specs.Races.{is_own}
 use Rattle.world_runs.specs.Events.{own}
 use Rattle.world_runs.specs.Limits.{actor_in}
-use Rattle.world_runs.specs.OwnRuns.{OwnMay, OwnRun, own_after, own_state, RepliesAre, stored_after}
+use Rattle.world_runs.specs.OwnRuns.{OwnMayHappen, OwnRun, own_next, own_state, RepliesAre, stored_after, stored_next}
 
 pub same_number : (a : ℕ) → eqb a a ≡ true
 same_number a = grind (arith, num_eq_cases)
@@ -51,25 +53,15 @@ own-there a e es h = ap (λ t. if t then e ∷ own a es else own a es) h
 
 -- an event is its own actor's, or a dump
 pub own_of_actor : (e : Event) → (is_own (actor_in e) e ≡ true) ⊎ (e ≡ Dumped)
-own_of_actor (Began op c) = inl (same_number op.actor)
-own_of_actor (NotBegun op c) = inl (same_number op.actor)
-own_of_actor (Acted op q x) = inl (same_number op.actor)
-own_of_actor (Ended op x) = inl (same_number op.actor)
-own_of_actor (Stopped op) = inl (same_number op.actor)
-own_of_actor (Failed op x) = inl (same_number op.actor)
+own_of_actor (Own op h) = inl (same_number op.actor)
 own_of_actor Dumped = inr refl
 
 pub actor_of_own : (a : ℕ) (e : Event) → is_own a e ≡ true → actor_in e ≡ a
-actor_of_own a (Began op c) h = one_number op.actor a h
-actor_of_own a (NotBegun op c) h = one_number op.actor a h
-actor_of_own a (Acted op q x) h = one_number op.actor a h
-actor_of_own a (Ended op x) h = one_number op.actor a h
-actor_of_own a (Stopped op) h = one_number op.actor a h
-actor_of_own a (Failed op x) h = one_number op.actor a h
-actor_of_own a Dumped h = cc
+actor_of_own a (Own op h) is = one_number op.actor a is
+actor_of_own a Dumped is = absurd cc
 
 -- after an event its actor's state is the one after it, and the others stay
-picked : (actors : ℕ → Actor) (next : Actor → Actor) (a b : ℕ)
+picked : {S : Type 0} (actors : ℕ → Actor S) (next : Actor S → Actor S) (a b : ℕ)
     → (if eqb a b then next (actors b) else actors a) ≡ (if eqb b a then next (actors a) else actors a)
 picked actors next a b =
     elim (eqb a b) as (λ t. eqb a b ≡ t → (if t then next (actors b) else actors a) ≡ (if eqb b a then next (actors a) else actors a)) [
@@ -77,120 +69,73 @@ picked actors next a b =
       | false ↦ λ h. let e : eqb b a ≡ false = flipped b a ∙ h in rw e refl
     ] refl
 
-pub after_actors : (m : WorldState) (e : Event) (a : ℕ)
-    → (after m e).actors a ≡ (if is_own a e then own_after m.counts (m.actors a) e else m.actors a)
-after_actors m (Began op c) a = picked m.actors (λ s. own_after m.counts s (Began op c)) a op.actor
-after_actors m (NotBegun op c) a = picked m.actors (λ s. own_after m.counts s (NotBegun op c)) a op.actor
-after_actors m (Acted op q x) a = picked m.actors (λ s. own_after m.counts s (Acted op q x)) a op.actor
-after_actors m (Ended op x) a = picked m.actors (λ s. own_after m.counts s (Ended op x)) a op.actor
-after_actors m (Stopped op) a = picked m.actors (λ s. own_after m.counts s (Stopped op)) a op.actor
-after_actors m (Failed op x) a = picked m.actors (λ s. own_after m.counts s (Failed op x)) a op.actor
-after_actors m Dumped a = refl
+pub after_actors : {S : Type 0} (P : Programs S) (m : WorldState S) (e : Event) (a : ℕ)
+    → (after P m e).actors a ≡ (if is_own a e then own_next P m.counts (m.actors a) e else m.actors a)
+after_actors P m (Own op h) a = picked m.actors (λ s. own_after P m.counts s op h) a op.actor
+after_actors P m Dumped a = refl
 
-pub after_counts : (m : WorldState) (e : Event) → (after m e).counts ≡ m.counts
-after_counts m (Began op c) = refl
-after_counts m (NotBegun op c) = refl
-after_counts m (Acted op q x) = refl
-after_counts m (Ended op x) = refl
-after_counts m (Stopped op) = refl
-after_counts m (Failed op x) = refl
-after_counts m Dumped = refl
+pub after_counts : {S : Type 0} (P : Programs S) (m : WorldState S) (e : Event) → (after P m e).counts ≡ m.counts
+after_counts P m (Own op h) = refl
+after_counts P m Dumped = refl
 
-pub after_store : (m : WorldState) (e : Event) → (after m e).store ≡ stored_after m.store (e ∷ [])
-after_store m (Began op c) = refl
-after_store m (NotBegun op c) = refl
-after_store m (Acted op q x) = refl
-after_store m (Ended op x) = refl
-after_store m (Stopped op) = refl
-after_store m (Failed op x) = refl
-after_store m Dumped = refl
+pub after_store : {S : Type 0} (P : Programs S) (m : WorldState S) (e : Event) → (after P m e).store ≡ stored_after m.store (e ∷ [])
+after_store P m (Own op h) = refl
+after_store P m Dumped = refl
 
 -- what may happen is what its actor may do, with the store's reply
-pub may_from : (m : WorldState) (e : Event) → OwnMay (m.actors (actor_in e)) e → RepliesAre m.store (e ∷ []) → May m e
-may_from m (Began op c) h r = h
-may_from m (NotBegun op c) h r = h
-may_from m (Acted op q x) h r = (h, r.0)
-may_from m (Ended op x) h r = h
-may_from m (Stopped op) h r = h
-may_from m (Failed op x) h r = h
-may_from m Dumped h r = tt
+pub may_from : {S : Type 0} (P : Programs S) (m : WorldState S) (e : Event) → OwnMayHappen P m.counts (m.actors (actor_in e)) e
+    → RepliesAre m.store (e ∷ []) → May P m e
+may_from P m (Own op h) may replies = (may, replies.0)
+may_from P m Dumped may replies = tt
 
-pub own_from : (m : WorldState) (e : Event) → May m e → OwnMay (m.actors (actor_in e)) e × RepliesAre m.store (e ∷ [])
-own_from m (Began op c) h = (h, tt)
-own_from m (NotBegun op c) h = (h, tt)
-own_from m (Acted op q x) h = (h.0, (h.1, tt))
-own_from m (Ended op x) h = (h, tt)
-own_from m (Stopped op) h = (h, tt)
-own_from m (Failed op x) h = (h, tt)
-own_from m Dumped h = (tt, tt)
+pub own_from : {S : Type 0} (P : Programs S) (m : WorldState S) (e : Event) → May P m e
+    → OwnMayHappen P m.counts (m.actors (actor_in e)) e × RepliesAre m.store (e ∷ [])
+own_from P m (Own op h) may = (may.0, (may.1, tt))
+own_from P m Dumped may = (tt, (tt, tt))
 
 -- ---- one list of events after another
 
-pub after_all-append : (m : WorldState) (es fs : List Event) → after_all m (es ++ fs) ≡ after_all (after_all m es) fs
-after_all-append m [] fs = refl
-after_all-append m (e ∷ es) fs = after_all-append (after m e) es fs
+pub after_all-append : {S : Type 0} (P : Programs S) (m : WorldState S) (es fs : List Event) → after_all P m (es ++ fs) ≡ after_all P (after_all P m es) fs
+after_all-append P m [] fs = refl
+after_all-append P m (e ∷ es) fs = after_all-append P (after P m e) es fs
 
-pub moment-append : (counts : Counts) (es fs : List Event) → moment counts (es ++ fs) ≡ after_all (moment counts es) fs
-moment-append counts es fs = after_all-append (opening counts) es fs
+pub moment-append : {S : Type 0} (P : Programs S) (counts : Counts) (es fs : List Event) → moment P counts (es ++ fs) ≡ after_all P (moment P counts es) fs
+moment-append P counts es fs = after_all-append P (opening counts) es fs
 
 pub own-append : (a : ℕ) (es fs : List Event) → own a (es ++ fs) ≡ own a es ++ own a fs
 own-append a es fs = filter-append (is_own a) es fs
 
-pub own_state-append : (counts : Counts) (s : Actor) (es fs : List Event)
-    → own_state counts s (es ++ fs) ≡ own_state counts (own_state counts s es) fs
-own_state-append counts s [] fs = refl
-own_state-append counts s (e ∷ es) fs = own_state-append counts (own_after counts s e) es fs
+pub own_state-append : {S : Type 0} (P : Programs S) (counts : Counts) (s : Actor S) (es fs : List Event)
+    → own_state P counts s (es ++ fs) ≡ own_state P counts (own_state P counts s es) fs
+own_state-append P counts s [] fs = refl
+own_state-append P counts s (e ∷ es) fs = own_state-append P counts (own_next P counts s e) es fs
 
-pub own_run-append : (counts : Counts) (s : Actor) (es fs : List Event) → OwnRun counts s es → OwnRun counts (own_state counts s es) fs
-    → OwnRun counts s (es ++ fs)
-own_run-append counts s [] fs r q = q
-own_run-append counts s (e ∷ es) fs r q = (r.0, own_run-append counts (own_after counts s e) es fs r.1 q)
+pub own_run-append : {S : Type 0} (P : Programs S) (counts : Counts) (s : Actor S) (es fs : List Event) → OwnRun P counts s es → OwnRun P counts (own_state P counts s es) fs
+    → OwnRun P counts s (es ++ fs)
+own_run-append P counts s [] fs r q = q
+own_run-append P counts s (e ∷ es) fs r q = (r.0, own_run-append P counts (own_next P counts s e) es fs r.1 q)
 
-pub own_run-front : (counts : Counts) (s : Actor) (es fs : List Event) → OwnRun counts s (es ++ fs) → OwnRun counts s es
-own_run-front counts s [] fs r = tt
-own_run-front counts s (e ∷ es) fs r = (r.0, own_run-front counts (own_after counts s e) es fs r.1)
+pub own_run-front : {S : Type 0} (P : Programs S) (counts : Counts) (s : Actor S) (es fs : List Event) → OwnRun P counts s (es ++ fs) → OwnRun P counts s es
+own_run-front P counts s [] fs r = tt
+own_run-front P counts s (e ∷ es) fs r = (r.0, own_run-front P counts (own_next P counts s e) es fs r.1)
 
-pub own_run-rest : (counts : Counts) (s : Actor) (es fs : List Event) → OwnRun counts s (es ++ fs)
-    → OwnRun counts (own_state counts s es) fs
-own_run-rest counts s [] fs r = r
-own_run-rest counts s (e ∷ es) fs r = own_run-rest counts (own_after counts s e) es fs r.1
+pub own_run-rest : {S : Type 0} (P : Programs S) (counts : Counts) (s : Actor S) (es fs : List Event) → OwnRun P counts s (es ++ fs)
+    → OwnRun P counts (own_state P counts s es) fs
+own_run-rest P counts s [] fs r = r
+own_run-rest P counts s (e ∷ es) fs r = own_run-rest P counts (own_next P counts s e) es fs r.1
 
 pub stored_after-append : (s : Store) (es fs : List Event) → stored_after s (es ++ fs) ≡ stored_after (stored_after s es) fs
 stored_after-append s [] fs = refl
-stored_after-append s (Acted op q x ∷ es) fs = stored_after-append (store_step s q) es fs
-stored_after-append s (Began op c ∷ es) fs = stored_after-append s es fs
-stored_after-append s (NotBegun op c ∷ es) fs = stored_after-append s es fs
-stored_after-append s (Ended op a ∷ es) fs = stored_after-append s es fs
-stored_after-append s (Stopped op ∷ es) fs = stored_after-append s es fs
-stored_after-append s (Failed op a ∷ es) fs = stored_after-append s es fs
-stored_after-append s (Dumped ∷ es) fs = stored_after-append s es fs
+stored_after-append s (e ∷ es) fs = stored_after-append (stored_next s e) es fs
 
 pub replies-append : (s : Store) (es fs : List Event) → RepliesAre s es → RepliesAre (stored_after s es) fs → RepliesAre s (es ++ fs)
 replies-append s [] fs r q = q
-replies-append s (Acted op a x ∷ es) fs r q = (r.0, replies-append (store_step s a) es fs r.1 q)
-replies-append s (Began op c ∷ es) fs r q = replies-append s es fs r q
-replies-append s (NotBegun op c ∷ es) fs r q = replies-append s es fs r q
-replies-append s (Ended op a ∷ es) fs r q = replies-append s es fs r q
-replies-append s (Stopped op ∷ es) fs r q = replies-append s es fs r q
-replies-append s (Failed op a ∷ es) fs r q = replies-append s es fs r q
-replies-append s (Dumped ∷ es) fs r q = replies-append s es fs r q
+replies-append s (e ∷ es) fs r q = (r.0, replies-append (stored_next s e) es fs r.1 q)
 
 pub replies-front : (s : Store) (es fs : List Event) → RepliesAre s (es ++ fs) → RepliesAre s es
 replies-front s [] fs r = tt
-replies-front s (Acted op a x ∷ es) fs r = (r.0, replies-front (store_step s a) es fs r.1)
-replies-front s (Began op c ∷ es) fs r = replies-front s es fs r
-replies-front s (NotBegun op c ∷ es) fs r = replies-front s es fs r
-replies-front s (Ended op a ∷ es) fs r = replies-front s es fs r
-replies-front s (Stopped op ∷ es) fs r = replies-front s es fs r
-replies-front s (Failed op a ∷ es) fs r = replies-front s es fs r
-replies-front s (Dumped ∷ es) fs r = replies-front s es fs r
+replies-front s (e ∷ es) fs r = (r.0, replies-front (stored_next s e) es fs r.1)
 
 pub replies-rest : (s : Store) (es fs : List Event) → RepliesAre s (es ++ fs) → RepliesAre (stored_after s es) fs
 replies-rest s [] fs r = r
-replies-rest s (Acted op a x ∷ es) fs r = replies-rest (store_step s a) es fs r.1
-replies-rest s (Began op c ∷ es) fs r = replies-rest s es fs r
-replies-rest s (NotBegun op c ∷ es) fs r = replies-rest s es fs r
-replies-rest s (Ended op a ∷ es) fs r = replies-rest s es fs r
-replies-rest s (Stopped op ∷ es) fs r = replies-rest s es fs r
-replies-rest s (Failed op a ∷ es) fs r = replies-rest s es fs r
-replies-rest s (Dumped ∷ es) fs r = replies-rest s es fs r
+replies-rest s (e ∷ es) fs r = replies-rest (stored_next s e) es fs r.1

@@ -3,3 +3,5 @@ pub mod Owns
 pub mod Limits
 pub mod OwnLines
 pub mod Fronts
+pub mod Prompt
+pub mod Refusals

@@ -8,15 +8,17 @@ use Rattle.tect_ids.specs.declared.ids.Counts.{Counts}
 use Rattle.tect_ids.specs.declared.ids.OpId.{OpId}
 use Rattle.tect_ids.specs.declared.answer.Answer.{Answer}
 use Rattle.tect_ids.specs.declared.answer.Answer.TheVariants as answers
-use Rattle.store_rules.specs.ReplyBytes.{reply_bytes}
 use Rattle.world_runs.specs.declared.event.Event.{Event}
-use Rattle.world_runs.specs.declared.event.Event.TheVariants.{Began, NotBegun, Acted, Ended, Stopped, Failed, Dumped}
-use Rattle.world_runs.specs.Moments.{Actor, WorldState, idle_actor, opening, moment}
+use Rattle.world_runs.specs.declared.event.Event.TheVariants.{Own, Dumped}
+use Rattle.world_runs.specs.declared.event.Happening.TheVariants.{Began, NotBegun, Acted, Ended, Stopped, Failed}
+use Rattle.program_forms.specs.Kinds.{Programs}
+use Rattle.world_runs.specs.Actors.{Actor, idle_actor}
+use Rattle.world_runs.specs.Moments.{opening, moment}
 use Rattle.world_runs.specs.Races.{is_own}
 use Rattle.world_runs.specs.Events.{own}
-use Rattle.world_runs.specs.Limits.{event_cost, event_bytes, used, kept_bytes, EndsFull, KeepsRoom, KeepsLimits, KeepsLimitsAfter}
+use Rattle.world_runs.specs.Limits.{cost, kept_bytes_of, event_cost, event_bytes, used, kept_bytes, EndsFull, KeepsRoom, KeepsLimits, KeepsLimitsAfter}
 use Rattle.world_runs.specs.Limits.{OwnLimits, actor_in}
-use Rattle.world_runs.specs.OwnRuns.{own_after, own_state}
+use Rattle.world_runs.specs.OwnRuns.{own_next, own_state}
 use Rattle.world_runs.proofs.Actors.{own_of_actor, after_actors, moment-append, own-append}
 use Rattle.world_runs.proofs.Owns.{counts_stay}
 
@@ -30,22 +32,12 @@ kept_bytes-append es fs a = sum_by-append (event_bytes a) es fs
 
 -- another's event costs nothing
 other_cost : (a : ℕ) (e : Event) → is_own a e ≡ false → event_cost a e ≡ 0
-other_cost a (Began op c) h = ap (λ b. if b then 2 else 0) h
-other_cost a (NotBegun op c) h = refl
-other_cost a (Acted op q x) h = ap (λ b. if b then 1 else 0) h
-other_cost a (Ended op x) h = refl
-other_cost a (Stopped op) h = refl
-other_cost a (Failed op x) h = refl
-other_cost a Dumped h = refl
+other_cost a (Own op h) is = ap (λ b. if b then cost h else 0) is
+other_cost a Dumped is = refl
 
 other_bytes : (a : ℕ) (e : Event) → is_own a e ≡ false → event_bytes a e ≡ 0
-other_bytes a (Began op c) h = refl
-other_bytes a (NotBegun op c) h = refl
-other_bytes a (Acted op q x) h = ap (λ b. if b then reply_bytes x else 0) h
-other_bytes a (Ended op x) h = refl
-other_bytes a (Stopped op) h = refl
-other_bytes a (Failed op x) h = refl
-other_bytes a Dumped h = refl
+other_bytes a (Own op h) is = ap (λ b. if b then kept_bytes_of h else 0) is
+other_bytes a Dumped is = refl
 
 -- a sum over what is own is that over all, where the others count nothing
 pub own_sum : (a : ℕ) (f : Event → ℕ) → ((e : Event) → is_own a e ≡ false → f e ≡ 0) → (es : List Event) → sum_by f (own a es) ≡ sum_by f es
@@ -66,82 +58,82 @@ kept_bytes_own es a = own_sum a (event_bytes a) (other_bytes a) es
 
 -- ---- own limits
 
-pub own_limits-append : (counts : Counts) (before : List Event) (s : Actor) (es fs : List Event)
-    → OwnLimits counts before s es → OwnLimits counts (before ++ es) (own_state counts s es) fs → OwnLimits counts before s (es ++ fs)
-own_limits-append counts before s [] fs l k = subst (λ (es : List Event). OwnLimits counts es s fs) (append-nil before) k
-own_limits-append counts before s (e ∷ es) fs l k =
-    (l.0, own_limits-append counts (before ++ e ∷ []) (own_after counts s e) es fs l.1 (rw append_assoc k))
+pub own_limits-append : {S : Type 0} (P : Programs S) (counts : Counts) (before : List Event) (s : Actor S) (es fs : List Event)
+    → OwnLimits P counts before s es → OwnLimits P counts (before ++ es) (own_state P counts s es) fs → OwnLimits P counts before s (es ++ fs)
+own_limits-append P counts before s [] fs l k = subst (λ (es : List Event). OwnLimits P counts es s fs) (append-nil before) k
+own_limits-append P counts before s (e ∷ es) fs l k =
+    (l.0, own_limits-append P counts (before ++ e ∷ []) (own_next P counts s e) es fs l.1 (rw append_assoc k))
 
-pub own_limits-front : (counts : Counts) (before : List Event) (s : Actor) (es fs : List Event) → OwnLimits counts before s (es ++ fs)
-    → OwnLimits counts before s es
-own_limits-front counts before s [] fs l = tt
-own_limits-front counts before s (e ∷ es) fs l = (l.0, own_limits-front counts (before ++ e ∷ []) (own_after counts s e) es fs l.1)
+pub own_limits-front : {S : Type 0} (P : Programs S) (counts : Counts) (before : List Event) (s : Actor S) (es fs : List Event) → OwnLimits P counts before s (es ++ fs)
+    → OwnLimits P counts before s es
+own_limits-front P counts before s [] fs l = tt
+own_limits-front P counts before s (e ∷ es) fs l = (l.0, own_limits-front P counts (before ++ e ∷ []) (own_next P counts s e) es fs l.1)
 
 -- what is said of an event's room is told by its actor's own events
-ends_from_own : (counts : Counts) (before : List Event) (s : Actor) (op : OpId) (x : Answer) → EndsFull counts (own op.actor before) s op x
-    → EndsFull counts before s op x
-ends_from_own counts before s op (answers.HistoryFull p) h = (rw (used_own before op.actor, kept_bytes_own before op.actor) at h.0, h.1)
-ends_from_own counts before s op _ h = tt
+ends_from_own : {S : Type 0} (P : Programs S) (counts : Counts) (before : List Event) (s : Actor S) (op : OpId) (x : Answer) → EndsFull P counts (own op.actor before) s op x
+    → EndsFull P counts before s op x
+ends_from_own P counts before s op (answers.HistoryFull p) h = (rw (used_own before op.actor, kept_bytes_own before op.actor) at h.0, h.1)
+ends_from_own P counts before s op _ h = tt
 
-room_from_own : (counts : Counts) (before : List Event) (s : Actor) (e : Event) → KeepsRoom counts (own (actor_in e) before) s e
-    → KeepsRoom counts before s e
-room_from_own counts before s (Began op c) h = rw (used_own before op.actor) at h
-room_from_own counts before s (NotBegun op c) h = rw (used_own before op.actor) at h
-room_from_own counts before s (Acted op q x) h = rw (used_own before op.actor, kept_bytes_own before op.actor) at h
-room_from_own counts before s (Ended op x) h = tt
-room_from_own counts before s (Stopped op) h = tt
-room_from_own counts before s (Failed op x) h = ends_from_own counts before s op x h
-room_from_own counts before s Dumped h = tt
+room_from_own : {S : Type 0} (P : Programs S) (counts : Counts) (before : List Event) (s : Actor S) (e : Event) → KeepsRoom P counts (own (actor_in e) before) s e
+    → KeepsRoom P counts before s e
+room_from_own P counts before s (Own op (Began c)) h = rw (used_own before op.actor) at h
+room_from_own P counts before s (Own op (NotBegun c)) h = rw (used_own before op.actor) at h
+room_from_own P counts before s (Own op (Acted q x heard)) h = rw (used_own before op.actor, kept_bytes_own before op.actor) at h
+room_from_own P counts before s (Own op (Ended x)) h = tt
+room_from_own P counts before s (Own op Stopped) h = tt
+room_from_own P counts before s (Own op (Failed x)) h = ends_from_own P counts before s op x h
+room_from_own P counts before s Dumped h = tt
 
 -- ---- the limits of all
 
 -- each actor's own events keep its limits, behind its own events before
-abbrev pub AreOwnLimits : Counts → List Event → List Event → Type 0
-AreOwnLimits counts before es = (a : ℕ) → OwnLimits counts (own a before) ((moment counts before).actors a) (own a es)
+abbrev pub AreOwnLimits : {S : Type 0} (P : Programs S) → Counts → List Event → List Event → Type 0
+AreOwnLimits P counts before es = (a : ℕ) → OwnLimits P counts (own a before) ((moment P counts before).actors a) (own a es)
 
-first_room : (counts : Counts) (before : List Event) (s : Actor) (e : Event) (es : List Event) (b : Bool) → b ≡ true
-    → OwnLimits counts before s (if b then e ∷ es else es) → KeepsRoom counts before s e
-first_room counts before s e es true h l = l.0
-first_room counts before s e es false h l = absurd cc
+first_room : {S : Type 0} (P : Programs S) (counts : Counts) (before : List Event) (s : Actor S) (e : Event) (es : List Event) (b : Bool) → b ≡ true
+    → OwnLimits P counts before s (if b then e ∷ es else es) → KeepsRoom P counts before s e
+first_room P counts before s e es true h l = l.0
+first_room P counts before s e es false h l = absurd cc
 
-first_keeps : (counts : Counts) (before : List Event) (e : Event) (es : List Event) → AreOwnLimits counts before (e ∷ es)
-    → KeepsRoom counts before ((moment counts before).actors (actor_in e)) e
-first_keeps counts before e es limits =
+first_keeps : {S : Type 0} (P : Programs S) (counts : Counts) (before : List Event) (e : Event) (es : List Event) → AreOwnLimits P counts before (e ∷ es)
+    → KeepsRoom P counts before ((moment P counts before).actors (actor_in e)) e
+first_keeps P counts before e es limits =
     let k : ℕ = actor_in e in
-    let s : Actor = (moment counts before).actors k in
+    let s = (moment P counts before).actors k in
     elim (own_of_actor e) [
-      | inl h ↦ room_from_own counts before s e (first_room counts (own k before) s e (own k es) (is_own k e) h (limits k))
-      | inr d ↦ subst (λ (x : Event). KeepsRoom counts before s x) (sym d) tt
+      | inl h ↦ room_from_own P counts before s e (first_room P counts (own k before) s e (own k es) (is_own k e) h (limits k))
+      | inr d ↦ subst (λ (x : Event). KeepsRoom P counts before s x) (sym d) tt
     ]
 
-rest_limits : (counts : Counts) (before : List Event) (s : Actor) (e : Event) (es : List Event) (b : Bool)
-    → OwnLimits counts before s (if b then e ∷ es else es)
-    → OwnLimits counts (before ++ (if b then e ∷ [] else [])) (if b then own_after counts s e else s) es
-rest_limits counts before s e es true l = l.1
-rest_limits counts before s e es false l = subst (λ (fs : List Event). OwnLimits counts fs s es) (sym (append-nil before)) l
+rest_limits : {S : Type 0} (P : Programs S) (counts : Counts) (before : List Event) (s : Actor S) (e : Event) (es : List Event) (b : Bool)
+    → OwnLimits P counts before s (if b then e ∷ es else es)
+    → OwnLimits P counts (before ++ (if b then e ∷ [] else [])) (if b then own_next P counts s e else s) es
+rest_limits P counts before s e es true l = l.1
+rest_limits P counts before s e es false l = subst (λ (fs : List Event). OwnLimits P counts fs s es) (sym (append-nil before)) l
 
 -- an actor's state after one event more
-pub state_more : (counts : Counts) (before : List Event) (e : Event) (a : ℕ)
-    → (moment counts (before ++ e ∷ [])).actors a
-    ≡ (if is_own a e then own_after counts ((moment counts before).actors a) e else (moment counts before).actors a)
-state_more counts before e a =
-    let m : WorldState = moment counts before in
-    let same : m.counts ≡ counts = counts_stay (opening counts) before in
-    ap (λ (n : WorldState). n.actors a) (moment-append counts before (e ∷ [])) ∙ after_actors m e a ∙ ap
-    (λ (c : Counts). if is_own a e then own_after c (m.actors a) e else m.actors a) same
+pub state_more : {S : Type 0} (P : Programs S) (counts : Counts) (before : List Event) (e : Event) (a : ℕ)
+    → (moment P counts (before ++ e ∷ [])).actors a
+    ≡ (if is_own a e then own_next P counts ((moment P counts before).actors a) e else (moment P counts before).actors a)
+state_more P counts before e a =
+    let m = moment P counts before in
+    let same : m.counts ≡ counts = counts_stay P (opening counts) before in
+    ap (λ n. n.actors a) (moment-append P counts before (e ∷ [])) ∙ after_actors P m e a ∙ ap
+    (λ (c : Counts). if is_own a e then own_next P c (m.actors a) e else m.actors a) same
 
-rest_keep : (counts : Counts) (before : List Event) (e : Event) (es : List Event) → AreOwnLimits counts before (e ∷ es)
-    → AreOwnLimits counts (before ++ e ∷ []) es
-rest_keep counts before e es limits a =
-    let s : Actor = (moment counts before).actors a in
-    rw (own-append a before (e ∷ []), state_more counts before e a)
-    (rest_limits counts (own a before) s e (own a es) (is_own a e) (limits a))
+rest_keep : {S : Type 0} (P : Programs S) (counts : Counts) (before : List Event) (e : Event) (es : List Event) → AreOwnLimits P counts before (e ∷ es)
+    → AreOwnLimits P counts (before ++ e ∷ []) es
+rest_keep P counts before e es limits a =
+    let s = (moment P counts before).actors a in
+    rw (own-append a before (e ∷ []), state_more P counts before e a)
+    (rest_limits P counts (own a before) s e (own a es) (is_own a e) (limits a))
 
-pub limits_from_own : (counts : Counts) (before es : List Event) → AreOwnLimits counts before es → KeepsLimitsAfter counts before es
-limits_from_own counts before [] limits = tt
-limits_from_own counts before (e ∷ es) limits =
-    (first_keeps counts before e es limits, limits_from_own counts (before ++ e ∷ []) es (rest_keep counts before e es limits))
+pub limits_from_own : {S : Type 0} (P : Programs S) (counts : Counts) (before es : List Event) → AreOwnLimits P counts before es → KeepsLimitsAfter P counts before es
+limits_from_own P counts before [] limits = tt
+limits_from_own P counts before (e ∷ es) limits =
+    (first_keeps P counts before e es limits, limits_from_own P counts (before ++ e ∷ []) es (rest_keep P counts before e es limits))
 
-pub own_limits_make_limits : (counts : Counts) (history : List Event) → ((actor : ℕ) → OwnLimits counts [] idle_actor (own actor history))
-    → KeepsLimits counts history
-own_limits_make_limits counts history limits = limits_from_own counts [] history limits
+pub own_limits_make_limits : {S : Type 0} (P : Programs S) (counts : Counts) (history : List Event) → ((actor : ℕ) → OwnLimits P counts [] idle_actor (own actor history))
+    → KeepsLimits P counts history
+own_limits_make_limits P counts history limits = limits_from_own P counts [] history limits
