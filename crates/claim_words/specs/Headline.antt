@@ -1,5 +1,5 @@
 -- What is claimed of the answers of a history: each is the one that the small machine gives at the command's point.
-use Rattle.std.specs.Prelude.{◌≡◌, ℕ, Bool, true, false, ◌||◌, if◌then◌else◌, Option, Some, None, List, [], ◌∷◌, take, slice_get, ◌⊎◌}
+use Rattle.std.specs.Prelude.{◌≡◌, ℕ, true, if◌then◌else◌, Option, Some, None, List, [], ◌∷◌, take, slice_get, ◌⊎◌}
 use Rattle.tect_ids.specs.declared.ids.OpId.{OpId}
 use Rattle.tect_ids.specs.declared.command.Command.{Command}
 use Rattle.tect_ids.specs.declared.answer.Answer.{Answer}
@@ -7,18 +7,20 @@ use Rattle.tect_ids.specs.declared.answer.Answer.TheVariants as answers
 use Rattle.tect_ids.specs.Keys.{op_eq}
 use Rattle.tree_model.specs.Tree.{opening_tree}
 use Rattle.world_runs.specs.declared.event.Event.{Event}
-use Rattle.world_runs.specs.declared.event.Event.TheVariants.{Began, NotBegun, Acted, Ended, Stopped, Failed, Dumped}
+use Rattle.world_runs.specs.declared.event.Event.TheVariants.{Own, Dumped}
+use Rattle.world_runs.specs.declared.event.Happening.TheVariants.{Began, NotBegun, Acted, Ended, Stopped, Failed}
+use Rattle.world_runs.specs.Refusals.{was_refused}
 use Rattle.program_forms.specs.Lacks.{no_room}
 use Rattle.claim_words.specs.TreeSteps.{tree_steps, IsTreeRun}
 use Rattle.claim_words.specs.Points.{of_op, Point, LacksName}
 
 abbrev pub begun_by : Event → OpId → Option Command
-begun_by (Began other c) op = if op_eq other op then Some c else None
-begun_by (NotBegun other c) op = None
-begun_by (Acted other q x) op = None
-begun_by (Ended other a) op = None
-begun_by (Stopped other) op = None
-begun_by (Failed other a) op = None
+begun_by (Own other (Began c)) op = if op_eq other op then Some c else None
+begun_by (Own other (NotBegun c)) op = None
+begun_by (Own other (Acted q x h)) op = None
+begun_by (Own other (Ended a)) op = None
+begun_by (Own other Stopped) op = None
+begun_by (Own other (Failed a)) op = None
 begun_by Dumped op = None
 
 abbrev pub or_later : Option Command → Option Command → Option Command
@@ -29,20 +31,6 @@ or_later (Some c) later = Some c
 abbrev pub command_of : List Event → OpId → Option Command
 command_of [] op = None
 command_of (e ∷ es) op = or_later (begun_by e op) (command_of es op)
-
--- the op was refused: its actor had no room to begin it
-abbrev pub refuses : OpId → Event → Bool
-refuses op (NotBegun other c) = op_eq other op
-refuses op (Began other c) = false
-refuses op (Acted other q x) = false
-refuses op (Ended other a) = false
-refuses op (Stopped other) = false
-refuses op (Failed other a) = false
-refuses op Dumped = false
-
-abbrev pub was_refused : List Event → OpId → Bool
-was_refused [] op = false
-was_refused (e ∷ es) op = refuses op e || was_refused es op
 
 -- the history explains the op's answer
 pub record Explains (history : List Event) (op : OpId) (a : Answer) : Type 0 where
@@ -58,7 +46,7 @@ HadNoRoom history op a = (was_refused history op ≡ true) × (a ≡ no_room)
 -- where an op ended with an answer, the history before explains it, or the op was refused for want of room.
 pub record Headline (history : List Event) : Type 0 where
   pub tree : IsTreeRun opening_tree (tree_steps history)
-  pub begins : (place : ℕ) (op : OpId) (c : Command) → slice_get history place ≡ Some (Began op c)
+  pub begins : (place : ℕ) (op : OpId) (c : Command) → slice_get history place ≡ Some (Own op (Began c))
       → of_op op (tree_steps (take place history)) ≡ []
-  pub answers : (place : ℕ) (op : OpId) (a : Answer) → slice_get history place ≡ Some (Ended op a)
+  pub answers : (place : ℕ) (op : OpId) (a : Answer) → slice_get history place ≡ Some (Own op (Ended a))
       → Explains (take place history) op a ⊎ HadNoRoom (take place history) op a

@@ -1,4 +1,5 @@
 pub mod Sound
+pub mod Granted
 pub mod TreeSteps
 pub mod Points
 pub mod Headline

@@ -22,7 +22,8 @@ use Rattle.tree_model.specs.declared.step.TreeReply.{TreeReply}
 use Rattle.tree_model.specs.declared.step.TreeReply.TheVariants.{Ok, Refused}
 use Rattle.tree_model.specs.Tree.{Tree, Allowed, tree_next}
 use Rattle.world_runs.specs.declared.event.Event.{Event}
-use Rattle.world_runs.specs.declared.event.Event.TheVariants.{Began, NotBegun as refusal, Acted, Ended, Stopped, Failed, Dumped}
+use Rattle.world_runs.specs.declared.event.Event.TheVariants.{Own, Dumped}
+use Rattle.world_runs.specs.declared.event.Happening.TheVariants.{Began, NotBegun, Acted, Ended, Stopped, Failed}
 
 -- what a reply says to the tree's step
 abbrev pub name_says : NameReply → TreeReply
@@ -94,12 +95,12 @@ told_as op None x = []
 told_as op (Some s) x = record { op = op; does = s; says = x } ∷ []
 
 abbrev pub told_of : Event → List Told
-told_of (Acted op q x) = told_as op (tree_step q x) (says x)
-told_of (Began op c) = []
-told_of (refusal op c) = []
-told_of (Ended op a) = []
-told_of (Stopped op) = []
-told_of (Failed op a) = []
+told_of (Own op (Acted q x h)) = told_as op (tree_step q x) (says x)
+told_of (Own op (Began c)) = []
+told_of (Own op (NotBegun c)) = []
+told_of (Own op (Ended a)) = []
+told_of (Own op Stopped) = []
+told_of (Own op (Failed a)) = []
 told_of Dumped = []
 
 -- the tree's steps in a history, in order

@@ -1,5 +1,6 @@
 -- a running command asks something or has its answer, and comes to no answer that is a lack
-use Rattle.std.proofs.Common.{◌≡◌, ℕ, Bool, true, false, Option, Some, None, List, [], ◌∷◌, if◌then◌else◌, is_some}
+use Rattle.std.proofs.Common.{◌≡◌, ℕ, Bool, true, false, Option, Some, None, List, [], ◌∷◌, if◌then◌else◌, is_some, refl, sym}
+use Rattle.tect_ids.specs.declared.ids.Counts.{Counts}
 use Rattle.tect_ids.specs.declared.ids.DirId.{DirId}
 use Rattle.tect_ids.specs.declared.ids.Hold.{Hold}
 use Rattle.tect_ids.specs.declared.ids.Node.{Node}
@@ -20,17 +21,23 @@ use Rattle.store_rules.specs.declared.names.NameReply.TheVariants as name_replie
 use Rattle.store_rules.specs.declared.names.Replaced.{Replaced}
 use Rattle.store_rules.specs.declared.files.FileReply.{FileReply}
 use Rattle.store_rules.specs.declared.files.FileReply.TheVariants as file_replies
+use Rattle.store_rules.specs.declared.any.AnyReq.{AnyReq}
 use Rattle.store_rules.specs.declared.any.AnyReply.{AnyReply}
 use Rattle.store_rules.specs.declared.any.AnyReply.TheVariants as any_reply
 use Rattle.store_rules.specs.Names.{key_in}
+use Rattle.store_rules.specs.Places.{request_place}
 use Rattle.store_rules.specs.Views.{as_found, as_listing, as_parent, as_bound, as_unbound, as_swapped, is_made, is_granted}
 use Rattle.program_rules.specs.declared.program.Phase.{Phase}
 use Rattle.program_rules.specs.declared.program.Phase.TheVariants.{Walk, Bind, Grant, Swap, Release, End}
+use Rattle.program_rules.specs.declared.program.Program.{Program}
 use Rattle.program_rules.specs.Paths.{last_name}
 use Rattle.program_rules.specs.Programs.{phase_ask, phase_answer, phase_hear, name_refusal, file_refusal, refusal, dir_refusal, walked}
 use Rattle.program_rules.specs.Programs.{looked, checked, entries_heard, made_heard, unbound_heard, source_heard, first_hear, then_release}
-use Rattle.program_rules.specs.Programs.{bound_heard, swapped_heard, first_phase}
+use Rattle.program_rules.specs.Programs.{bound_heard, swapped_heard, first_phase, object_number}
+use Rattle.program_rules.specs.Served.{does_by, program_does, program_hears}
 use Rattle.program_forms.specs.Lacks.{IsLack}
+use Rattle.program_forms.specs.Memories.{Memory}
+use Rattle.program_forms.specs.Kinds.{asked_by, said_by}
 use Rattle.program_rules.specs.Asking.{HasFirstAsk, GivesName, IsSmooth}
 
 -- ---- where a command begins
@@ -200,3 +207,46 @@ smooth_answers c (Grant k n) a smooth is = absurd cc
 smooth_answers c (Swap k n) a smooth is = absurd cc
 smooth_answers c (Release n h old b) a smooth is = absurd cc
 smooth_answers c (End b) a smooth is = plain_by b a smooth cc
+
+-- ---- the same of the programs as functions
+
+module _ (counts : Counts) (m : Memory) (op : OpId) (p : Program) where
+  -- the request and the answer of a program's phase, by what it does
+  asked_by_both : (q : Option AnyReq) (a : Option Answer) → asked_by (does_by q a) ≡ q
+  asked_by_both (Some q) a = refl
+  asked_by_both None (Some a) = refl
+  asked_by_both None None = refl
+
+  said_by_both : (q : Option AnyReq) (a : Option Answer) → (is_some q ≡ true → a ≡ None) → (q ≡ None → a ≡ None → ⊥)
+      → said_by (does_by q a) ≡ a
+  said_by_both (Some q) a one none = sym (one refl)
+  said_by_both None (Some a) one none = refl
+  said_by_both None None one none = absurd (none refl refl)
+
+  -- a phase that has a request has no answer
+  one_alone : (c : Command) (at : Phase) (number : ℕ) → is_some (phase_ask op number c at) ≡ true → phase_answer at ≡ None
+  one_alone c (Walk d ns) number asks = refl
+  one_alone c (Bind k n o) number asks = refl
+  one_alone c (Grant k n) number asks = refl
+  one_alone c (Swap k n) number asks = refl
+  one_alone c (Release n h old a) number asks = refl
+  one_alone c (End a) number asks = absurd (let k : false ≡ true = asks in cc)
+
+  -- what it asks is its phase's request, if there is one
+  pub asks_as_phase : asked_by (program_does counts m op p) ≡ phase_ask op (object_number op.actor m.serial) p.command p.phase
+  asks_as_phase = asked_by_both (phase_ask op (object_number op.actor m.serial) p.command p.phase) (phase_answer p.phase)
+
+  module _ (smooth : IsSmooth p.command p.phase) where
+    -- what it says is its phase's answer, if there is one: it does not come to neither
+    pub says_as_phase : said_by (program_does counts m op p) ≡ phase_answer p.phase
+    says_as_phase = said_by_both (phase_ask op (object_number op.actor m.serial) p.command p.phase) (phase_answer p.phase)
+        (one_alone p.command p.phase (object_number op.actor m.serial))
+        (smooth_goes op (object_number op.actor m.serial) p.command p.phase smooth)
+
+    -- and that is no lack
+    pub says_plainly : (a : Answer) → phase_answer p.phase ≡ Some a → ¬ IsLack a
+    says_plainly a is = smooth_answers p.command p.phase a smooth is
+
+    -- it goes on so
+    pub hears_smoothly : (q : AnyReq) (x : AnyReply) → IsSmooth p.command (program_hears counts m op p q x).phase
+    hears_smoothly q x = smooth_hears (request_place counts q) x op (object_number op.actor m.serial) p.command p.phase smooth

@@ -1,5 +1,5 @@
 -- The programs of the commands that are served, as functions.
-use Rattle.std.specs.Prelude.{Bool, true, false, Option, Some, None, List, []}
+use Rattle.std.specs.Prelude.{Bool, true, false, Option, Some, None, []}
 use Rattle.tect_ids.specs.declared.ids.Counts.{Counts}
 use Rattle.tect_ids.specs.declared.ids.OpId.{OpId}
 use Rattle.tect_ids.specs.declared.answer.Answer.{Answer}
@@ -10,7 +10,7 @@ use Rattle.store_rules.specs.declared.any.AnyReq.{AnyReq}
 use Rattle.store_rules.specs.declared.any.AnyReply.{AnyReply}
 use Rattle.store_rules.specs.Places.{request_place}
 use Rattle.program_forms.specs.Memories.{Memory}
-use Rattle.program_forms.specs.Kinds.{Does, Asks, Says, Kind, Programs}
+use Rattle.program_forms.specs.Kinds.{Does, Asks, Says, Programs}
 use Rattle.program_rules.specs.declared.program.Program.{Program}
 use Rattle.program_rules.specs.Programs.{object_number, phase_ask, phase_hear, phase_answer, started}
 
