@@ -1,2 +1,3 @@
 pub mod RunningOut
+pub mod InTime
 pub mod Laws
