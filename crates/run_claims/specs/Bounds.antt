@@ -8,7 +8,9 @@ use Rattle.store_rules.specs.declared.any.AnyReq.{AnyReq}
 use Rattle.store_rules.specs.declared.any.AnyReq.TheVariants as any
 use Rattle.program_rules.specs.Programs.{first_path}
 use Rattle.world_runs.specs.declared.event.Event.{Event}
-use Rattle.world_runs.specs.declared.event.Event.TheVariants.{Began, NotBegun, Acted, Ended, Stopped, Failed, Dumped}
+use Rattle.world_runs.specs.declared.event.Event.TheVariants.{Own, Dumped}
+use Rattle.world_runs.specs.declared.event.Happening.{Happening}
+use Rattle.world_runs.specs.declared.event.Happening.TheVariants.{Began, NotBegun, Acted, Ended, Stopped, Failed}
 use Rattle.world_runs.specs.Report.{transactions}
 
 -- whether the request looks up a name, or checks the directory that a path without names is
@@ -17,24 +19,26 @@ is_look (any.Name (names.Look k)) = true
 is_look (any.Name (names.CheckDir d)) = true
 is_look _ = false
 
+-- whether it is a transaction whose request is of that kind
+abbrev pub is_act_that : (AnyReq → Bool) → Happening → Bool
+is_act_that test (Acted q x h) = test q
+is_act_that test (Began c) = false
+is_act_that test (NotBegun c) = false
+is_act_that test (Ended a) = false
+is_act_that test Stopped = false
+is_act_that test (Failed a) = false
+
+abbrev pub is_no_look : AnyReq → Bool
+is_no_look q = not (is_look q)
+
 -- a look of the op
 abbrev pub is_look_of : OpId → Event → Bool
-is_look_of op (Acted other q x) = op_eq other op && is_look q
-is_look_of op (Began other c) = false
-is_look_of op (NotBegun other c) = false
-is_look_of op (Ended other a) = false
-is_look_of op (Stopped other) = false
-is_look_of op (Failed other a) = false
+is_look_of op (Own other h) = op_eq other op && is_act_that is_look h
 is_look_of op Dumped = false
 
 -- a transaction of the op that is no look
 abbrev pub is_other_of : OpId → Event → Bool
-is_other_of op (Acted other q x) = op_eq other op && not (is_look q)
-is_other_of op (Began other c) = false
-is_other_of op (NotBegun other c) = false
-is_other_of op (Ended other a) = false
-is_other_of op (Stopped other) = false
-is_other_of op (Failed other a) = false
+is_other_of op (Own other h) = op_eq other op && is_act_that is_no_look h
 is_other_of op Dumped = false
 
 -- how many looks the op took

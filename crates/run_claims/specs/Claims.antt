@@ -7,24 +7,28 @@ use Rattle.tect_ids.specs.declared.answer.Answer.{Answer}
 use Rattle.tect_ids.specs.declared.answer.Answer.TheVariants.{Odd}
 use Rattle.tect_ids.specs.declared.command.Command.{Command}
 use Rattle.world_runs.specs.declared.event.Event.{Event}
-use Rattle.world_runs.specs.declared.event.Event.TheVariants.{Ended}
+use Rattle.world_runs.specs.declared.event.Event.TheVariants.{Own}
+use Rattle.world_runs.specs.declared.event.Happening.TheVariants.{Ended}
+use Rattle.program_rules.specs.Served.{programs}
 use Rattle.claim_words.specs.Headline.{Headline, command_of}
 use Rattle.world_runs.specs.Moments.{AtEachMoment, IsWorldRun}
 use Rattle.claim_words.specs.Sound.{IsSound}
 use Rattle.world_runs.specs.Limits.{KeepsLimits}
 use Rattle.run_claims.specs.Bounds.{IsShort}
+use Rattle.run_claims.specs.Complete.{IsComplete}
 
 -- It is a run of the world, within the limits of its actors' histories. The store is sound at each moment; each answer is the one
--- that the tree gives at the command's point, or says that there was no room to begin; none says that a reply was odd; and each
--- command takes few transactions.
+-- that the tree gives at the command's point, or says that there was no room to begin; none says that a reply was odd; each
+-- command takes few transactions; and one that met nothing that refused it has succeeded.
 pub record IsHistory (counts : Counts) (history : List Event) : Type 0 where
-  pub run : IsWorldRun counts history
-  pub limits : KeepsLimits counts history
-  pub sound : AtEachMoment IsSound counts history
+  pub run : IsWorldRun programs counts history
+  pub limits : KeepsLimits programs counts history
+  pub sound : AtEachMoment programs IsSound counts history
   pub answers : Headline history
-  pub not_odd : (op : OpId) (a : Answer) (n : ℕ) → slice_get history n ≡ Some (Ended op a) → (place : Place) → a ≢ Odd place
+  pub not_odd : (op : OpId) (a : Answer) (n : ℕ) → slice_get history n ≡ Some (Own op (Ended a)) → (place : Place) → a ≢ Odd place
   pub short : (op : OpId) (c : Command) → command_of history op ≡ Some c → IsShort history op c
+  pub complete : IsComplete history
 
 abbrev pub EveryRunIsClaimed : Type 0
 EveryRunIsClaimed =
-    (counts : Counts) (history : List Event) → IsWorldRun counts history → KeepsLimits counts history → IsHistory counts history
+    (counts : Counts) (history : List Event) → IsWorldRun programs counts history → KeepsLimits programs counts history → IsHistory counts history

@@ -6,6 +6,7 @@ ghost use Rattle.std.specs.Prelude.{◌≡◌, Some, None, List};
 ghost use Rattle.tect_ids.specs.declared.ids.Counts.{Counts};
 ghost use Rattle.tect_ids.specs.declared.ids.OpId.{OpId};
 ghost use Rattle.tect_ids.specs.declared.command.Command.{Command};
+ghost use Rattle.program_rules.specs.Served.{programs};
 ghost use Rattle.world_runs.specs.declared.event.Event.{Event};
 ghost use Rattle.world_runs.specs.Moments.{IsWorldRun};
 ghost use Rattle.claim_words.specs.Headline.{command_of};
@@ -14,8 +15,8 @@ ghost use Rattle.run_claims.specs.Bounds.{IsShort};
 ghost use Rattle.run_claims.specs.Claims.{EveryRunIsClaimed};
 
 /// Of every run of the world that keeps the limits of its actors' histories all of it holds: the store is sound at each moment,
-/// each answer is the one that the tree gives at the command's point, none says that a reply was odd, and each command takes
-/// few transactions.
+/// each answer is the one that the tree gives at the command's point, none says that a reply was odd, each command takes few
+/// transactions, and one that met nothing that refused it has succeeded.
 pub fn every_run_is_claimed()
     ensures { EveryRunIsClaimed }
 {}
@@ -24,8 +25,8 @@ pub fn every_run_is_claimed()
 /// path has none, and takes at most four other transactions, in whatever order the actors' transactions come. An op that
 /// began no command has no transaction.
 pub fn each_command_is_short()
-    ensures short { (counts : Counts) (history : List Event) → IsWorldRun counts history
+    ensures short { (counts : Counts) (history : List Event) → IsWorldRun programs counts history
         → (op : OpId) (c : Command) → command_of history op ≡ Some c → IsShort history op c }
-    ensures idle { (counts : Counts) (history : List Event) → IsWorldRun counts history
+    ensures idle { (counts : Counts) (history : List Event) → IsWorldRun programs counts history
         → (op : OpId) → command_of history op ≡ None → transactions history op ≡ 0 }
 {}
