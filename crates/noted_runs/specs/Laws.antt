@@ -8,37 +8,46 @@ use Rattle.store_rules.specs.Store.{Store, opening_store}
 use Rattle.entry_words.specs.declared.entry.Moment.{Moment}
 use Rattle.entry_words.specs.Moments.{is_of}
 use Rattle.world_runs.specs.declared.event.Event.{Event}
-use Rattle.world_runs.specs.Moments.{idle_actor, moment, IsWorldRun}
+use Rattle.program_forms.specs.Kinds.{Programs}
+use Rattle.world_runs.specs.Actors.{idle_actor}
+use Rattle.world_runs.specs.Moments.{moment, opening, IsWorldRun}
 use Rattle.world_runs.specs.Races.{concerns, line_concerns, race_report, FollowsByClient}
 use Rattle.world_runs.specs.Events.{IsOwnNote, StampsRise, events_of, own}
 use Rattle.world_runs.specs.OwnRuns.{OwnRun, own_state, RepliesAre, stored_after}
 use Rattle.world_runs.specs.Limits.{KeepsLimits, OwnLimits}
+use Rattle.world_runs.specs.Smooth.{EndsAtOnce, OwnEndsAtOnce}
 use Rattle.world_runs.specs.Woven.{AreSilent, Cut, woven, own_cuts}
 use Rattle.world_runs.specs.ClientLines.{DoesLines}
 use Rattle.world_runs.specs.PartReports.{parts_report}
 
-abbrev pub OwnRunsMakeRun : Type 0
-OwnRunsMakeRun =
-    (counts : Counts) (history : List Event) → ((actor : ℕ) → OwnRun counts idle_actor (own actor history))
+abbrev pub OwnRunsMakeRun : {S : Type 0} → Programs S → Type 0
+OwnRunsMakeRun P =
+    (counts : Counts) (history : List Event) → ((actor : ℕ) → OwnRun P counts idle_actor (own actor history))
     → RepliesAre opening_store history
-    → IsWorldRun counts history
+    → IsWorldRun P counts history
 
-abbrev pub RunIsOwnRuns : Type 0
-RunIsOwnRuns =
-    (counts : Counts) (history : List Event) → IsWorldRun counts history
-    → ((actor : ℕ) → OwnRun counts idle_actor (own actor history)) × RepliesAre opening_store history
+abbrev pub RunIsOwnRuns : {S : Type 0} → Programs S → Type 0
+RunIsOwnRuns P =
+    (counts : Counts) (history : List Event) → IsWorldRun P counts history
+    → ((actor : ℕ) → OwnRun P counts idle_actor (own actor history)) × RepliesAre opening_store history
 
 -- of any events, whether they may happen or not
-abbrev pub ActorsAreTheirOwn : Type 0
-ActorsAreTheirOwn =
+abbrev pub ActorsAreTheirOwn : {S : Type 0} → Programs S → Type 0
+ActorsAreTheirOwn P =
     (counts : Counts) (history : List Event)
-    → ((actor : ℕ) → (moment counts history).actors actor ≡ own_state counts idle_actor (own actor history))
-    × ((moment counts history).store ≡ stored_after opening_store history)
+    → ((actor : ℕ) → (moment P counts history).actors actor ≡ own_state P counts idle_actor (own actor history))
+    × ((moment P counts history).store ≡ stored_after opening_store history)
 
-abbrev pub OwnLimitsMakeLimits : Type 0
-OwnLimitsMakeLimits =
-    (counts : Counts) (history : List Event) → ((actor : ℕ) → OwnLimits counts [] idle_actor (own actor history))
-    → KeepsLimits counts history
+abbrev pub OwnLimitsMakeLimits : {S : Type 0} → Programs S → Type 0
+OwnLimitsMakeLimits P =
+    (counts : Counts) (history : List Event) → ((actor : ℕ) → OwnLimits P counts [] idle_actor (own actor history))
+    → KeepsLimits P counts history
+
+-- of any events too: where each command ends at once in a history, it does so in what concerns each actor
+abbrev pub PromptIsOwnPrompt : {S : Type 0} → Programs S → Type 0
+PromptIsOwnPrompt P =
+    (counts : Counts) (history : List Event) → EndsAtOnce P (opening counts) history → (actor : ℕ)
+    → OwnEndsAtOnce P counts idle_actor (filter (concerns actor) history)
 
 abbrev pub WovenConcerns : Type 0
 WovenConcerns =
@@ -60,6 +69,6 @@ ClientsFollow =
 -- what a report shows of a woven history
 abbrev pub WovenReports : Type 0
 WovenReports =
-    (counts : Counts) (clients : List (List ℕ)) (cuts : List Cut) (last : List Event) (ms : List Moment) → All IsOwnNote ms
+    (clients : List (List ℕ)) (cuts : List Cut) (last : List Event) (ms : List Moment) → All IsOwnNote ms
     → AreSilent cuts last
-    → race_report counts clients (woven cuts last ms) ≡ parts_report counts clients (λ actor. []) opening_store cuts last ms
+    → race_report clients (woven cuts last ms) ≡ parts_report clients (λ actor. []) opening_store cuts last ms

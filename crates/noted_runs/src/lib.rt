@@ -1,26 +1,34 @@
 //! What each actor notes of its own makes a run of the world: the laws that make one history of many, for any order of the
-//! transactions. Nothing here is called: each function's contract is a law.
+//! transactions, and whatever the programs, over any states `S`. Nothing here is called: each function's contract is a law.
 #![tactic(auto)]
 
-ghost use Rattle.noted_runs.specs.Laws.{ActorsAreTheirOwn, ClientsFollow, OwnLimitsMakeLimits, OwnRunsMakeRun, RunIsOwnRuns, WovenConcerns};
-ghost use Rattle.noted_runs.specs.Laws.{WovenReplies, WovenReports};
+ghost use Rattle.program_forms.specs.Kinds.{Programs};
+ghost use Rattle.noted_runs.specs.Laws.{ActorsAreTheirOwn, ClientsFollow, OwnLimitsMakeLimits, OwnRunsMakeRun, PromptIsOwnPrompt, RunIsOwnRuns};
+ghost use Rattle.noted_runs.specs.Laws.{WovenConcerns, WovenReplies, WovenReports};
 
 /// Where each actor's own events are a run of its programs, and each reply is the one that the store gives after the requests
 /// before it, the whole is a run of the world.
-pub fn own_runs_make_run()
-    ensures { OwnRunsMakeRun }
+pub fn own_runs_make_run<S>()
+    ensures { (P : Programs S) → OwnRunsMakeRun P }
 {}
 
 /// In a run of the world each actor's own events are a run of its programs, and its state is the one after them; the replies
 /// are the store's.
-pub fn run_is_own_runs()
-    ensures runs { RunIsOwnRuns }
-    ensures states { ActorsAreTheirOwn }
+pub fn run_is_own_runs<S>()
+    ensures runs { (P : Programs S) → RunIsOwnRuns P }
+    ensures states { (P : Programs S) → ActorsAreTheirOwn P }
+{}
+
+/// Where each command of a history ends at once when its last reply gave the answer, or was not heard, it does so too in the
+/// part of the history that concerns its actor: its own events and the dumps. The other way round it is not so: two actors'
+/// events may stand between each other.
+pub fn prompt_is_own_prompt<S>()
+    ensures { (P : Programs S) → PromptIsOwnPrompt P }
 {}
 
 /// Where each actor's own events keep its limits, the whole history does.
-pub fn own_limits_make_limits()
-    ensures { OwnLimitsMakeLimits }
+pub fn own_limits_make_limits<S>()
+    ensures { (P : Programs S) → OwnLimitsMakeLimits P }
 {}
 
 /// What concerns an actor of a history that is woven of moments, refusals and dumps, is woven of its own moments and refusals,

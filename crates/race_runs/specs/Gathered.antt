@@ -11,18 +11,20 @@ use Rattle.store_rules.specs.Dumps.{store_dump}
 use Rattle.store_rules.specs.Store.{Store, opening_store}
 use Rattle.place_kit.specs.declared.any.AnyKept.{AnyKept}
 use Rattle.entry_words.specs.declared.entry.Moment.{Moment}
-use Rattle.entry_words.specs.declared.entry.Moment.TheVariants.{Act}
 use Rattle.place_kit.specs.Kept.{history_of, place_of}
-use Rattle.entry_words.specs.Moments.{actor_of, is_at, is_of}
+use Rattle.entry_words.specs.Moments.{actor_of, is_at, is_of, trail_of}
 use Rattle.place_kit.specs.Started.{AreStarted}
 use Rattle.world_runs.specs.declared.event.Event.{Event}
+use Rattle.program_forms.specs.Kinds.{Programs}
+use Rattle.world_runs.specs.Actors.{idle_actor}
 use Rattle.world_runs.specs.Moments.{IsWorldRun}
-use Rattle.world_runs.specs.Races.{FollowsByClient, race_report}
+use Rattle.world_runs.specs.Races.{FollowsByClient, concerns, race_report}
 use Rattle.world_runs.specs.Events.{events_of}
 use Rattle.world_runs.specs.OwnRuns.{stored_after}
 use Rattle.world_runs.specs.Limits.{KeepsLimits}
 use Rattle.world_runs.specs.Events.{StampsRise}
-use Rattle.world_runs.specs.Woven.{Cut, is_early, woven}
+use Rattle.world_runs.specs.Smooth.{OwnEndsAtOnce}
+use Rattle.world_runs.specs.Woven.{AreSilent, Cut, is_early, woven}
 use Rattle.race_runs.specs.Stories.{Part, Story, IsStory, all_moments}
 
 -- the part of each story before the next dump, and the stories from then on
@@ -78,30 +80,33 @@ is_dump (script_lines.Lose disk) = false
 
 -- These are the stories of all clients, in their order, and one list of all their moments in the order of the stamps; and what each
 -- place keeps is what this list says of it.
-pub record AreGathered (counts : Counts) (names : List (List ℕ)) (lines : List Line) (clocks : List ℕ)
+pub record AreGathered {S : Type 0} (P : Programs S) (counts : Counts) (names : List (List ℕ)) (lines : List Line) (clocks : List ℕ)
     (ss : List Story) (ks : List AnyKept) (ms : List Moment) : Type 0 where
   pub places : HasPlaces counts
   pub asked : All (IsLineOf (length names)) lines
   pub dumps : count_by is_dump lines ≡ length clocks
   pub number : length ss ≡ length names
   pub numbered : (i : ℕ) (s : Story) → slice_get ss i ≡ Some s → s.actor ≡ i + 1
-  pub stories : All (IsStory counts names lines clocks) ss
+  pub stories : All (IsStory P counts names lines clocks) ss
   pub rising : StampsRise ms
   pub trails : All (λ s. filter (is_of s.actor) ms ≡ all_moments s.ended s.last) ss
   pub known : All (λ m. (1 ≤ actor_of m) × (actor_of m ≤ length ss)) ms
   pub started : AreStarted counts ks
-  pub histories : All (λ k. filter (is_at (place_of k)) ms ≡ map Act (history_of k)) ks
+  pub histories : All (λ k. trail_of (filter (is_at (place_of k)) ms) ≡ history_of k) ks
 
--- Then the history is a run of the world that keeps the limits and follows the script by client, and its report is what is told.
-pub record IsRaceRun (counts : Counts) (names : List (List ℕ)) (lines : List Line)
+-- Then the history is a run of the world that keeps the limits and follows the script by client, in which each client ends a command at
+-- once when its last reply gave the answer, and its report is what is told.
+pub record IsRaceRun {S : Type 0} (P : Programs S) (counts : Counts) (names : List (List ℕ)) (lines : List Line)
     (history : List Event) (told : List ReportLine) : Type 0 where
-  pub run : IsWorldRun counts history
-  pub limits : KeepsLimits counts history
+  pub run : IsWorldRun P counts history
+  pub limits : KeepsLimits P counts history
+  pub prompt : (actor : ℕ) → OwnEndsAtOnce P counts idle_actor (filter (concerns actor) history)
   pub follows : FollowsByClient lines history
-  pub report : race_report counts names history ≡ told
+  pub report : race_report names history ≡ told
 
-abbrev pub GatheredStoriesAreRun : Type 0
-GatheredStoriesAreRun =
+-- and what no moment notes of it is of refused ops
+abbrev pub GatheredStoriesAreRun : {S : Type 0} → Programs S → Type 0
+GatheredStoriesAreRun P =
     (counts : Counts) (names : List (List ℕ)) (lines : List Line) (clocks : List ℕ) (ss : List Story) (ks : List AnyKept) (ms : List Moment)
-    → AreGathered counts names lines clocks ss ks ms
-    → IsRaceRun counts names lines (history_of_race clocks ss ms) (told clocks ss ms)
+    → AreGathered P counts names lines clocks ss ks ms
+    → IsRaceRun P counts names lines (history_of_race clocks ss ms) (told clocks ss ms) × AreSilent (cuts_of clocks ss) (silent_last ss)
