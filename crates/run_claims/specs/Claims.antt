@@ -11,19 +11,22 @@ use Rattle.world_runs.specs.declared.event.Event.TheVariants.{Own}
 use Rattle.world_runs.specs.declared.event.Happening.TheVariants.{Ended}
 use Rattle.program_rules.specs.Served.{programs}
 use Rattle.claim_words.specs.Headline.{Headline, command_of}
-use Rattle.world_runs.specs.Moments.{AtEachMoment, IsWorldRun}
-use Rattle.claim_words.specs.Sound.{IsSound}
+use Rattle.claim_words.specs.Sound.{IsSound, AfterEachFront}
+use Rattle.claim_words.specs.Granted.{GrantedHoldsAreListed}
+use Rattle.world_runs.specs.Moments.{IsWorldRun}
 use Rattle.world_runs.specs.Limits.{KeepsLimits}
 use Rattle.run_claims.specs.Bounds.{IsShort}
 use Rattle.run_claims.specs.Complete.{IsComplete}
 
--- It is a run of the world, within the limits of its actors' histories. The store is sound at each moment; each answer is the one
--- that the tree gives at the command's point, or says that there was no room to begin; none says that a reply was odd; each
--- command takes few transactions; and one that met nothing that refused it has succeeded.
+-- It is a run of the world, within the limits of its actors' histories. The store is sound at each moment, and lists each hold that was
+-- granted and neither bound nor given up; each answer is the one that the tree gives at the command's point, or says that there was no
+-- room to begin; none says that a reply was odd; each command takes few transactions; and one that met nothing that refused it has
+-- succeeded.
 pub record IsHistory (counts : Counts) (history : List Event) : Type 0 where
   pub run : IsWorldRun programs counts history
   pub limits : KeepsLimits programs counts history
-  pub sound : AtEachMoment programs IsSound counts history
+  pub sound : AfterEachFront IsSound history
+  pub granted : AfterEachFront GrantedHoldsAreListed history
   pub answers : Headline history
   pub not_odd : (op : OpId) (a : Answer) (n : ℕ) → slice_get history n ≡ Some (Own op (Ended a)) → (place : Place) → a ≢ Odd place
   pub short : (op : OpId) (c : Command) → command_of history op ≡ Some c → IsShort history op c
