@@ -3,8 +3,8 @@ use Rattle.std.proofs.Common.{◌≡◌, ℕ, ◌<◌, ◌≤◌, Bool, true, fa
 use Rattle.std.proofs.Common.{nat_le, arith}
 use Rattle.std.proofs.lemmas.Bool.{lt-leb, leb-false}
 use Rattle.std.proofs.lemmas.List.{map-append}
-use Rattle.std.proofs.lemmas.List.Elements.{All-filter, All-from_recursion, All-head, All-tail, filter-append, recursion_from_All}
-use Rattle.std.specs.List.{All, AllByRecursion, filter}
+use Rattle.std.proofs.lemmas.List.Elements.{All-filter, All-from_recursion, filter-append, recursion_from_All}
+use Rattle.std.specs.List.{AllByRecursion, filter}
 use Rattle.tect_ids.specs.declared.answer.Answer.{Answer}
 use Rattle.tect_ids.specs.declared.answer.Answer.TheVariants as answers
 use Rattle.tect_ids.specs.declared.ids.OpId.{OpId}
@@ -14,14 +14,16 @@ use Rattle.entry_words.specs.declared.entry.Moment.TheVariants.{Act, Local}
 use Rattle.entry_words.specs.declared.entry.Note.TheVariants as notes
 use Rattle.entry_words.specs.Moments.{stamp_of, is_of}
 use Rattle.world_runs.specs.declared.event.Event.{Event}
-use Rattle.world_runs.specs.declared.event.Event.TheVariants.{Began, NotBegun, Acted, Ended, Stopped, Failed, Dumped}
+use Rattle.world_runs.specs.declared.event.Event.TheVariants.{Own, Dumped}
+use Rattle.world_runs.specs.declared.event.Happening.TheVariants.{Began, NotBegun, Acted, Ended, Stopped, Failed}
 use Rattle.world_runs.specs.Races.{concerns, is_own}
 use Rattle.world_runs.specs.Events.{end_event, event_of, events_of, own}
 use Rattle.world_runs.specs.Events.{IsOwnNote, StampsRise}
-use Rattle.world_runs.specs.Woven.{AreSilent, IsSilent}
+use Rattle.world_runs.specs.Woven.{AreSilent, AreSilentAfter}
 use Rattle.noted_runs.specs.Laws.{WovenConcerns, WovenReplies}
-use Rattle.world_runs.specs.OwnRuns.{RepliesAre, stored_after}
+use Rattle.world_runs.specs.OwnRuns.{RepliesAre, ReplyIs, stored_after, stored_next}
 use Rattle.world_runs.specs.Woven.{Cut, is_early, is_late, own_cuts, woven}
+use Rattle.world_runs.proofs.Refusals.{AreQuiet, IsQuiet, all_quiet_of_refused}
 use Rattle.world_runs.proofs.Actors.{replies-append, replies-front, replies-rest, stored_after-append}
 
 -- ---- what a list keeps
@@ -56,7 +58,7 @@ end_concerns actor op (answers.HistoryFull p) = refl
 end_concerns actor op _ = refl
 
 moment_concerns : (actor : ℕ) (m : Moment) → IsOwnNote m → concerns actor (event_of m) ≡ is_of actor m
-moment_concerns actor (Act e) is = refl
+moment_concerns actor (Act e h) is = refl
 moment_concerns actor (Local stamp by (notes.Began op c)) is = ap (λ n. eqb n actor) is
 moment_concerns actor (Local stamp by (notes.Ended op a)) is = end_concerns actor op a ∙ ap (λ n. eqb n actor) is
 moment_concerns actor (Local stamp by (notes.Stopped op)) is = ap (λ n. eqb n actor) is
@@ -75,41 +77,33 @@ events_concern actor (m ∷ ms) are =
       | false ↦ refl
     ])
 
-silent_concerns : (actor : ℕ) (e : Event) → IsSilent e → concerns actor e ≡ is_own actor e
-silent_concerns actor (NotBegun op c) is = refl
-silent_concerns actor (Ended op a) is = refl
-silent_concerns actor (Stopped op) is = refl
-silent_concerns actor (Failed op a) is = refl
-silent_concerns actor (Began op c) is = refl
-silent_concerns actor (Acted op q x) is = refl
+silent_concerns : (actor : ℕ) (e : Event) → IsQuiet e → concerns actor e ≡ is_own actor e
+silent_concerns actor (Own op h) is = refl
 silent_concerns actor Dumped is = absurd is
 
 -- by recursion, as the proofs below go
 abbrev pub AreSilentCuts : List Cut → List Event → Type 0
-AreSilentCuts cuts last = AllByRecursion (λ (c : Cut). AllByRecursion IsSilent c.silent) cuts × AllByRecursion IsSilent last
+AreSilentCuts cuts last = AllByRecursion (λ (c : Cut). AreQuiet c.silent) cuts × AreQuiet last
+
+silent_after : (before : List Event) (cuts : List Cut) (last : List Event) → AreSilentAfter before cuts last → AreSilentCuts cuts last
+silent_after before [] last are = (tt, all_quiet_of_refused before last are)
+silent_after before (c ∷ cs) last are =
+    let rest = silent_after (before ++ c.silent) cs last are.1 in
+    ((all_quiet_of_refused before c.silent are.0, rest.0), rest.1)
 
 pub silent_cuts : (cuts : List Cut) (last : List Event) → AreSilent cuts last → AreSilentCuts cuts last
-silent_cuts cuts last are = (each cuts are.0, recursion_from_All IsSilent last are.1)
-  where
-    each : (cs : List Cut) → All (λ (c : Cut). All IsSilent c.silent) cs → AllByRecursion (λ (c : Cut). AllByRecursion IsSilent c.silent) cs
-    each [] all = tt
-    each (c ∷ cs) all
-        = (
-          recursion_from_All IsSilent c.silent (All-head (λ (d : Cut). All IsSilent d.silent) c cs all),
-          each cs
-              (All-tail (λ (d : Cut). All IsSilent d.silent) c cs all),
-        )
+silent_cuts cuts last are = silent_after [] cuts last are
 
 pub keeps : (P : Moment → Type 0) (p : Moment → Bool) (ms : List Moment) → AllByRecursion P ms → AllByRecursion P (filter p ms)
 keeps P p ms all = recursion_from_All P (filter p ms) (All-filter p P ms (All-from_recursion P ms all))
 
-pub part_concerns : (actor : ℕ) (silent : List Event) (ms : List Moment) → AllByRecursion IsOwnNote ms → AllByRecursion IsSilent silent
+pub part_concerns : (actor : ℕ) (silent : List Event) (ms : List Moment) → AllByRecursion IsOwnNote ms → AreQuiet silent
     → filter (concerns actor) (events_of ms ++ silent) ≡ events_of (filter (is_of actor) ms) ++ own actor silent
 part_concerns actor silent ms are quiet =
     filter-append (concerns actor) (events_of ms) silent
     ∙ ap (λ es. es ++ filter (concerns actor) silent) (events_concern actor ms are)
     ∙ ap (λ es. events_of (filter (is_of actor) ms) ++ es)
-    (filter_agree_where IsSilent (concerns actor) (is_own actor) (silent_concerns actor) silent quiet)
+    (filter_agree_where IsQuiet (concerns actor) (is_own actor) (silent_concerns actor) silent quiet)
 
 woven_concerns-by : (actor : ℕ) (cuts : List Cut) (last : List Event) (ms : List Moment) → AllByRecursion IsOwnNote ms
     → AreSilentCuts cuts last
@@ -137,15 +131,32 @@ woven_concerns actor cuts last ms are quiet = woven_concerns-by actor cuts last 
 -- ---- the replies
 
 -- refusals say nothing of the store
-pub silent_replies : (s : Store) (es : List Event) → AllByRecursion IsSilent es → RepliesAre s es × (stored_after s es ≡ s)
+silent_store : (s : Store) (e : Event) → IsQuiet e → stored_next s e ≡ s
+silent_store s (Own op (NotBegun c)) quiet = refl
+silent_store s (Own op (Ended a)) quiet = refl
+silent_store s (Own op Stopped) quiet = refl
+silent_store s (Own op (Failed a)) quiet = refl
+silent_store s (Own op (Began c)) quiet = refl
+silent_store s (Own op (Acted q x h)) quiet = absurd quiet
+silent_store s Dumped quiet = refl
+
+silent_reply : (s : Store) (e : Event) → IsQuiet e → ReplyIs s e
+silent_reply s (Own op (NotBegun c)) quiet = tt
+silent_reply s (Own op (Ended a)) quiet = tt
+silent_reply s (Own op Stopped) quiet = tt
+silent_reply s (Own op (Failed a)) quiet = tt
+silent_reply s (Own op (Began c)) quiet = tt
+silent_reply s (Own op (Acted q x h)) quiet = absurd quiet
+silent_reply s Dumped quiet = tt
+
+pub silent_replies : (s : Store) (es : List Event) → AreQuiet es → RepliesAre s es × (stored_after s es ≡ s)
 silent_replies s [] quiet = (tt, refl)
-silent_replies s (NotBegun op c ∷ es) quiet = silent_replies s es quiet.1
-silent_replies s (Ended op a ∷ es) quiet = silent_replies s es quiet.1
-silent_replies s (Stopped op ∷ es) quiet = silent_replies s es quiet.1
-silent_replies s (Failed op a ∷ es) quiet = silent_replies s es quiet.1
-silent_replies s (Began op c ∷ es) quiet = absurd quiet.0
-silent_replies s (Acted op q x ∷ es) quiet = absurd quiet.0
-silent_replies s (Dumped ∷ es) quiet = absurd quiet.0
+silent_replies s (e ∷ es) quiet =
+    let same : stored_next s e ≡ s = silent_store s e quiet.0 in
+    let rest = silent_replies s es quiet.1 in (
+      (silent_reply s e quiet.0, subst (λ (t : Store). RepliesAre t es) (sym same) rest.0),
+      ap (λ (t : Store). stored_after t es) same ∙ rest.1,
+    )
 
 -- behind a moment that is late all are late
 all_late : (stamp : ℕ) (low : ℕ) (ms : List Moment) → stamp < low → AllByRecursion (λ n. low ≤ stamp_of n) ms
@@ -180,7 +191,7 @@ stamps_rise-filter p (m ∷ ms) rise =
     ]
 
 -- what is put behind and says nothing of the store leaves the replies
-quiet_behind : (s : Store) (es silent : List Event) → AllByRecursion IsSilent silent → RepliesAre s es
+quiet_behind : (s : Store) (es silent : List Event) → AreQuiet silent → RepliesAre s es
     → RepliesAre s (es ++ silent) × (stored_after s (es ++ silent) ≡ stored_after s es)
 quiet_behind s es silent quiet replies =
     let none = silent_replies (stored_after s es) silent quiet in
@@ -200,7 +211,7 @@ woven_replies-by s (c ∷ cs) last ms rise quiet replies =
     woven_replies-by (stored_after s (events_of early)) cs last late (stamps_rise-filter (is_late c.stamp) ms rise) (quiet.0.1, quiet.1)
     (replies-rest s (events_of early) (events_of late) both) in
     replies-append s (events_of early ++ c.silent) (Dumped ∷ woven cs last late) front.0
-    (subst (λ t. RepliesAre t (woven cs last late)) (sym front.1) rest)
+    (tt, subst (λ t. RepliesAre t (woven cs last late)) (sym front.1) rest)
 
 pub woven_replies : WovenReplies
 woven_replies s cuts last ms rise quiet replies = woven_replies-by s cuts last ms rise (silent_cuts cuts last quiet) replies

@@ -2,4 +2,4 @@ use Rattle.world_runs.proofs.Limits.{own_limits_make_limits}
 use Rattle.noted_runs.proofs.own_limits_make_limits.Goals as goal
 
 pub returns : goal.returns
-returns c = own_limits_make_limits
+returns g c P = own_limits_make_limits P
