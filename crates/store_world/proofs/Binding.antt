@@ -1,5 +1,5 @@
 -- requests that name a node, or take its name away
-use Rattle.std.proofs.Common.{◌≡◌, ℕ, List, true, false, Option, Some, None, arith}
+use Rattle.std.proofs.Common.{◌≡◌, ◌≢◌, ℕ, List, true, false, Option, Some, None, arith}
 use Rattle.std.specs.FinMap.{get}
 use Rattle.tect_ids.specs.declared.ids.DirId.{DirId}
 use Rattle.tect_ids.specs.declared.ids.Hold.{Hold}
@@ -17,7 +17,7 @@ use Rattle.store_rules.specs.Names.{key_in, replaced}
 use Rattle.store_rules.specs.Store.{store_changes, store_reply}
 use Rattle.store_rules.specs.Views.{as_unbound, as_swapped}
 use Rattle.store_world.specs.Worlds.{World, Live, done, ghost_given_up}
-use Rattle.store_world.specs.Sound.{Sound, was_made, dead_in, IsGranted, is_spent}
+use Rattle.store_world.specs.Sound.{Sound, was_made, dead_in, root, parent, IsGranted, is_spent}
 use Rattle.store_world.specs.Later.{Later, Touched}
 use Rattle.store_world.specs.Requests.{Needs, Kept}
 
@@ -28,6 +28,13 @@ module _ (w : World) (s : Sound w) (h : Hold) (n : Node) (k : Key) (granted : Is
 
   upper : was_made w.ghost (Dir k.dir) ≡ true
   upper = s.holds.upper_made h record { lower = n; upper = k; phase = Live } granted
+
+  -- so was its parent set, if it is a directory that was not named yet, and it is not the root
+  beneath : (d p : DirId) → n ≡ Dir d → w.ghost.home (Dir d) ≡ None → parent w.store d ≡ Some p → p ≡ k.dir
+  beneath d p low new par = s.tree.unnamed h record { lower = n; upper = k; phase = Live } d p granted low new par
+
+  no_root : n ≢ Dir root
+  no_root = s.tree.root_free h record { lower = n; upper = k; phase = Live } granted
 
 -- the world where the hold is given up
 abbrev pub giving_up : World → Hold → World
@@ -51,6 +58,15 @@ module _ (w : World) (s : Sound w) (h : Hold) (n : Node) (k : Key) (granted : Is
       upper_made = λ x g is. grind (arith, maps, s.holds.upper_made x, upper w s h n k granted);
     };
     nodes = s.nodes;
+    tree = record {
+      named = s.tree.named;
+      unnamed = λ x g d p is low hm par. grind (arith, maps, s.tree.unnamed x, beneath w s h n k granted d p);
+      stands = s.tree.stands;
+      climbs = s.tree.climbs;
+      root_made = s.tree.root_made;
+      root_home = s.tree.root_home;
+      root_free = λ x g is low. grind (arith, maps, s.tree.root_free x g, no_root w s h n k granted);
+    };
   }
 
   pub given_up_later : (by : Touched) → by.hold h ≡ true → Later by w (giving_up w h)
@@ -93,6 +109,23 @@ module _ (w : World) (s : Sound w) (k : Key) (n : Node) (h : Hold) (o : Over) (n
           nodes = record {
             standing_made = s.nodes.standing_made;
             named_made = λ m e. grind (arith, maps, s.nodes.named_made m, lower w s h n k needs.0);
+          };
+          tree = record {
+            named = λ d p l par hm. grind (arith, maps, s.tree.named d p l, beneath w s h n k needs.0 d p);
+            unnamed = λ x g d p is low hm par. grind (arith, maps, s.tree.unnamed x g d p, s.entries.bound k, s.entries.at_home k);
+            stands = s.tree.stands;
+            climbs = s.tree.climbs;
+            root_made = s.tree.root_made;
+            root_home = grind (arith, maps, s.tree.root_home, no_root w s h n k needs.0);
+            root_free = λ x g is low. grind (
+              arith,
+              maps,
+              s.tree.root_free x g,
+              no_root w s h n k needs.0,
+              s.entries.bound k,
+              s.entries.at_home k,
+              s.tree.root_home,
+            );
           };
         };
         later = record {
@@ -137,6 +170,15 @@ module _ (w : World) (s : Sound w) (k : Key) (want : Want) where
         upper_made = λ x g is. grind (arith, maps, s.holds.upper_made x, s.entries.bound k);
       };
       nodes = s.nodes;
+      tree = record {
+        named = s.tree.named;
+        unnamed = λ x g d p is low hm par. grind (arith, maps, s.tree.unnamed x g d p, s.entries.bound k, s.entries.at_home k);
+        stands = s.tree.stands;
+        climbs = s.tree.climbs;
+        root_made = s.tree.root_made;
+        root_home = s.tree.root_home;
+        root_free = λ x g is low. grind (arith, maps, s.tree.root_free x g, s.entries.bound k, s.entries.at_home k, s.tree.root_home);
+      };
     };
     later = record {
       made = λ m e. e;
@@ -220,6 +262,33 @@ module _ (w : World) (s : Sound w) (d : DirId) (from to : List ℕ) (n : Node) (
           nodes = record {
             standing_made = s.nodes.standing_made;
             named_made = λ m e. grind (arith, maps, s.nodes.named_made m, lower w s h n to_key needs.0);
+          };
+          tree = record {
+            named = λ x p l par hm. grind (arith, maps, was, s.tree.named x p l, s.tree.named x p from_key, s.entries.at_home from_key);
+            unnamed = λ x g y p is low hm par. grind (
+              arith,
+              maps,
+              s.tree.unnamed x g y p,
+              s.entries.bound from_key,
+              s.entries.bound to_key,
+              s.entries.at_home from_key,
+              s.entries.at_home to_key,
+            );
+            stands = s.tree.stands;
+            climbs = s.tree.climbs;
+            root_made = s.tree.root_made;
+            root_home = grind (arith, maps, s.tree.root_home, no_root w s h n to_key needs.0);
+            root_free = λ x g is low. grind (
+              arith,
+              maps,
+              s.tree.root_free x g,
+              no_root w s h n to_key needs.0,
+              s.entries.bound from_key,
+              s.entries.bound to_key,
+              s.entries.at_home from_key,
+              s.entries.at_home to_key,
+              s.tree.root_home,
+            );
           };
         };
         later = record {

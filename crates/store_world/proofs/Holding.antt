@@ -1,5 +1,5 @@
 -- requests that grant and release holds
-use Rattle.std.proofs.Common.{◌≡◌, true, arith}
+use Rattle.std.proofs.Common.{◌≡◌, true, Option, arith}
 use Rattle.tect_ids.specs.declared.ids.DirId.{DirId}
 use Rattle.tect_ids.specs.declared.ids.FileId.{FileId}
 use Rattle.tect_ids.specs.declared.ids.Hold.{Hold}
@@ -11,11 +11,19 @@ use Rattle.store_rules.specs.declared.files.FileReq.TheVariants as files
 use Rattle.store_rules.specs.declared.any.AnyReq.TheVariants as any
 use Rattle.store_rules.specs.Store.{store_changes}
 use Rattle.store_world.specs.Worlds.{World, done}
-use Rattle.store_world.specs.Sound.{Sound}
+use Rattle.store_world.specs.Sound.{Sound, parent}
 use Rattle.store_world.specs.Requests.{Needs, Kept}
+use Rattle.store_world.proofs.Chains.{climbs_still}
 
 -- Grant at a directory
 module _ (w : World) (s : Sound w) (d : DirId) (h : Hold) (k : Key) (needs : Needs w (any.Name (names.Grant d h k))) where
+  abbrev now : DirId → Option DirId
+  now = parent (done w (any.Name (names.Grant d h k))).store
+
+  -- the parents are as before
+  same : (x : DirId) → now x ≡ parent w.store x
+  same x = grind (arith, maps)
+
   pub dir_granted : store_changes w.store (any.Name (names.Grant d h k)) ≡ true
       → Kept w (done w (any.Name (names.Grant d h k))) (any.Name (names.Grant d h k))
   dir_granted ok = record {
@@ -36,6 +44,15 @@ module _ (w : World) (s : Sound w) (d : DirId) (h : Hold) (k : Key) (needs : Nee
       nodes = record {
         standing_made = λ m st. grind (arith, maps, s.nodes.standing_made m);
         named_made = s.nodes.named_made;
+      };
+      tree = record {
+        named = λ x p l par hm. s.tree.named x p l (rw (← same x) par) hm;
+        unnamed = λ x g y p is low hm par. grind (arith, maps, same y, s.tree.unnamed x g y p);
+        stands = λ x is. rw (same x) (s.tree.stands x is);
+        climbs = λ x is. climbs_still (parent w.store) now (λ y e at. rw (same y) at) x (s.tree.climbs x (rw (← same x) is));
+        root_made = s.tree.root_made;
+        root_home = s.tree.root_home;
+        root_free = λ x g is low. grind (arith, maps, s.tree.root_free x g, s.tree.root_home);
       };
     };
     later = record {
@@ -74,6 +91,15 @@ module _ (w : World) (s : Sound w) (f : FileId) (h : Hold) (k : Key) (needs : Ne
         standing_made = λ m st. grind (arith, maps, s.nodes.standing_made m);
         named_made = s.nodes.named_made;
       };
+      tree = record {
+        named = s.tree.named;
+        unnamed = λ x g y p is low hm par. grind (arith, maps, s.tree.unnamed x g y p);
+        stands = s.tree.stands;
+        climbs = s.tree.climbs;
+        root_made = s.tree.root_made;
+        root_home = s.tree.root_home;
+        root_free = λ x g is low. grind (arith, maps, s.tree.root_free x g);
+      };
     };
     later = record {
       made = λ m e. e;
@@ -90,6 +116,13 @@ module _ (w : World) (s : Sound w) (f : FileId) (h : Hold) (k : Key) (needs : Ne
 
 -- Release at a directory
 module _ (w : World) (s : Sound w) (d : DirId) (h : Hold) (needs : Needs w (any.Name (names.Release d h))) where
+  abbrev released : DirId → Option DirId
+  released = parent (done w (any.Name (names.Release d h))).store
+
+  -- the parents are as before
+  same_released : (x : DirId) → released x ≡ parent w.store x
+  same_released x = grind (arith, maps)
+
   pub dir_released : Kept w (done w (any.Name (names.Release d h))) (any.Name (names.Release d h))
   dir_released = record {
     sound = record {
@@ -109,6 +142,16 @@ module _ (w : World) (s : Sound w) (d : DirId) (h : Hold) (needs : Needs w (any.
       nodes = record {
         standing_made = λ m st. grind (arith, maps, s.nodes.standing_made m);
         named_made = s.nodes.named_made;
+      };
+      tree = record {
+        named = λ x p l par hm. s.tree.named x p l (rw (← same_released x) par) hm;
+        unnamed = λ x g y p is low hm par. s.tree.unnamed x g y p is low hm (rw (← same_released y) par);
+        stands = λ x is. rw (same_released x) (s.tree.stands x is);
+        climbs = λ x is. climbs_still (parent w.store) released (λ y e at. rw (same_released y) at) x
+            (s.tree.climbs x (rw (← same_released x) is));
+        root_made = s.tree.root_made;
+        root_home = s.tree.root_home;
+        root_free = s.tree.root_free;
       };
     };
     later = record {
@@ -141,6 +184,7 @@ module _ (w : World) (s : Sound w) (f : FileId) (h : Hold) (needs : Needs w (any
         standing_made = λ m st. grind (arith, maps, s.nodes.standing_made m);
         named_made = s.nodes.named_made;
       };
+      tree = s.tree;
     };
     later = record {
       made = λ m e. e;

@@ -1,19 +1,21 @@
 -- requests that make a directory or a file
-use Rattle.std.proofs.Common.{◌≡◌, true, false, Option, arith}
+use Rattle.std.proofs.Common.{◌≡◌, ℕ, true, false, Option, Some, None, is_some, refl, arith}
 use Rattle.tect_ids.specs.declared.ids.DirId.{DirId}
 use Rattle.tect_ids.specs.declared.ids.FileId.{FileId}
 use Rattle.tect_ids.specs.declared.ids.Hold.{Hold}
 use Rattle.tect_ids.specs.declared.ids.Node.TheVariants.{Dir, File}
 use Rattle.tect_ids.specs.declared.ids.OpId.{OpId}
 use Rattle.tect_ids.specs.declared.key.Key.{Key}
+use Rattle.tect_ids.specs.Keys.{dir_eq}
 use Rattle.key_maps.proofs.Lookups.{maps}
 use Rattle.store_rules.specs.declared.names.NameReq.TheVariants as names
 use Rattle.store_rules.specs.declared.files.FileReq.TheVariants as files
 use Rattle.store_rules.specs.declared.any.AnyReq.TheVariants as any
 use Rattle.store_rules.specs.Store.{store_changes}
 use Rattle.store_world.specs.Worlds.{World, done, after_refusal}
-use Rattle.store_world.specs.Sound.{Sound}
+use Rattle.store_world.specs.Sound.{Sound, parent, above, root}
 use Rattle.store_world.specs.Requests.{Needs, Kept}
+use Rattle.store_world.proofs.Chains.{climbs_still, climbs_from}
 
 -- MakeFile
 module _ (w : World) (s : Sound w) (f : FileId) (h : Hold) (k : Key) (t : Option OpId) (needs : Needs w (any.File (files.MakeFile f h k t)))
@@ -39,6 +41,15 @@ module _ (w : World) (s : Sound w) (f : FileId) (h : Hold) (k : Key) (t : Option
           standing_made = λ m st. grind (arith, maps, s.nodes.standing_made m);
           named_made = λ m e. grind (arith, maps, s.nodes.named_made m);
         };
+        tree = record {
+          named = s.tree.named;
+          unnamed = λ x g d p is low hm par. grind (arith, maps, s.tree.unnamed x g d p);
+          stands = λ d is. grind (arith, maps, s.tree.stands d);
+          climbs = s.tree.climbs;
+          root_made = grind (arith, maps, s.tree.root_made);
+          root_home = s.tree.root_home;
+          root_free = λ x g is low. grind (arith, maps, s.tree.root_free x g);
+        };
       };
       later = record {
         made = λ m e. grind (arith, maps);
@@ -58,9 +69,34 @@ module _ (w : World) (s : Sound w) (f : FileId) (h : Hold) (k : Key) (t : Option
     file_not_refused stayed = absurd (grind (arith, maps, s.nodes.standing_made (File f)))
 
 -- MakeDir
-module _ (w : World) (s : Sound w) (d parent : DirId) (h : Hold) (k : Key) (needs : Needs w (any.Name (names.MakeDir d parent h k))) where
-  pub dir_made : store_changes w.store (any.Name (names.MakeDir d parent h k)) ≡ true
-      → Kept w (done w (any.Name (names.MakeDir d parent h k))) (any.Name (names.MakeDir d parent h k))
+module _ (w : World) (s : Sound w) (d up : DirId) (h : Hold) (k : Key) (needs : Needs w (any.Name (names.MakeDir d up h k))) where
+  -- the directory stood and was named nowhere before
+  fresh : parent w.store d ≡ None
+  fresh = grind (arith, s.nodes.standing_made (Dir d))
+
+  unnamed : w.ghost.home (Dir d) ≡ None
+  unnamed = grind (arith, s.nodes.named_made (Dir d))
+
+  -- the parents after it is made
+  abbrev now : DirId → Option DirId
+  now = parent (done w (any.Name (names.MakeDir d up h k))).store
+
+  more : (x e : DirId) → parent w.store x ≡ Some e → now x ≡ Some e
+  more x e is = grind (arith, maps, fresh)
+
+  new : now d ≡ Some k.dir
+  new = grind (arith, maps)
+
+  climbs : (x : DirId) → is_some (now x) ≡ true → (n : ℕ) × (above now n x ≡ Some root)
+  climbs x stands =
+      elim (dir_eq x d) as (λ b. dir_eq x d ≡ b → (n : ℕ) × (above now n x ≡ Some root)) [
+        | true ↦ λ e. climbs_from now x k.dir (grind (arith, maps, new))
+            (climbs_still (parent w.store) now more k.dir (s.tree.climbs k.dir (s.tree.stands k.dir needs.2)))
+        | false ↦ λ e. climbs_still (parent w.store) now more x (s.tree.climbs x (grind (arith, maps)))
+      ] refl
+
+  pub dir_made : store_changes w.store (any.Name (names.MakeDir d up h k)) ≡ true
+      → Kept w (done w (any.Name (names.MakeDir d up h k))) (any.Name (names.MakeDir d up h k))
   dir_made ok = record {
     sound = record {
       entries = record {
@@ -80,6 +116,15 @@ module _ (w : World) (s : Sound w) (d parent : DirId) (h : Hold) (k : Key) (need
         standing_made = λ m st. grind (arith, maps, s.nodes.standing_made m);
         named_made = λ m e. grind (arith, maps, s.nodes.named_made m);
       };
+      tree = record {
+        named = λ x p l par hm. grind (arith, maps, s.tree.named x p l, unnamed);
+        unnamed = λ x g y p is low hm par. grind (arith, maps, s.tree.unnamed x g y p, s.holds.lower_made x g);
+        stands = λ x is. grind (arith, maps, s.tree.stands x);
+        climbs = climbs;
+        root_made = grind (arith, maps, s.tree.root_made);
+        root_home = s.tree.root_home;
+        root_free = λ x g is low. grind (arith, maps, s.tree.root_free x g, s.tree.root_made);
+      };
     };
     later = record {
       made = λ m e. grind (arith, maps);
@@ -94,6 +139,6 @@ module _ (w : World) (s : Sound w) (d parent : DirId) (h : Hold) (k : Key) (need
     taught = grind (arith, maps, s.nodes.named_made (Dir d));
   }
 
-  pub dir_not_refused : store_changes w.store (any.Name (names.MakeDir d parent h k)) ≡ false
-      → Kept w (after_refusal w (any.Name (names.MakeDir d parent h k))) (any.Name (names.MakeDir d parent h k))
+  pub dir_not_refused : store_changes w.store (any.Name (names.MakeDir d up h k)) ≡ false
+      → Kept w (after_refusal w (any.Name (names.MakeDir d up h k))) (any.Name (names.MakeDir d up h k))
   dir_not_refused stayed = absurd (grind (arith, maps, s.nodes.standing_made (Dir d)))

@@ -36,7 +36,7 @@ pub named_was_made : (w : World) → Sound w → (k : Key) (e : DirectoryEntry) 
 named_was_made w s k e is = s.nodes.named_made e.node (grind (arith, s.entries.at_home k e))
 
 look_taught : (w : World) (s : Sound w) (k : Key) → FoundTaught w (as_found (store_reply w.store (any.Name (names.Look k))))
-look_taught w s k = grind (arith, named_was_made w s k)
+look_taught w s k = grind (arith, named_was_made w s k, s.entries.at_home k)
 
 unbind_refused : (w : World) (k : Key) (want : Want) → store_changes w.store (any.Name (names.Unbind k want)) ≡ false
     → UnboundTaught w (as_unbound (store_reply w.store (any.Name (names.Unbind k want))))
@@ -133,5 +133,14 @@ opening_sound = record {
   nodes = record {
     standing_made = λ n st. grind (arith, maps);
     named_made = λ n e. grind arith;
+  };
+  tree = record {
+    named = λ d p k par hm. grind arith;
+    unnamed = λ h g d p is low hm par. grind arith;
+    stands = λ d is. grind (arith, maps);
+    climbs = λ d is. (0, grind (arith, maps));
+    root_made = grind (arith, maps);
+    root_home = refl;
+    root_free = λ h g is low. grind arith;
   };
 }

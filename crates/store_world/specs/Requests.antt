@@ -1,5 +1,6 @@
 -- What each request touches, what has to be known before it is made, and what its reply teaches.
-use Rattle.std.specs.Prelude.{◌≡◌, ◌≢◌, true, false, Option, Some, None}
+use Rattle.std.specs.Prelude.{◌≡◌, ◌≢◌, true, false, Option, Some, None, is_some}
+use Rattle.tect_ids.specs.declared.ids.DirId.{DirId}
 use Rattle.tect_ids.specs.declared.ids.Hold.{Hold}
 use Rattle.tect_ids.specs.declared.ids.Node.{Node}
 use Rattle.tect_ids.specs.declared.ids.Node.TheVariants.{Dir, File}
@@ -63,26 +64,31 @@ touched_by (any.File q) = file_touches q
 abbrev pub MakeNeeds : World → Node → Hold → Key → Type 0
 MakeNeeds w n h k = (was_made w.ghost n ≡ false) × (w.ghost.given h ≡ None) × (was_made w.ghost (Dir k.dir) ≡ true)
 
--- the hold is new, and the directory was made
-abbrev pub GrantNeeds : World → Hold → Key → Type 0
-GrantNeeds w h k = (w.ghost.given h ≡ None) × (was_made w.ghost (Dir k.dir) ≡ true)
+-- the same of a directory, whose parent is to be the directory of the key
+abbrev pub MakeDirNeeds : World → DirId → DirId → Hold → Key → Type 0
+MakeDirNeeds w d p h k =
+    (was_made w.ghost (Dir d) ≡ false) × (w.ghost.given h ≡ None) × (was_made w.ghost (Dir k.dir) ≡ true) × (p ≡ k.dir)
+
+-- the hold is new, the directory was made, and the node has been named
+abbrev pub GrantNeeds : World → Node → Hold → Key → Type 0
+GrantNeeds w n h k = (w.ghost.given h ≡ None) × (was_made w.ghost (Dir k.dir) ≡ true) × (is_some (w.ghost.home n) ≡ true)
 
 -- What a request of the Name layer needs. A swap asks for another name than the old one: the tree refuses the same.
 abbrev pub NameNeeds : World → NameReq → Type 0
 NameNeeds w (names.CheckDir d) = Unit {0}
 NameNeeds w (names.Look k) = Unit {0}
 NameNeeds w (names.List d) = Unit {0}
-NameNeeds w (names.MakeDir d p h k) = MakeNeeds w (Dir d) h k
+NameNeeds w (names.MakeDir d p h k) = MakeDirNeeds w d p h k
 NameNeeds w (names.Bind k n h o) = IsGranted w h n k × (w.ghost.home n ≡ None)
 NameNeeds w (names.Swap d from to n h) = IsGranted w h n (key_in d to) × (from ≢ to)
 NameNeeds w (names.Unbind k want) = Unit {0}
-NameNeeds w (names.Grant d h k) = GrantNeeds w h k
+NameNeeds w (names.Grant d h k) = GrantNeeds w (Dir d) h k
 NameNeeds w (names.Release d h) = is_spent w h ≡ true
 
 -- what a request of the File layer needs
 abbrev pub FileNeeds : World → FileReq → Type 0
 FileNeeds w (files.MakeFile f h k t) = MakeNeeds w (File f) h k
-FileNeeds w (files.Grant f h k) = GrantNeeds w h k
+FileNeeds w (files.Grant f h k) = GrantNeeds w (File f) h k
 FileNeeds w (files.Release f h) = is_spent w h ≡ true
 
 -- what has to be known before a request is made
@@ -90,10 +96,10 @@ abbrev pub Needs : World → AnyReq → Type 0
 Needs w (any.Name q) = NameNeeds w q
 Needs w (any.File q) = FileNeeds w q
 
--- what is found was made
+-- what is found was made and named
 abbrev pub FoundTaught : World → Option Node → Type 0
 FoundTaught v None = Unit {0}
-FoundTaught v (Some n) = was_made v.ghost n ≡ true
+FoundTaught v (Some n) = (was_made v.ghost n ≡ true) × (is_some (v.ghost.home n) ≡ true)
 
 -- a new node is made, its hold is granted, and nothing names it
 abbrev pub MadeTaught : World → Node → Hold → Key → AnyReply → Type 0

@@ -1,5 +1,5 @@
 -- When a world is sound. Its clauses stand in groups, each a record over the parts that it reads.
-use Rattle.std.specs.Prelude.{◌≡◌, Bool, true, false, Option, Some, None, is_some}
+use Rattle.std.specs.Prelude.{◌≡◌, ◌≢◌, ℕ, zero, suc, Bool, true, false, Option, Some, None, is_some}
 use Rattle.std.specs.FinMap.{FinMap, get}
 use Rattle.tect_ids.specs.declared.ids.DirId.{DirId}
 use Rattle.tect_ids.specs.declared.ids.Hold.{Hold}
@@ -76,11 +76,48 @@ pub record SoundNodes (standing : Node → Bool) (made : Node → Bool) (home : 
   pub standing_made : (n : Node) → standing n ≡ true → made n ≡ true
   pub named_made : (n : Node) → is_some (home n) ≡ true → made n ≡ true
 
--- of a world: all three
+abbrev pub root : DirId
+root = record { 0 = 1 }
+
+abbrev pub parent_in : Option Directory → Option DirId
+parent_in None = None
+parent_in (Some x) = Some x.parent
+
+-- the parent that a directory names, where it stands
+abbrev pub parent : Store → DirId → Option DirId
+parent s d = parent_in (get s.names.dirs d)
+
+abbrev pub at_parent : Option DirId → (DirId → Option DirId) → Option DirId
+at_parent None f = None
+at_parent (Some d) f = f d
+
+-- the directory that is so many parents above
+abbrev pub above : (DirId → Option DirId) → ℕ → DirId → Option DirId
+above parents zero d = Some d
+above parents (suc n) d = at_parent (parents d) (λ e. above parents n e)
+
+-- of the parents of directories
+pub record SoundTree (parents : DirId → Option DirId) (given : Hold → Option Given) (home : Node → Option Key) (made : Node → Bool) : Type 0
+  where
+    -- where a directory has been named, its parent is the directory of that name
+    pub named : (d p : DirId) (k : Key) → parents d ≡ Some p → home (Dir d) ≡ Some k → p ≡ k.dir
+    -- where none has, its parent is the directory that its holds are for
+    pub unnamed : (h : Hold) (g : Given) (d p : DirId) → given h ≡ Some g → g.lower ≡ Dir d → home (Dir d) ≡ None → parents d ≡ Some p
+        → p ≡ g.upper.dir
+    -- no directory is removed
+    pub stands : (d : DirId) → made (Dir d) ≡ true → is_some (parents d) ≡ true
+    pub climbs : (d : DirId) → is_some (parents d) ≡ true → (n : ℕ) × (above parents n d ≡ Some root)
+    -- the root was made, was never named, and no hold is its
+    pub root_made : made (Dir root) ≡ true
+    pub root_home : home (Dir root) ≡ None
+    pub root_free : (h : Hold) (g : Given) → given h ≡ Some g → g.lower ≢ Dir root
+
+-- of a world: all four
 pub record Sound (w : World) : Type 0 where
   pub entries : SoundEntries w.store.names.entries (λ d. is_some (get w.store.names.dirs d)) w.ghost.given w.ghost.home
   pub holds : SoundHolds (lists w.store) (dead_in w.store) w.ghost.given (was_made w.ghost)
   pub nodes : SoundNodes (stands w.store) (was_made w.ghost) w.ghost.home
+  pub tree : SoundTree (parent w.store) w.ghost.given w.ghost.home (was_made w.ghost)
 
 -- whether a hold in that phase is not bound and never will be
 abbrev pub phase_spent : HoldPhase → Bool → Bool
