@@ -1,8 +1,9 @@
 pub mod ActorState
 pub mod ActorInside
 pub mod Turns
+pub mod ActorCalls
+pub mod Refused
 pub mod Lives
-pub mod Phases
 pub mod Steps
 pub mod PassSteps
 pub mod ClientInside

@@ -1,47 +1,49 @@
-ghost use Rattle.std.specs.Prelude.{◌≡◌, ◌+◌, ◌^◌, ◌<◌, IfOk, OnOk, OnErr, IsSome, IsNone, None, true, false, is_some};
-ghost use Rattle.std.specs.Option.{ForSome};
-ghost use Rattle.tect_ids.specs.declared.ids.Counts.{Counts};
+ghost use Rattle.std.specs.Prelude.{◌≡◌, ◌+◌, ◌^◌, ◌<◌, IfOk, OnOk, OnErr, IsSome, IsNone, true, false, is_some};
+ghost use Rattle.std.specs.Option.{ForSome, option_copied};
 ghost use Rattle.store_rules.specs.declared.any.AnyReq.{AnyReq};
-ghost use Rattle.store_rules.specs.Places.{request_place};
 ghost use Rattle.tect_calls.specs.Knowing.{IsActor};
-ghost use Rattle.world_runs.specs.Moments.{idle_actor, begun, not_begun, went_on, next_serial, program_ask, program_answer};
+ghost use Rattle.world_runs.specs.Actors.{idle_actor, begun, not_begun, program_ask};
 ghost use Rattle.clients.specs.ActorState.{op_of, next_op_of};
+ghost use Rattle.clients.specs.ActorCalls.{looked, asks_now, says_now, IsPlainOf, Advances, let_go, left_behind};
 
-use op_names::Running;
+use crate::turned::Turned;
+use program_calls::Programs;
+use program_forms::Standing;
 use std::alloc::Global;
 use std::marker::Model;
 use store_rules::AnyReply;
 use tect_calls::{Asked, Memory};
 use tect_ids::{Answer, Command, Counts, NoMemory, OpId, Place};
 
-/// An actor: how many commands it began, whether it stopped for good, what it knows between commands, with the serial of
-/// the next object that it makes, and its running command with the tokens that it needs.
+/// The answer of an op that was refused: no place is numbered 256.
+static NO_ROOM: Answer = Answer::HistoryFull { place: Place(256) };
+
+/// An actor: how many commands it began, whether it stopped for good, what it knows between commands, and where its running
+/// command stands.
 #[derive(Drop)]
-pub struct Actor {
+pub struct Actor<P: Programs> {
     alloc: Global,
     number: u32,
     stopped: bool,
     memory: Memory,
-    running: Option<Running>,
+    running: Option<Standing<P>>,
 }
 
-impl Model for Actor {
+impl<P: Programs> Model for Actor<P> {
     ghost use Rattle.clients.specs.ActorState.{ActorState};
 
-    ghost Value = { ActorState };
+    ghost Value = { ActorState P };
 
-    ghost use Rattle.clients.specs.ActorInside.{state_of, RunsOwn};
+    ghost use Rattle.clients.specs.ActorInside.{state_of};
 
     ghost view = { state_of };
-
-    ghost invariant = { RunsOwn };
 }
 
-impl Actor {
+impl<P: Programs + Drop> Actor<P> {
     /// The actor with that number, from 1 to 65, before it did anything, where each layer has that many shards.
-    pub fn start(alloc: Global, actor: u32, counts: Counts) -> Result<Actor, NoMemory>
+    pub fn start(alloc: Global, actor: u32, counts: Counts) -> Result<Actor<P>, NoMemory>
         requires { IsActor actor }
-        ensures { IfOk result (λ started. started ≡ record { actor = actor; state = idle_actor }) }
+        ensures { IfOk result (λ started. started ≡ record { actor = actor; counts = counts; state = idle_actor }) }
     {
         let memory = Memory::start(alloc, actor, counts)?;
         Ok(Actor {
@@ -56,7 +58,7 @@ impl Actor {
     /// The op of its last command; number 0 before the first. It takes no memory.
     pub fn op(&self) -> OpId
         ensures op { result ≡ op_of self.now }
-        ensures own { ForSome self.now.state.running (λ program. program.op ≡ op_of self.now) }
+        ensures own { ForSome self.now.state.running (λ running. running.op ≡ op_of self.now) }
     {
         OpId {
             actor: self.memory.actor(),
@@ -94,93 +96,95 @@ impl Actor {
         requires idle { IsNone self.old.state.running }
         requires goes_on { self.old.state.stopped ≡ false }
         requires few { self.old.state.number + 1 < 2 ^ 32 }
-        ensures ok { OnOk result (self.new ≡ record self.old { state = begun self.old.state (next_op_of self.old) command }) }
+        requires served { P.rules.serves command ≡ true }
+        ensures ok { OnOk result (self.new ≡ record self.old {
+          state = begun P.rules self.old.counts self.old.state (next_op_of self.old) command;
+        }) }
         ensures err { OnErr result (self.new ≡ self.old) }
     {
         let op = self.next_op();
-        let running = Running::start(self.alloc, op, command)?;
+        let state = P::start(self.alloc, &self.memory, op, command)?;
         self.number += 1;
-        self.running = Some(running);
+        self.running = Some(Standing::Goes { state });
         Ok(())
     }
 
-    /// Begins its next op with that command, which has its answer from the first: there is no room to note that it begins.
-    /// It takes no memory.
-    pub fn begin_refused(&mut self, command: Command)
+    /// Begins its next op, which has its answer from the first: there is no room to note that it begins. It takes no memory.
+    pub fn begin_refused(&mut self)
         requires idle { IsNone self.old.state.running }
         requires goes_on { self.old.state.stopped ≡ false }
         requires few { self.old.state.number + 1 < 2 ^ 32 }
-        ensures { self.new ≡ record self.old { state = not_begun self.old.state (next_op_of self.old) command } }
+        ensures { self.new ≡ record self.old { state = not_begun self.old.state (next_op_of self.old) } }
     {
-        let op = self.next_op();
         self.number += 1;
-        self.running = Some(Running::refused(self.alloc, op, command));
+        self.running = Some(Standing::NoRoom);
     }
 
-    /// The request that its command makes next, with the tokens that it needs; none where it has its answer, or where no
-    /// command runs. Nothing is changed.
+    /// The request that its command makes next, with the tokens that it needs; none where it has its answer, or goes on no
+    /// more, or where no command runs. What its command can look up is looked up before, also where memory is wanting then.
     pub fn next(&mut self) -> Result<Option<Asked>, NoMemory>
-        ensures asks { IfOk result (λ req. req ≡ program_ask self.old.state.serial self.old.state.running) }
-        ensures same { self.new ≡ self.old }
+        ensures asks { IfOk result
+            (λ req. req ≡ program_ask P.rules self.old.counts self.old.state.memory self.old.state.running) }
+        ensures looked { self.new ≡ looked P.rules self.old }
     {
+        let op = self.op();
         match &mut self.running {
-            None => Ok(None),
-            Some(running) => running.next(&mut self.memory),
+            Some(Standing::Goes { state }) => state.next(&mut self.memory, op),
+            Some(Standing::Left) | Some(Standing::NoRoom) | None => Ok(None),
         }
     }
 
-    /// Its command goes on at the reply to its request, which was made at that place. Where an object was made, a serial
-    /// is taken. For want of memory it stays as it was.
-    pub fn advance(&mut self, place: Place, reply: &AnyReply) -> Result<(), NoMemory>
-        requires asked { IsSome (program_ask self.old.state.serial self.old.state.running) }
-        requires few { self.old.state.serial + 1 < 2 ^ 32 }
-        ensures ok { OnOk result ((counts : Counts) (req : AnyReq) → place ≡ request_place counts req
-            → self.new ≡ record self.old { state = went_on counts self.old.state req reply.now }) }
-        ensures op { op_of self.new ≡ op_of self.old }
-        ensures err { OnErr result (self.new ≡ self.old) }
+    /// Its command goes on at the reply to the request that `next` gave. `Done` comes where the reply ended it: then it is let go.
+    /// For want of memory to go on it stands at `Left`, and has no answer. In each case a serial is taken where an object was
+    /// made.
+    pub fn advance(&mut self, reply: &AnyReply) -> Result<Turned, NoMemory>
+        requires asked { IsSome (asks_now P.rules self.old) }
+        requires few { self.old.state.memory.serial + 1 < 2 ^ 32 }
+        ensures { (req : AnyReq) → asks_now P.rules self.old ≡ Some req → Advances P.rules self.old self.new req reply.now result }
     {
-        let Some(running) = &mut self.running else {
+        let op = self.op();
+        let Some(Standing::Goes { state }) = &mut self.running else {
             unreachable!()
         };
-        running.hear(&mut self.memory, place, reply)
-    }
-
-    /// Its command ends at the reply to its request, for want of memory to go on. Where an object was made, a serial is
-    /// taken all the same. It takes no memory.
-    pub fn drop_after(&mut self, reply: &AnyReply)
-        requires few { self.old.state.serial + 1 < 2 ^ 32 }
-        ensures { self.new ≡ record self.old {
-          state = record self.old.state {
-            serial = next_serial self.old.state.serial reply.now;
-            running = None;
-          };
-        } }
-    {
-        if reply.is_made() {
-            self.memory.take_serial();
+        match state.hear(&mut self.memory, op, reply) {
+            Ok(None) => Ok(Turned::Going),
+            Ok(Some(answer)) => {
+                self.running = None;
+                Ok(Turned::Done(answer))
+            }
+            Err(NoMemory) => {
+                self.running = Some(Standing::Left);
+                Err(NoMemory)
+            }
         }
-        self.running = None;
     }
 
-    /// The answer that its command has come to, if it has.
-    #[tactic(auto, using(tect_ids::proofs::Clones::same_answer))]
-    pub fn finished(&self) -> Result<Option<Answer>, NoMemory>
-        ensures { IfOk result (λ answer. answer ≡ program_answer self.now.state.running) }
+    /// The answer that its command has come to without a request, and that of an op that was refused. It takes no memory.
+    pub fn finished(&self) -> Option<&Answer>
+        ensures says { option_copied result ≡ says_now P.rules self.now }
+        ensures plain { IsPlainOf self.now.state.running (option_copied result) }
     {
-        let Some(running) = &self.running else {
-            return Ok(None);
-        };
-        match running.answer() {
-            None => Ok(None),
-            Some(answer) => Ok(Some(answer.clone()?)),
+        match &self.running {
+            Some(Standing::Goes { state }) => state.answer(),
+            Some(Standing::NoRoom) => Some(&NO_ROOM),
+            Some(Standing::Left) | None => None,
         }
     }
 
     /// Ends its command. It takes no memory.
     pub fn end(&mut self)
-        ensures { self.new ≡ record self.old { state = record self.old.state { running = None } } }
+        ensures { self.new ≡ let_go self.old }
     {
         self.running = None;
+    }
+
+    /// Its command goes on no more, and has no answer. It takes no memory.
+    pub fn leave(&mut self)
+        ensures { self.new ≡ left_behind self.old }
+    {
+        if self.running.is_some() {
+            self.running = Some(Standing::Left);
+        }
     }
 
     /// Stops for good, with its command unfinished. It takes no memory.

@@ -1,5 +1,5 @@
 //! A client: an actor, which begins commands that run by their programs, one request at a time, with the pass that notes
-//! what it does. Its requests are committed wherever its caller says.
+//! what it does. The programs are any; its requests are committed wherever its caller says.
 #![tactic(auto)]
 
 mod actor;

@@ -3,6 +3,7 @@ ghost use Rattle.std.specs.Option.{option_copied};
 ghost use Rattle.store_rules.specs.declared.any.AnyReq.{AnyReq};
 ghost use Rattle.program_forms.specs.Kinds.{Programs as Rules, asked_by, next_does, turned};
 ghost use Rattle.program_calls.specs.Hearing.{Hears, IsPlain, SaysIn};
+ghost use Rattle.program_calls.specs.Keeping.{KeepsSerial};
 
 use std::alloc::Global;
 use store_rules::AnyReply;
@@ -43,4 +44,7 @@ pub trait Programs: Sized {
         ensures heard { (req : AnyReq) → asked_by (rules.kind.does memory.old.counts memory.old.memory op self.old) ≡ Some req
             → Hears rules memory.old.counts memory.old.memory memory.new.memory op self.old self.new req reply.now result }
         ensures same { memory.new ≡ record memory.old { memory = memory.new.memory } };
+
+    /// What is looked up takes no serial.
+    ghost keeps_serial: { KeepsSerial rules };
 }
