@@ -1,7 +1,8 @@
 -- The fields of an actor are its state, and it runs its last op.
-use Rattle.std.specs.Prelude.{Option, Some, None}
+use Rattle.std.specs.Prelude.{◌≡◌, Option, Some, None}
 use Rattle.tect_ids.specs.declared.ids.OpId.{OpId}
 use Rattle.program_forms.specs.declared.standing.Standing.{Standing}
+use Rattle.program_forms.specs.Lacks.{no_room}
 use Rattle.world_runs.specs.Actors.{Running}
 use Rattle.clients.specs.ActorState.{ActorState}
 use Rattle.clients.specs.declared.actor.Actor.TheInside.{Inside}
@@ -21,3 +22,7 @@ state_of a = record {
     running = run_as (record { actor = a.memory.actor; number = a.number }) a.running;
   };
 }
+
+-- the answer that it lends for an op that was refused
+abbrev pub HasNoRoom : {S : Type 0} → Inside S → Type 0
+HasNoRoom a = a.no_room ≡ no_room

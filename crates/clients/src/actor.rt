@@ -15,9 +15,6 @@ use store_rules::AnyReply;
 use tect_calls::{Asked, Memory};
 use tect_ids::{Answer, Command, Counts, NoMemory, OpId, Place};
 
-/// The answer of an op that was refused: no place is numbered 256.
-static NO_ROOM: Answer = Answer::HistoryFull { place: Place(256) };
-
 /// An actor: how many commands it began, whether it stopped for good, what it knows between commands, and where its running
 /// command stands.
 #[derive(Drop)]
@@ -27,6 +24,8 @@ pub struct Actor<P: Programs> {
     stopped: bool,
     memory: Memory,
     running: Option<Standing<P>>,
+    // The answer of an op that was refused, to be lent.
+    no_room: Answer,
 }
 
 impl<P: Programs> Model for Actor<P> {
@@ -34,9 +33,11 @@ impl<P: Programs> Model for Actor<P> {
 
     ghost Value = { ActorState P };
 
-    ghost use Rattle.clients.specs.ActorInside.{state_of};
+    ghost use Rattle.clients.specs.ActorInside.{state_of, HasNoRoom};
 
     ghost view = { state_of };
+
+    ghost invariant = { HasNoRoom };
 }
 
 impl<P: Programs + Drop> Actor<P> {
@@ -52,6 +53,7 @@ impl<P: Programs + Drop> Actor<P> {
             stopped: false,
             memory,
             running: None,
+            no_room: Answer::HistoryFull { place: Place(256) },
         })
     }
 
@@ -166,7 +168,7 @@ impl<P: Programs + Drop> Actor<P> {
     {
         match &self.running {
             Some(Standing::Goes { state }) => state.answer(),
-            Some(Standing::NoRoom) => Some(&NO_ROOM),
+            Some(Standing::NoRoom) => Some(&self.no_room),
             Some(Standing::Left) | None => None,
         }
     }
