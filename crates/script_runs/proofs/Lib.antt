@@ -1,2 +1,6 @@
 pub mod Histories
 pub mod Running
+pub mod Moves
+pub mod Lines
+pub mod FollowOn
+pub mod AtOnce
