@@ -24,6 +24,7 @@ use Rattle.entry_words.specs.declared.entry.Entry.{Entry}
 use Rattle.entry_words.specs.declared.entry.Label.{Label}
 use Rattle.passes.specs.declared.pass.Pass.{Pass}
 use Rattle.entry_words.specs.declared.entry.Moment.TheVariants.{Act}
+use Rattle.program_forms.specs.declared.heard.Heard.TheVariants.{Whole}
 use Rattle.passes.specs.Commits.{entry_of, next_stamp}
 use Rattle.place_kit.specs.Kept.{label_of, history_of}
 use Rattle.place_kit.specs.Replay.{stamps_rise}
@@ -224,14 +225,14 @@ module _ {K F : Type 0} (c : Counts) (ns : List K) (fs : List F) (nm : K → Nam
 
       pub name_result : (r : R) (after : Pass) → wide r ≡ reply_of.Name (reply (name_answer (nm k) q)) → nm x ≡ name_step (nm k) q
           → history_of (na x) ≡ history_of (na k) ++ entry_of (label_of (na k)) clock pass (any.Name q) (wide r) ∷ []
-          → after.moments.items ≡ pass.moments.items ++ Act (entry_of (label_of (na k)) clock pass (any.Name q) (wide r)) ∷ []
+          → after.moments.items ≡ pass.moments.items ++ Act (entry_of (label_of (na k)) clock pass (any.Name q) (wide r)) Whole ∷ []
           → after.clock ≡ next_stamp clock pass → after.steps ≡ pass.steps + 1 → after.actor ≡ pass.actor → after.running ≡ pass.running
           → IsDone before name_later pass after (any.Name q) (wide r)
       name_result r after replied done grown trail clocks steps actor running = record {
         reply = replied ∙ name_reply_is c (map nm ns) (map fm fs) is p (any.Name q) at q refl (nm k)
             (name_read c ns fs nm fm na fa name file is started p (any.Name q) at q refl k read);
         state = name_committed r done grown;
-        trail = trail ∙ ap (λ (e : Entry). pass.moments.items ++ Act e ∷ []) (name_entry r);
+        trail = trail ∙ ap (λ (e : Entry). pass.moments.items ++ Act e Whole ∷ []) (name_entry r);
         clock = clocks ∙ ap (λ (e : Entry). e.stamp) (name_entry r);
         steps = steps;
         actor = actor;
@@ -303,14 +304,14 @@ module _ {K F : Type 0} (c : Counts) (ns : List K) (fs : List F) (nm : K → Nam
 
       pub file_result : (r : R) (after : Pass) → wide r ≡ reply_of.File (reply (file_answer (fm k) q)) → fm x ≡ file_step (fm k) q
           → history_of (fa x) ≡ history_of (fa k) ++ entry_of (label_of (fa k)) clock pass (any.File q) (wide r) ∷ []
-          → after.moments.items ≡ pass.moments.items ++ Act (entry_of (label_of (fa k)) clock pass (any.File q) (wide r)) ∷ []
+          → after.moments.items ≡ pass.moments.items ++ Act (entry_of (label_of (fa k)) clock pass (any.File q) (wide r)) Whole ∷ []
           → after.clock ≡ next_stamp clock pass → after.steps ≡ pass.steps + 1 → after.actor ≡ pass.actor → after.running ≡ pass.running
           → IsDone before file_later pass after (any.File q) (wide r)
       file_result r after replied done grown trail clocks steps actor running = record {
         reply = replied ∙ file_reply_is c (map nm ns) (map fm fs) is p (any.File q) at q refl (fm k)
             (file_read c ns fs nm fm na fa name file is started p (any.File q) at q refl k read);
         state = file_committed r done grown;
-        trail = trail ∙ ap (λ (e : Entry). pass.moments.items ++ Act e ∷ []) (file_entry r);
+        trail = trail ∙ ap (λ (e : Entry). pass.moments.items ++ Act e Whole ∷ []) (file_entry r);
         clock = clocks ∙ ap (λ (e : Entry). e.stamp) (file_entry r);
         steps = steps;
         actor = actor;

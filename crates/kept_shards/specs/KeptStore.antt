@@ -13,6 +13,7 @@ use Rattle.file_shard.specs.Codes.{files_code}
 use Rattle.entry_words.specs.declared.entry.Entry.{Entry}
 use Rattle.entry_words.specs.contracts.entry.Entry as entry
 use Rattle.entry_words.specs.declared.entry.Moment.TheVariants.{Act}
+use Rattle.program_forms.specs.declared.heard.Heard.TheVariants.{Whole}
 use Rattle.entry_words.specs.declared.entry.Refused.{Refused}
 use Rattle.entry_words.specs.declared.entry.Refused.TheVariants.{NoMemory, HistoryFull, Astray}
 use Rattle.passes.specs.declared.pass.Pass.{Pass}
@@ -59,7 +60,7 @@ entry_here w p q x =
 pub record IsDone (old new : KeptStore) (before after : Pass) (q : AnyReq) (x : AnyReply) : Type 0 where
   pub reply : x ≡ store_reply old.store q
   pub state : new ≡ committed old (entry_here old before q x)
-  pub trail : after.moments.items ≡ before.moments.items ++ Act (entry_here old before q x) ∷ []
+  pub trail : after.moments.items ≡ before.moments.items ++ Act (entry_here old before q x) Whole ∷ []
   pub clock : after.clock ≡ (entry_here old before q x).stamp
   pub steps : after.steps ≡ before.steps + 1
   pub actor : after.actor ≡ before.actor

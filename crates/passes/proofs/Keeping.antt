@@ -8,6 +8,7 @@ use Rattle.entry_words.specs.declared.entry.Entry.{Entry}
 use Rattle.entry_words.specs.declared.entry.Note.{Note}
 use Rattle.entry_words.specs.declared.entry.Note.TheVariants.{Began, Ended, Stopped}
 use Rattle.entry_words.specs.declared.entry.Moment.{Moment}
+use Rattle.program_forms.specs.declared.heard.Heard.{Heard}
 use Rattle.entry_words.specs.declared.entry.Moment.TheVariants.{Act, Local}
 use Rattle.passes.specs.declared.pass.Pass.{Pass}
 use Rattle.passes.specs.Logged.{Logged}
@@ -127,24 +128,24 @@ IsPass-note actor clock steps bytes running next m n note k pushed goes owner co
       early = early;
     }
 
-pub IsPass-act : (actor clock steps bytes : ℕ) (running : Option OpId) (m n : Logged Moment) (e : Entry) (more : ℕ)
+pub IsPass-act : (actor clock steps bytes : ℕ) (running : Option OpId) (m n : Logged Moment) (e : Entry) (heard : Heard) (more : ℕ)
     → IsPass actor clock steps bytes running m
-    → n.items ≡ m.items ++ Act e ∷ []
+    → n.items ≡ m.items ++ Act e heard ∷ []
     → e.actor ≡ actor → e.step ≡ steps → clock < e.stamp → more ≡ bytes + reply_bytes e.reply
     → length m.items + 1 + aside running ≤ 65536 → aside running ≤ n.spare → e.stamp + aside running < 2 ^ 64
     → IsPass actor e.stamp (steps + 1) more running n
-IsPass-act actor clock steps bytes running m n e more k pushed own step later adds few room early =
-    let trail = trail_of-act m.items e in
+IsPass-act actor clock steps bytes running m n e heard more k pushed own step later adds few room early =
+    let trail = trail_of-act m.items e heard in
     record {
-      own = rw pushed (all_of_actor-push actor m.items (Act e) k.own own);
-      rising = rw pushed (rises-push 0 clock m.items (Act e) k.rising later);
+      own = rw pushed (all_of_actor-push actor m.items (Act e heard) k.own own);
+      rising = rw pushed (rises-push 0 clock m.items (Act e heard) k.rising later);
       counted = rw (pushed, trail) (steps_count-push 0 steps (trail_of m.items) e k.counted step);
       weighed = rw (pushed, trail) (adds ∙ ap (λ b. b + reply_bytes e.reply) k.weighed ∙ sym (all_reply_bytes-push (trail_of m.items) e));
-      going = k.going ∙ sym (running_in-push None m.items (Act e)) ∙ ap (running_in None) (sym pushed);
+      going = k.going ∙ sym (running_in-push None m.items (Act e heard)) ∙ ap (running_in None) (sym pushed);
       runs_own = k.runs_own;
-      notes_own = rw pushed (all_notes_of-act actor m.items e k.notes_own);
-      costs = rw pushed (omega (arith, length-append m.items (Act e ∷ []), sum_by_push moment_cost m.items (Act e), k.costs));
-      few = rw pushed (omega (arith, length-append m.items (Act e ∷ []), few));
+      notes_own = rw pushed (all_notes_of-act actor m.items e heard k.notes_own);
+      costs = rw pushed (omega (arith, length-append m.items (Act e heard ∷ []), sum_by_push moment_cost m.items (Act e heard), k.costs));
+      few = rw pushed (omega (arith, length-append m.items (Act e heard ∷ []), few));
       room = room;
       early = early;
     }

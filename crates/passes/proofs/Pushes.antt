@@ -9,6 +9,7 @@ use Rattle.store_rules.specs.declared.any.AnyReply.{AnyReply}
 use Rattle.entry_words.specs.declared.entry.Entry.{Entry}
 use Rattle.entry_words.specs.declared.entry.Note.{Note}
 use Rattle.entry_words.specs.declared.entry.Moment.{Moment}
+use Rattle.program_forms.specs.declared.heard.Heard.{Heard}
 use Rattle.entry_words.specs.declared.entry.Moment.TheVariants.{Act, Local}
 use Rattle.store_rules.specs.ReplyBytes.{reply_bytes}
 use Rattle.entry_words.specs.Moments.{stamp_of, actor_of, trail_of, rises, all_of_actor, steps_count, all_reply_bytes}
@@ -28,32 +29,32 @@ pub all_of_actor-push : (actor : ℕ) (ms : List Moment) (m : Moment) → all_of
 all_of_actor-push actor [] m h e = grind (arith, nat_tests)
 all_of_actor-push actor (x ∷ ms) m h e = grind (arith, common_steps, all_of_actor-push actor ms m)
 
-pub all_notes_of-act : (actor : ℕ) (ms : List Moment) (e : Entry) → all_notes_of actor ms ≡ true
-    → all_notes_of actor (ms ++ Act e ∷ []) ≡ true
-all_notes_of-act actor [] e h = refl
-all_notes_of-act actor (Act x ∷ ms) e h = all_notes_of-act actor ms e h
-all_notes_of-act actor (Local s a n ∷ ms) e h = grind (arith, common_steps, all_notes_of-act actor ms e)
+pub all_notes_of-act : (actor : ℕ) (ms : List Moment) (e : Entry) (heard : Heard) → all_notes_of actor ms ≡ true
+    → all_notes_of actor (ms ++ Act e heard ∷ []) ≡ true
+all_notes_of-act actor [] e heard h = refl
+all_notes_of-act actor (Act x k ∷ ms) e heard h = all_notes_of-act actor ms e heard h
+all_notes_of-act actor (Local s a n ∷ ms) e heard h = grind (arith, common_steps, all_notes_of-act actor ms e heard)
 
 pub all_notes_of-note : (actor : ℕ) (ms : List Moment) (stamp by : ℕ) (note : Note) → all_notes_of actor ms ≡ true
     → (op_of note).actor ≡ actor
     → all_notes_of actor (ms ++ Local stamp by note ∷ []) ≡ true
 all_notes_of-note actor [] stamp by note h own = grind (arith, nat_tests)
-all_notes_of-note actor (Act x ∷ ms) stamp by note h own = all_notes_of-note actor ms stamp by note h own
+all_notes_of-note actor (Act x k ∷ ms) stamp by note h own = all_notes_of-note actor ms stamp by note h own
 all_notes_of-note actor (Local s a n ∷ ms) stamp by note h own = grind (arith, common_steps, all_notes_of-note actor ms stamp by note)
 
-pub trail_of-act : (ms : List Moment) (e : Entry) → trail_of (ms ++ Act e ∷ []) ≡ trail_of ms ++ e ∷ []
-trail_of-act [] e = refl
-trail_of-act (Act x ∷ ms) e = ap (λ es. x ∷ es) (trail_of-act ms e)
-trail_of-act (Local stamp actor note ∷ ms) e = trail_of-act ms e
+pub trail_of-act : (ms : List Moment) (e : Entry) (heard : Heard) → trail_of (ms ++ Act e heard ∷ []) ≡ trail_of ms ++ e ∷ []
+trail_of-act [] e heard = refl
+trail_of-act (Act x k ∷ ms) e heard = ap (λ es. x ∷ es) (trail_of-act ms e heard)
+trail_of-act (Local stamp actor note ∷ ms) e heard = trail_of-act ms e heard
 
 pub trail_of-local : (ms : List Moment) (stamp actor : ℕ) (note : Note) → trail_of (ms ++ Local stamp actor note ∷ []) ≡ trail_of ms
 trail_of-local [] stamp actor note = refl
-trail_of-local (Act x ∷ ms) stamp actor note = ap (λ es. x ∷ es) (trail_of-local ms stamp actor note)
+trail_of-local (Act x k ∷ ms) stamp actor note = ap (λ es. x ∷ es) (trail_of-local ms stamp actor note)
 trail_of-local (Local s a n ∷ ms) stamp actor note = trail_of-local ms stamp actor note
 
 pub trail_of-len : (ms : List Moment) → length (trail_of ms) ≤ length ms
 trail_of-len [] = omega arith
-trail_of-len (Act x ∷ ms) = let h = trail_of-len ms in omega (arith, h)
+trail_of-len (Act x k ∷ ms) = let h = trail_of-len ms in omega (arith, h)
 trail_of-len (Local s a n ∷ ms) = let h = trail_of-len ms in omega (arith, h)
 
 pub steps_count-push : (first next : ℕ) (es : List Entry) (e : Entry) → steps_count first next es ≡ true → e.step ≡ next

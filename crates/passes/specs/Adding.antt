@@ -8,6 +8,7 @@ use Rattle.entry_words.specs.declared.entry.Entry.{Entry}
 use Rattle.entry_words.specs.declared.entry.Note.{Note}
 use Rattle.entry_words.specs.declared.entry.Refused.{Refused}
 use Rattle.entry_words.specs.declared.entry.Moment.TheVariants.{Act}
+use Rattle.program_forms.specs.declared.heard.Heard.TheVariants.{Whole}
 use Rattle.passes.specs.declared.pass.Pass.{Pass}
 use Rattle.passes.specs.Commits.{local_of, op_number}
 
@@ -29,9 +30,10 @@ abbrev pub entered : Counts → Pass → Pass → AnyReq → Result AnyReply Ref
 entered counts old new q (Ok x) = Ok (entry_at counts new.clock old q x)
 entered counts old new q (Err e) = Err e
 
--- The pass has one entry more, that of the request and its reply, stamped by its clock, which went on.
+-- The pass has one entry more, that of the request and its reply, stamped by its clock, which went on. The reply counts as heard
+-- whole until its command says else.
 pub record Committed (counts : Counts) (old new : Pass) (q : AnyReq) (x : AnyReply) : Type 0 where
-  pub moments : new.moments.items ≡ old.moments.items ++ Act (entry_at counts new.clock old q x) ∷ []
+  pub moments : new.moments.items ≡ old.moments.items ++ Act (entry_at counts new.clock old q x) Whole ∷ []
   pub later : old.clock < new.clock
   pub actor : new.actor ≡ old.actor
   pub running : new.running ≡ old.running

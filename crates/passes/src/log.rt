@@ -1,5 +1,8 @@
 ghost use Rattle.std.specs.Prelude.{◌≡◌, ◌+◌, ◌-◌, ◌<◌, ◌≤◌, [], ◌∷◌, ◌++◌, length, OnOk, OnErr, IsOk};
+ghost use Rattle.entry_words.specs.Moments.{heard_as, heard_last};
 
+use entry_words::Moment;
+use program_forms::Heard;
 use std::alloc::Global;
 use std::marker::Model;
 use tect_ids::NoMemory;
@@ -71,7 +74,7 @@ impl<T> Log<T> {
     }
 
     // There is sure room for one.
-    pub fn push(&mut self, item: T)
+    pub(crate) fn push(&mut self, item: T)
         requires { 0 < self.old.spare }
         ensures { self.new ≡ record { items = self.old.items ++ item ∷ []; spare = self.old.spare - 1 } }
     {
@@ -85,5 +88,26 @@ impl<T> Log<T> {
         ensures { self.new ≡ record { items = self.old.items; spare = spare } }
     {
         self.spare = spare;
+    }
+}
+
+impl Log<Moment> {
+    // Says how the command heard the last one, where that is a transaction.
+    #[tactic(auto, using(crate::proofs::Hearing::set_last, crate::proofs::Hearing::heard_none))]
+    pub(crate) fn set_heard(&mut self, heard: Heard)
+        ensures { self.new ≡ record { items = heard_last heard self.old.items; spare = self.old.spare } }
+    {
+        let len = self.items.len();
+        if len > 0 {
+            hear(&mut self.items[len - 1], heard);
+        }
+    }
+}
+
+fn hear(moment: &mut Moment, heard: Heard)
+    ensures { moment.new ≡ heard_as heard moment.old }
+{
+    if let Moment::Act { heard: at, .. } = moment {
+        *at = heard;
     }
 }

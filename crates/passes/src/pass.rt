@@ -4,7 +4,9 @@ ghost use Rattle.passes.specs.Passes.{IsPass, IsPass-prop, aside};
 ghost use Rattle.store_rules.specs.ReplyBytes.{reply_bytes};
 
 use crate::log::Log;
+use crate::receipt::Receipt;
 use entry_words::{CLOCK_LIMIT, Entry, Moment, Note, Refused};
+use program_forms::Heard;
 use std::alloc::Global;
 use store_rules::{AnyReply, AnyReq};
 use tect_ids::{Command, NoMemory, OpId, Place};
@@ -29,7 +31,7 @@ pub struct Pass {
 
 impl Pass {
     ghost use Rattle.passes.specs.Commits.{IsFull, IsFullForBegin, MayNote, begins, local_of, op_number, pass_place, spare_of, used};
-    ghost use Rattle.entry_words.specs.Moments.{running_after, op_of, moment_cost};
+    ghost use Rattle.entry_words.specs.Moments.{heard_last, running_after, op_of, moment_cost};
 
     /// A pass in which nothing was done. It takes no memory.
     pub fn start(alloc: Global, actor: u32) -> Pass
@@ -302,8 +304,40 @@ impl Pass {
         self.moments.push(Moment::Local { stamp, actor, note });
     }
 
-    /// The entry of a transaction that the actor does next, stamped so. It takes no memory.
-    pub fn entry(&self, stamp: u64, place: Place, req: AnyReq, reply: AnyReply) -> Entry
+    /// Adds the entry of a transaction that the actor does next, stamped so, to the history of its place, and gives the receipt
+    /// with which this pass takes the same entry. `theirs` is `ours` once more: the request and its reply. There is room in the
+    /// history. It takes no memory.
+    pub fn enter(
+        &self,
+        history: &mut Log<Entry>,
+        stamp: u64,
+        place: Place,
+        ours: (AnyReq, AnyReply),
+        theirs: (AnyReq, AnyReply),
+    ) -> Receipt
+        requires room { 0 < history.old.spare }
+        requires same { theirs ≡ ours }
+        ensures entry { result ≡ record {
+          stamp = stamp;
+          place = place;
+          actor = self.now.actor;
+          number = op_number self.now.running;
+          step = self.now.steps;
+          req = ours.0;
+          reply = ours.1;
+        } }
+        ensures history { history.new ≡ record { items = history.old.items ++ result ∷ []; spare = history.old.spare - 1 } }
+    {
+        let (req, reply) = ours;
+        history.push(self.entry(stamp, place, req, reply));
+        let (req, reply) = theirs;
+        Receipt {
+            entry: self.entry(stamp, place, req, reply),
+        }
+    }
+
+    // The entry of a transaction that the actor does next, stamped so.
+    fn entry(&self, stamp: u64, place: Place, req: AnyReq, reply: AnyReply) -> Entry
         ensures { result ≡ record {
           stamp = stamp;
           place = place;
@@ -325,9 +359,28 @@ impl Pass {
         }
     }
 
-    /// Adds the entry of a transaction, the next step of the pass's actor, stamped above the clock. There is room for it, beside
-    /// what is put aside. It takes no memory.
-    pub fn record(&mut self, entry: Entry)
+    /// Adds the entry of a transaction, the next step of the pass's actor, stamped above the clock; its reply counts as heard
+    /// whole. There is room for it, beside what is put aside. It takes no memory.
+    pub fn record(&mut self, receipt: Receipt)
+        requires room { 0 < spare_of self.old }
+        requires few { used self.old < MOST_MOMENTS }
+        requires light { self.old.bytes < MOST_BYTES }
+        requires later { self.old.clock < receipt.stamp }
+        requires early { receipt.stamp + 1 < 2 ^ 64 }
+        requires own { (receipt.actor ≡ self.old.actor) × (receipt.step ≡ self.old.steps) }
+        ensures moments { self.new.moments ≡ record {
+          items = self.old.moments.items ++ Moment.Act receipt Heard.Whole ∷ [];
+          spare = self.old.moments.spare - 1;
+        } }
+        ensures numbers { (self.new.clock ≡ receipt.stamp) × (self.new.steps ≡ self.old.steps + 1)
+            × (self.new.bytes ≡ self.old.bytes + reply_bytes receipt.reply) }
+        ensures same { (self.new.actor ≡ self.old.actor) × (self.new.running ≡ self.old.running) }
+    {
+        self.add_act(receipt.entry);
+    }
+
+    // Adds that entry.
+    fn add_act(&mut self, entry: Entry)
         requires room { 0 < spare_of self.old }
         requires few { used self.old < MOST_MOMENTS }
         requires light { self.old.bytes < MOST_BYTES }
@@ -335,7 +388,7 @@ impl Pass {
         requires early { entry.stamp + 1 < 2 ^ 64 }
         requires own { (entry.actor ≡ self.old.actor) × (entry.step ≡ self.old.steps) }
         ensures moments { self.new.moments ≡ record {
-          items = self.old.moments.items ++ Moment.Act entry ∷ [];
+          items = self.old.moments.items ++ Moment.Act entry Heard.Whole ∷ [];
           spare = self.old.moments.spare - 1;
         } }
         ensures numbers { (self.new.clock ≡ entry.stamp) × (self.new.steps ≡ self.old.steps + 1)
@@ -347,6 +400,22 @@ impl Pass {
         self.clock = entry.stamp;
         self.steps += 1;
         self.bytes += bytes;
-        self.moments.push(Moment::Act(entry));
+        self.moments.push(Moment::Act {
+            entry,
+            heard: Heard::Whole,
+        });
+    }
+
+    /// Says how the command heard the reply of the last transaction. Where the last moment is a note, or there is none, nothing
+    /// is changed. It takes no memory.
+    pub fn set_heard(&mut self, heard: Heard)
+        ensures moments { self.new.moments ≡ record {
+          items = heard_last heard self.old.moments.items;
+          spare = self.old.moments.spare;
+        } }
+        ensures same { (self.new.actor ≡ self.old.actor) × (self.new.clock ≡ self.old.clock) × (self.new.steps ≡ self.old.steps)
+            × (self.new.bytes ≡ self.old.bytes) × (self.new.running ≡ self.old.running) }
+    {
+        self.moments.set_heard(heard);
     }
 }

@@ -5,6 +5,7 @@ use Rattle.store_rules.specs.declared.any.AnyReply.{AnyReply}
 use Rattle.store_rules.specs.ReplyBytes.{reply_bytes}
 use Rattle.entry_words.specs.declared.entry.Entry.{Entry}
 use Rattle.entry_words.specs.declared.entry.Moment.TheVariants.{Act}
+use Rattle.program_forms.specs.declared.heard.Heard.TheVariants.{Whole}
 use Rattle.place_kit.specs.declared.kept.Kept.{Kept}
 use Rattle.place_kit.specs.declared.machine.Machine.{Ghosts}
 use Rattle.passes.specs.declared.pass.Pass.{Pass}
@@ -24,13 +25,13 @@ pub record Served {X Y Z : Type 0} {g : Ghosts X Y Z} (old new : Kept X Y Z g) (
   pub early : new.clock + 1 < 2 ^ 64
   pub spare : 0 < old.history.spare → new.history.spare + 1 ≡ old.history.spare
 
--- The same, and the pass grew by the same entry, whose stamp is its clock.
+-- The same, and the pass grew by the same entry, whose stamp is its clock. Its reply counts as heard whole.
 pub record Committed {X Y Z : Type 0} {g : Ghosts X Y Z} (old new : Kept X Y Z g) (before now : Pass) (req : AnyReq) (reply : AnyReply)
     : Type 0 where
   pub served : Served old new before req reply (entry_of old.label old.clock before req reply)
   pub actor : now.actor ≡ before.actor
   pub running : now.running ≡ before.running
-  pub trail : now.moments.items ≡ before.moments.items ++ Act (entry_of old.label old.clock before req reply) ∷ []
+  pub trail : now.moments.items ≡ before.moments.items ++ Act (entry_of old.label old.clock before req reply) Whole ∷ []
   pub clock : now.clock ≡ next_stamp old.clock before
   pub steps : now.steps ≡ before.steps + 1
   pub bytes : now.bytes ≡ before.bytes + reply_bytes reply

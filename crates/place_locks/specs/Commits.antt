@@ -5,13 +5,15 @@ use Rattle.store_rules.specs.declared.any.AnyReq.{AnyReq}
 use Rattle.store_rules.specs.declared.any.AnyReply.{AnyReply}
 use Rattle.entry_words.specs.declared.entry.Label.{Label}
 use Rattle.entry_words.specs.declared.entry.Moment.TheVariants.{Act}
+use Rattle.program_forms.specs.declared.heard.Heard.TheVariants.{Whole}
 use Rattle.entry_words.specs.declared.entry.Refused.{Refused}
 use Rattle.entry_words.specs.declared.entry.Refused.TheVariants.{NoMemory, HistoryFull, Astray}
 use Rattle.passes.specs.declared.pass.Pass.{Pass}
 use Rattle.passes.specs.Commits.{op_number}
 use Rattle.store_rules.specs.ReplyBytes.{reply_bytes}
 
--- the pass grew by the one entry of that request at that place, with that reply; its stamp alone is left open, and rises
+-- the pass grew by the one entry of that request at that place, with that reply, which counts as heard whole; its stamp alone
+-- is left open, and rises
 pub record HasCommitted (before now : Pass) (place : Place) (req : AnyReq) (reply : AnyReply) : Type 0 where
   pub later : before.clock < now.clock
   pub moments : now.moments.items ≡ before.moments.items ++ Act (record {
@@ -22,7 +24,7 @@ pub record HasCommitted (before now : Pass) (place : Place) (req : AnyReq) (repl
     step = before.steps;
     req = req;
     reply = reply;
-  }) ∷ []
+  }) Whole ∷ []
   pub steps : now.steps ≡ before.steps + 1
   pub bytes : now.bytes ≡ before.bytes + reply_bytes reply
   pub actor : now.actor ≡ before.actor
