@@ -5,7 +5,7 @@ ghost use Rattle.passes.specs.Commits.{HasRoom, IsFull, spare_of};
 use crate::machine::Machine;
 use crate::prepared::Prepared;
 use entry_words::{Entry, Label, Refused};
-use passes::{Log, Pass};
+use passes::{Log, Pass, Receipt};
 use std::alloc::Global;
 use std::snapshot::Snapshot;
 use tect_ids::{NoMemory, Place};
@@ -130,8 +130,8 @@ impl<M: Machine> Kept<M> {
         let prepared = Prepared::new(pass, req)?;
         let spare = prepared.spare();
         match self.serve(pass, prepared) {
-            Ok((reply, entry)) => {
-                pass.record(entry);
+            Ok((reply, receipt)) => {
+                pass.record(receipt);
                 Ok(reply)
             }
             Err(NoMemory) => {
@@ -142,7 +142,8 @@ impl<M: Machine> Kept<M> {
     }
 
     /// The part of a commit for which the machine is needed: does the transaction, and adds its entry to the history, stamped
-    /// above both clocks. The same entry once more is given back beside the reply, for the pass.
+    /// above both clocks. This is the atomic step of a commit, the part that is done under the place's lock where it has one.
+    /// Beside the reply it gives the receipt of the history, with which the same entry goes into the pass, and nothing else can.
     ///
     /// It may be refused for want of memory, but not where the history has sure room, and the request takes none and holds no
     /// name. Then nothing is changed.
@@ -150,7 +151,7 @@ impl<M: Machine> Kept<M> {
         &mut self,
         pass: &Pass,
         prepared: Prepared<M>,
-    ) -> Result<(M::Reply, Entry), NoMemory>
+    ) -> Result<(M::Reply, Receipt), NoMemory>
         requires ready { prepared.copy ≡ M.wide prepared.req }
         requires early { pass.now.clock < 2 ^ 63 }
         ensures done { IfOk result (λ r. Served self.old self.new pass.now (M.wide prepared.req) (M.wide_reply r.0) r.1) }
@@ -176,13 +177,12 @@ impl<M: Machine> Kept<M> {
             return Err(NoMemory);
         };
         let place = self.label.place;
-        let our_req = M::own(req);
-        let ours = pass.entry(stamp, place, our_req, our_reply);
-        let theirs = pass.entry(stamp, place, copy, their_reply);
-        self.history.push(ours);
+        let ours = (M::own(req), our_reply);
+        let theirs = (copy, their_reply);
+        let receipt = pass.enter(&mut self.history, stamp, place, ours, theirs);
         self.clock = stamp;
         self.count += 1;
-        Ok((reply, theirs))
+        Ok((reply, receipt))
     }
 }
 

@@ -61,4 +61,14 @@ pub trait Machine: Drop {
     fn copy_reply(reply: &Self::Reply) -> Result<AnyReply, NoMemory>
         ensures same { IfOk result (λ r. r ≡ wide_reply reply.now) }
         ensures free { (s : Self) (q : AnyReq) → is_free s q ≡ true → wide_reply reply.now ≡ answer s q → IsOk result };
+
+    /// The request and its reply once more, as all places know them.
+    fn widen(req: &Self::Req, reply: &Self::Reply) -> Result<(AnyReq, AnyReply), NoMemory>
+        ensures ok { IfOk result (λ p. (p.0 ≡ wide req.now) × (p.1 ≡ wide_reply reply.now)) }
+        ensures free { (s : Self) → is_free s (wide req.now) ≡ true → wide_reply reply.now ≡ answer s (wide req.now) → IsOk result }
+    {
+        let req = Self::copy_req(req)?;
+        let reply = Self::copy_reply(reply)?;
+        Ok((req, reply))
+    }
 }
