@@ -1,8 +1,9 @@
 -- What a reply to a request teaches: the tokens that later requests need.
-use Rattle.std.specs.Prelude.{Bool, if◌then◌else◌, Option, Some, None, is_some, List, [], ◌∷◌}
+use Rattle.std.specs.Prelude.{Bool, if◌then◌else◌, Option, Some, None, is_some, List, [], ◌∷◌, map}
 use Rattle.tect_ids.specs.declared.ids.Hold.{Hold}
 use Rattle.tect_ids.specs.declared.ids.Node.{Node}
 use Rattle.tect_ids.specs.declared.ids.Node.TheVariants as nodes
+use Rattle.tect_ids.specs.declared.values.Listed.{Listed}
 use Rattle.store_rules.specs.declared.names.NameReq.{NameReq}
 use Rattle.store_rules.specs.declared.names.NameReq.TheVariants as names
 use Rattle.store_rules.specs.declared.names.Replaced.{Replaced}
@@ -11,7 +12,7 @@ use Rattle.store_rules.specs.declared.files.FileReq.TheVariants as files
 use Rattle.store_rules.specs.declared.any.AnyReq.{AnyReq}
 use Rattle.store_rules.specs.declared.any.AnyReq.TheVariants as any
 use Rattle.store_rules.specs.declared.any.AnyReply.{AnyReply}
-use Rattle.store_rules.specs.Views.{as_parent, as_found, is_made, is_granted, as_bound, as_unbound, as_swapped}
+use Rattle.store_rules.specs.Views.{as_parent, as_found, as_listing, is_made, is_granted, as_bound, as_unbound, as_swapped}
 use Rattle.tect_calls.specs.declared.tokens.Fact.{Fact}
 use Rattle.tect_calls.specs.declared.tokens.Fact.TheVariants.{Made, Granted, Spent}
 
@@ -22,6 +23,11 @@ exists_facts (Some n) = Made n ∷ []
 
 abbrev pub checked : Node → Bool → Option Node
 checked n stands = if stands then Some n else None
+
+-- and so was what each item of a listing names
+abbrev pub listed_facts : Option (List Listed) → List Fact
+listed_facts None = []
+listed_facts (Some items) = map (λ item. Made item.node) items
 
 abbrev pub made_facts : Node → Hold → Bool → List Fact
 made_facts n h made = if made then Made n ∷ Granted h ∷ [] else []
@@ -50,7 +56,7 @@ unbound_facts (Some p) = Spent p.1 ∷ []
 abbrev pub name_taught : NameReq → AnyReply → List Fact
 name_taught (names.CheckDir d) x = exists_facts (checked (nodes.Dir d) (is_some (as_parent x)))
 name_taught (names.Look k) x = exists_facts (as_found x)
-name_taught (names.List d) x = []
+name_taught (names.List d) x = listed_facts (as_listing x)
 name_taught (names.MakeDir d p h k) x = made_facts (nodes.Dir d) h (is_made x)
 name_taught (names.Bind k n h o) x = bound_facts (as_bound x)
 name_taught (names.Swap d from to n h) x = swapped_facts (as_swapped x)

@@ -1,4 +1,5 @@
-ghost use Rattle.std.specs.Prelude.{◌≡◌};
+ghost use Rattle.std.specs.Prelude.{◌≡◌, false};
+ghost use Rattle.tect_ids.specs.Keys.{name_eq};
 
 use crate::asked::Asked;
 use crate::tokens::{Granted, Made, Spent};
@@ -61,8 +62,9 @@ pub fn name_bind(key: Key, node: Node, hold: Hold, over: Over, granted: &Granted
     })
 }
 
-/// Gives a node another name in its directory, by a hold that was granted.
+/// Gives a node another name in its directory, by a hold that was granted. The two names differ.
 pub fn name_swap(dir: DirId, from: Name, to: Name, node: Node, granted: &Granted) -> Asked
+    requires { name_eq from to ≡ false }
     ensures { result ≡ AnyReq.Name (NameReq.Swap dir from to node granted.now) }
 {
     name_asked(NameReq::Swap {

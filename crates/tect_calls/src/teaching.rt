@@ -1,6 +1,6 @@
 ghost use Rattle.std.specs.Prelude.{◌≡◌, IfOk, is_some};
-ghost use Rattle.store_rules.specs.Views.{as_parent, is_made, is_granted, as_bound, as_unbound, as_swapped};
-ghost use Rattle.tect_calls.specs.Teaching.{exists_facts, checked, made_facts, granted_facts, replaced_facts};
+ghost use Rattle.store_rules.specs.Views.{as_parent, as_listing, is_made, is_granted, as_bound, as_unbound, as_swapped};
+ghost use Rattle.tect_calls.specs.Teaching.{exists_facts, checked, listed_facts, made_facts, granted_facts, replaced_facts};
 ghost use Rattle.tect_calls.specs.Teaching.{bound_facts, swapped_facts, unbound_facts, name_taught, file_taught};
 ghost use Rattle.tect_calls.specs.Teaching.{taught};
 
@@ -32,6 +32,20 @@ fn of_node(alloc: Global, node: Option<Node>) -> Result<Vec<Fact>, NoMemory>
     let mut facts = Vec::new(alloc);
     if let Some(node) = node {
         facts.push(Fact::Made(Made { node }))?;
+    }
+    Ok(facts)
+}
+
+// What each item of a listing names was made.
+fn of_listing(alloc: Global, reply: &AnyReply) -> Result<Vec<Fact>, NoMemory>
+    ensures { IfOk result (λ facts. facts.items ≡ listed_facts (as_listing reply.now)) }
+{
+    let AnyReply::Name(NameReply::Listing { items, .. }) = reply else {
+        return Ok(Vec::new(alloc));
+    };
+    let mut facts = Vec::with_capacity(alloc, items.len())?;
+    'items: for item in items.as_slice() {
+        facts.push(Fact::Made(Made { node: item.node }))?;
     }
     Ok(facts)
 }
@@ -112,7 +126,8 @@ fn taught_by_name(alloc: Global, req: &NameReq, reply: &AnyReply) -> Result<Vec<
         NameReq::Swap { .. } => of_swap(alloc, reply),
         NameReq::Unbind { .. } => of_unbind(alloc, reply),
         NameReq::Grant { hold, .. } => of_grant(alloc, *hold, reply),
-        NameReq::List { .. } | NameReq::Release { .. } => Ok(Vec::new(alloc)),
+        NameReq::List { .. } => of_listing(alloc, reply),
+        NameReq::Release { .. } => Ok(Vec::new(alloc)),
     }
 }
 
@@ -126,7 +141,7 @@ fn taught_by_file(alloc: Global, req: &FileReq, reply: &AnyReply) -> Result<Vec<
     }
 }
 
-/// The tokens that the reply to a request teaches. A refusal teaches none.
+/// The tokens that the reply to a request teaches. A refusal teaches none; a listing one for each of its items.
 ///
 /// It can be given an invented reply: the tokens order the requests of a program, and by themselves prove nothing of the
 /// store.
