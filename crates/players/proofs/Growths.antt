@@ -4,10 +4,11 @@ use Rattle.std.proofs.Common.{arith}
 use Rattle.std.proofs.lemmas.Grind.{common_steps}
 use Rattle.std.proofs.lemmas.List.{append-nil, map-append}
 use Rattle.tect_ids.specs.declared.ids.Counts.{Counts}
+use Rattle.program_forms.specs.Kinds.{Programs}
 use Rattle.entry_words.specs.declared.entry.Moment.{Moment}
 use Rattle.entry_words.specs.Moments.{rises, stamp_of}
 use Rattle.world_runs.specs.declared.event.Event.{Event}
-use Rattle.world_runs.specs.Moments.{idle_actor}
+use Rattle.world_runs.specs.Actors.{idle_actor}
 use Rattle.world_runs.specs.Events.{event_of, events_of}
 use Rattle.world_runs.specs.OwnRuns.{own_state}
 use Rattle.world_runs.proofs.Actors.{own_state-append}
@@ -64,10 +65,10 @@ module _ (a b : ClientLife) (n : List Moment) (m : List Event) (first : Grows a 
   pub grows_events : events_in b ≡ events_in a ++ news_events n m
   grows_events = ap events_in first.life ∙ both_news a.moments n a.silent m first.late
 
-  pub grows_state : state_in b ≡ own_state a.counts (state_in a) (news_events n m)
-  grows_state =
-      ap (λ (k : Counts). own_state k idle_actor (events_in b)) grows_counts ∙ ap (own_state a.counts idle_actor) grows_events
-      ∙ own_state-append a.counts idle_actor (events_in a) (news_events n m)
+  pub grows_state : {S : Type 0} (P : Programs S) → state_in P b ≡ own_state P a.counts (state_in P a) (news_events n m)
+  grows_state P =
+      ap (λ (k : Counts). own_state P k idle_actor (events_in b)) grows_counts ∙ ap (own_state P a.counts idle_actor) grows_events
+      ∙ own_state-append P a.counts idle_actor (events_in a) (news_events n m)
 
 pub grows_none : (a : ClientLife) → Grows a a [] []
 grows_none a = record {

@@ -1,4 +1,5 @@
 pub mod Results
+pub mod AtOnce
 pub mod Growths
 pub mod Transactions
 pub mod Running

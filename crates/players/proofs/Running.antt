@@ -1,20 +1,24 @@
 -- The op that a client's own run is busy with is that of its last command.
-use Rattle.std.proofs.Common.{◌≡◌, ℕ, Bool, true, false, if◌then◌else◌, Option, Some, None, IsSome, List, [], ◌∷◌, length, ◌≤◌, refl, sym}
-use Rattle.std.proofs.Common.{ap, ◌∙◌, arith}
+use Rattle.std.proofs.Common.{◌≡◌, ℕ, Bool, true, false, eqb, if◌then◌else◌, Option, Some, None, IsSome, List, [], ◌∷◌, length, ◌≤◌, refl}
+use Rattle.std.proofs.Common.{sym, ap, ◌∙◌, arith}
 use Rattle.std.specs.List.{filter}
 use Rattle.std.specs.Option.{ForSome}
 use Rattle.tect_ids.specs.declared.ids.Counts.{Counts}
 use Rattle.tect_ids.specs.declared.ids.OpId.{OpId}
 use Rattle.store_rules.specs.declared.any.AnyReq.{AnyReq}
 use Rattle.store_rules.specs.declared.any.AnyReply.{AnyReply}
-use Rattle.program_rules.specs.declared.program.Program.{Program}
+use Rattle.program_forms.specs.declared.heard.Heard.{Heard}
+use Rattle.program_forms.specs.declared.standing.Standing.{Standing}
+use Rattle.program_forms.specs.declared.standing.Standing.TheVariants.{Goes, NoRoom}
+use Rattle.program_forms.specs.Kinds.{Programs}
 use Rattle.world_runs.specs.declared.event.Event.{Event}
-use Rattle.world_runs.specs.declared.event.Event.TheVariants.{Began, NotBegun, Acted, Ended, Stopped, Failed, Dumped}
-use Rattle.world_runs.specs.Moments.{Actor, idle_actor, heard}
+use Rattle.world_runs.specs.declared.event.Event.TheVariants.{Own, Dumped}
+use Rattle.world_runs.specs.declared.event.Happening.{Happening}
+use Rattle.world_runs.specs.declared.event.Happening.TheVariants.{Began, NotBegun, Acted, Ended, Stopped, Failed}
+use Rattle.world_runs.specs.Actors.{Actor, Running, idle_actor, running_op, went_on, ended}
 use Rattle.world_runs.specs.Races.{is_own}
-use Rattle.program_rules.specs.Asking.{running_op}
 use Rattle.world_runs.specs.Events.{own}
-use Rattle.world_runs.specs.OwnRuns.{own_after, own_state}
+use Rattle.world_runs.specs.OwnRuns.{own_next, own_state}
 use Rattle.world_runs.proofs.Actors.{one_number}
 use Rattle.clients.specs.Lives.{ClientLife, events_in, state_in, op_in, IsLife}
 use Rattle.players.specs.Lives.{busy_in}
@@ -40,52 +44,62 @@ all_own a [] is = tt
 all_own a (e ∷ es) is = (let k = kept_all (is_own a) e es (is_own a e) refl is in (k.0, all_own a es k.1))
 
 -- what runs is the actor's last op
-abbrev RunsLast : ℕ → Actor → Type 0
-RunsLast a s = ForSome s.running (λ p. (p.op.actor ≡ a) × (p.op.number ≡ s.number))
+abbrev RunsLast : {S : Type 0} → ℕ → Actor S → Type 0
+RunsLast a s = ForSome s.running (λ r. (r.op.actor ≡ a) × (r.op.number ≡ s.number))
 
-some_program : (p r : Program) → Some p ≡ Some r → p ≡ r
-some_program p r is = cc
+some_running : {S : Type 0} (p r : Running S) → Some p ≡ Some r → p ≡ r
+some_running p r is = cc
 
-heard_last : (counts : Counts) (serial : ℕ) (q : AnyReq) (x : AnyReply) (a n : ℕ) (o : Option Program)
-    → ForSome o (λ p. (p.op.actor ≡ a) × (p.op.number ≡ n))
-    → ForSome (heard counts serial q x o) (λ p. (p.op.actor ≡ a) × (p.op.number ≡ n))
-heard_last counts serial q x a n None last p is = absurd cc
-heard_last counts serial q x a n (Some r) last p is =
-    let same : r.op ≡ p.op = ap (λ (z : Program). z.op) (some_program _ p is) in
-    let own = last r refl in
+begins_last : {S : Type 0} (a : ℕ) (s : Actor S) (op : OpId) (at : Standing S) → eqb op.actor a ≡ true
+    → RunsLast a (record s { number = op.number; running = Some record { op = op; at = at } })
+begins_last a s op at mine p is =
+    let same : op ≡ p.op = ap (λ (r : Running _). r.op) (some_running _ p is) in
+    (ap (λ (o : OpId). o.actor) (sym same) ∙ one_number op.actor a mine, ap (λ (o : OpId). o.number) (sym same))
+
+went_last : {S : Type 0} (P : Programs S) (counts : Counts) (a : ℕ) (s : Actor S) (q : AnyReq) (x : AnyReply) (h : Heard)
+    (o : Option (Running S)) → s.running ≡ o → RunsLast a s → RunsLast a (went_on P counts s o q x h)
+went_last P counts a s q x h None none last = last
+went_last P counts a s q x h (Some r) some last p is =
+    let same : r.op ≡ p.op = ap (λ (z : Running _). z.op) (some_running _ p is) in
+    let own = last r some in
     (ap (λ (o : OpId). o.actor) (sym same) ∙ own.0, ap (λ (o : OpId). o.number) (sym same) ∙ own.1)
 
-runs_last_after : (counts : Counts) (a : ℕ) (s : Actor) (e : Event) → is_own a e ≡ true → RunsLast a s → RunsLast a (own_after counts s e)
-runs_last_after counts a s (Began op c) mine last p is =
-    let same : op ≡ p.op = ap (λ (z : Program). z.op) (some_program _ p is) in
-    (ap (λ (o : OpId). o.actor) (sym same) ∙ one_number op.actor a mine, ap (λ (o : OpId). o.number) (sym same))
-runs_last_after counts a s (NotBegun op c) mine last p is =
-    let same : op ≡ p.op = ap (λ (z : Program). z.op) (some_program _ p is) in
-    (ap (λ (o : OpId). o.actor) (sym same) ∙ one_number op.actor a mine, ap (λ (o : OpId). o.number) (sym same))
-runs_last_after counts a s (Acted op q x) mine last p is = heard_last counts s.serial q x a s.number s.running last p is
-runs_last_after counts a s (Ended op x) mine last p is = absurd cc
-runs_last_after counts a s (Stopped op) mine last p is = absurd cc
-runs_last_after counts a s (Failed op x) mine last p is = absurd cc
-runs_last_after counts a s Dumped mine last p is = last p is
+ended_last : {S : Type 0} (P : Programs S) (counts : Counts) (a : ℕ) (s : Actor S) (o : Option (Running S)) → s.running ≡ o
+    → RunsLast a (ended P counts s o)
+ended_last P counts a s None none p is = (let bad : None ≡ Some p = sym none ∙ is in absurd cc)
+ended_last P counts a s (Some r) some p is = absurd cc
 
-runs_last : (counts : Counts) (a : ℕ) (s : Actor) (es : List Event) → AllOwn a es → RunsLast a s → RunsLast a (own_state counts s es)
-runs_last counts a s [] mine last = last
-runs_last counts a s (e ∷ es) mine last = runs_last counts a (own_after counts s e) es mine.1 (runs_last_after counts a s e mine.0 last)
+happens_last : {S : Type 0} (P : Programs S) (counts : Counts) (a : ℕ) (s : Actor S) (op : OpId) (h : Happening) → eqb op.actor a ≡ true
+    → RunsLast a s → RunsLast a (own_next P counts s (Own op h))
+happens_last P counts a s op (Began c) mine last = begins_last a s op (Goes (P.starts counts c)) mine
+happens_last P counts a s op (NotBegun c) mine last = begins_last a s op NoRoom mine
+happens_last P counts a s op (Acted q x h) mine last = went_last P counts a s q x h s.running refl last
+happens_last P counts a s op (Ended x) mine last = ended_last P counts a s s.running refl
+happens_last P counts a s op Stopped mine last p is = absurd cc
+happens_last P counts a s op (Failed x) mine last = ended_last P counts a s s.running refl
+
+event_last : {S : Type 0} (P : Programs S) (counts : Counts) (a : ℕ) (s : Actor S) (e : Event) → is_own a e ≡ true → RunsLast a s
+    → RunsLast a (own_next P counts s e)
+event_last P counts a s (Own op h) mine last = happens_last P counts a s op h mine last
+event_last P counts a s Dumped mine last = last
+
+runs_last : {S : Type 0} (P : Programs S) (counts : Counts) (a : ℕ) (s : Actor S) (es : List Event) → AllOwn a es → RunsLast a s
+    → RunsLast a (own_state P counts s es)
+runs_last P counts a s [] mine last = last
+runs_last P counts a s (e ∷ es) mine last = runs_last P counts a (own_next P counts s e) es mine.1 (event_last P counts a s e mine.0 last)
 
 -- ---- of a client
 
-busy_by : (a n : ℕ) (o : Option Program) → IsSome o → ForSome o (λ p. (p.op.actor ≡ a) × (p.op.number ≡ n))
+busy_by : {S : Type 0} (a n : ℕ) (o : Option (Running S)) → IsSome o → ForSome o (λ r. (r.op.actor ≡ a) × (r.op.number ≡ n))
     → running_op o ≡ Some (record { actor = a; number = n })
 busy_by a n None is last = absurd cc
-busy_by a n (Some p) is last =
-    let own = last p refl in
-    let same : p.op ≡ record { actor = a; number = n } = λ i. record { actor = own.0 i; number = own.1 i } in
+busy_by a n (Some r) is last =
+    let own = last r refl in
+    let same : r.op ≡ record { actor = a; number = n } = λ i. record { actor = own.0 i; number = own.1 i } in
     ap Some same
 
-pub busy_some : (life : ClientLife) → IsLife life → IsSome (state_in life).running → busy_in life ≡ Some (op_in life)
-busy_some life is runs =
-    busy_by life.actor (state_in life).number (state_in life).running runs
-    (runs_last life.counts life.actor idle_actor (events_in life) (all_own life.actor (events_in life) is.own) (λ p none. absurd cc))
-
-pub busy_none : (life : ClientLife) → (state_in life).running ≡ None → busy_in life ≡ None
-busy_none life none = ap running_op none
+pub busy_some : {S : Type 0} (P : Programs S) (life : ClientLife) → IsLife P life → IsSome (state_in P life).running
+    → busy_in P life ≡ Some (op_in P life)
+busy_some P life is runs =
+    busy_by life.actor (state_in P life).number (state_in P life).running runs
+    (runs_last P life.counts life.actor idle_actor (events_in life) (all_own life.actor (events_in life) is.own) (λ p none. absurd cc))

@@ -1,18 +1,22 @@
 -- How a client grew at the place where its requests are committed.
 use Rattle.std.specs.Prelude.{◌≡◌, List}
 use Rattle.tect_ids.specs.declared.ids.Counts.{Counts}
+use Rattle.program_forms.specs.Kinds.{Programs}
 use Rattle.entry_words.specs.declared.entry.Moment.{Moment}
 use Rattle.world_runs.specs.declared.event.Event.{Event}
-use Rattle.clients.specs.Lives.{ClientLife}
+use Rattle.world_runs.specs.Smooth.{OwnEndsAtOnce}
+use Rattle.clients.specs.Lives.{ClientLife, state_in}
 use Rattle.players.specs.Lives.{news_events}
 use Rattle.players.specs.Steps.{Grows}
 
--- It grew by these events, each layer having as many shards as it takes it to have, and as before.
-pub record GrewBy {W : Type 0} (counts_of : W → Counts) (old : ClientLife) (w : W) (new : ClientLife) (v : W) (events : List Event) : Type 0
-  where
-    pub here : counts_of w ≡ old.counts
-    pub there : counts_of v ≡ counts_of w
-    pub news : List Moment
-    pub more : List Event
-    pub grows : Grows old new news more
-    pub are : news_events news more ≡ events
+-- It grew by these events, each layer having as many shards as it takes it to have, and as before. Where a transaction among them is
+-- the last of its command, the end is next.
+pub record GrewBy {S : Type 0} (P : Programs S) {W : Type 0} (counts_of : W → Counts) (old : ClientLife) (w : W) (new : ClientLife) (v : W)
+    (events : List Event) : Type 0 where
+  pub here : counts_of w ≡ old.counts
+  pub there : counts_of v ≡ counts_of w
+  pub news : List Moment
+  pub more : List Event
+  pub grows : Grows old new news more
+  pub are : news_events news more ≡ events
+  pub prompt : OwnEndsAtOnce P old.counts (state_in P old) events

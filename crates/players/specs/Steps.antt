@@ -1,8 +1,6 @@
 -- What a client's moments and events become by what it does.
-use Rattle.std.specs.Prelude.{◌≡◌, ℕ, ◌≤◌, ◌⊎◌, true, List, [], ◌∷◌, ◌++◌, Option, Some, None, Result, Err}
+use Rattle.std.specs.Prelude.{◌≡◌, ℕ, ◌⊎◌, true, List, [], Result, Err}
 use Rattle.tect_ids.specs.declared.ids.Counts.{Counts}
-use Rattle.tect_ids.specs.declared.ids.OpId.{OpId}
-use Rattle.tect_ids.specs.declared.answer.Answer.{Answer}
 use Rattle.store_rules.specs.declared.any.AnyReq.{AnyReq}
 use Rattle.entry_words.specs.declared.entry.Entry.{Entry}
 use Rattle.entry_words.specs.declared.entry.Label.{Label}
@@ -11,10 +9,8 @@ use Rattle.entry_words.specs.declared.entry.Refused.{Refused}
 use Rattle.entry_words.specs.declared.entry.Refused.TheVariants.{Astray}
 use Rattle.entry_words.specs.Moments.{rises}
 use Rattle.world_runs.specs.declared.event.Event.{Event}
-use Rattle.world_runs.specs.declared.event.Event.TheVariants.{Began, NotBegun as WasRefused, Acted, Ended, Stopped, Failed, Dumped}
-use Rattle.world_runs.specs.Follows.{Acts}
-use Rattle.clients.specs.Lives.{ClientLife, op_in}
-use Rattle.players.specs.Lives.{grown, news_events}
+use Rattle.clients.specs.Lives.{ClientLife}
+use Rattle.players.specs.Lives.{grown}
 
 -- The client noted these moments, each stamped above its clock, and had these events of refused ops; once an op of it is refused
 -- it notes nothing more.

@@ -4,24 +4,25 @@ use crate::fault::RacerFault;
 use crate::player::Player;
 use clients::{Client, Turned};
 use passes::{Astray, Commits};
+use program_calls::Programs;
 use tect_ids::{Command, NoMemory};
 
-impl<C: Commits> Player<C> for Client {
+impl<P: Programs + Drop, C: Commits> Player<P, C> for Client<P> {
     ghost use Rattle.clients.specs.Lives.{events_in, state_in, left_in, IsLife};
     ghost use Rattle.players.specs.Growing.{GrewBy};
     ghost use Rattle.players.specs.Steps.{FoundAstray};
 
     ghost counts = { C.counts };
 
-    ghost fits = { λ p w. IsLife p × (C.counts w ≡ p.counts) };
+    ghost fits = { λ p w. IsLife P.rules p × (C.counts w ≡ p.counts) };
 
     ghost actor = { λ p. p.actor };
 
     ghost history = { λ p w. events_in p };
 
-    ghost state = { λ p w. state_in p };
+    ghost state = { λ p w. state_in P.rules p };
 
-    ghost grows = { GrewBy C.counts };
+    ghost grows = { GrewBy P.rules C.counts };
 
     ghost left = { λ p w. left_in p };
 
@@ -56,8 +57,7 @@ impl<C: Commits> Player<C> for Client {
         }
     }
 
-    fn stop(&mut self, _at: &mut C) -> Result<(), NoMemory> {
+    fn stop(&mut self, _at: &mut C) {
         Client::stop(self);
-        Ok(())
     }
 }

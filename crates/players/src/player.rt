@@ -1,21 +1,22 @@
-ghost use Rattle.std.specs.Prelude.{◌≡◌, ℕ, ◌+◌, ◌<◌, ◌≤◌, ◌^◌, [], ◌∷◌, List, IfOk, IfErr, OnOk, IsSome, IsNone, false, is_some};
+ghost use Rattle.std.specs.Prelude.{◌≡◌, ℕ, ◌+◌, ◌<◌, ◌≤◌, ◌^◌, [], ◌∷◌, List, IfOk, IfErr, OnOk, IsSome, IsNone, true, false, is_some};
 ghost use Rattle.tect_ids.specs.declared.ids.Counts.{Counts};
 ghost use Rattle.entry_words.specs.declared.entry.Label.{Label};
 ghost use Rattle.world_runs.specs.declared.event.Event.{Event};
 ghost use Rattle.world_runs.specs.declared.event.Event.TheVariants as events;
-ghost use Rattle.world_runs.specs.Moments.{Actor};
+ghost use Rattle.world_runs.specs.declared.event.Happening.TheVariants as happenings;
+ghost use Rattle.world_runs.specs.Actors.{Actor};
 ghost use Rattle.world_runs.specs.Report.{transactions};
-ghost use Rattle.world_runs.specs.Served.{IsServed};
 ghost use Rattle.clients.specs.declared.turned.Turned.TheVariants.{Going};
 ghost use Rattle.players.specs.Players.{op_at, next_at, HasBegun, IsFault, IsPlayer, StepsOnce};
 
 use crate::fault::RacerFault;
 use clients::Turned;
+use program_calls::Programs;
 use tect_ids::{Command, NoMemory};
 
 /// Whoever does the lines of one client at a place of type `At`: it begins commands of one actor, and goes on with each of
-/// them step by step.
-pub trait Player<At> {
+/// them step by step, by the programs `P`.
+pub trait Player<P: Programs, At> {
     /// How many shards each layer has there.
     ghost counts: { At → Counts };
 
@@ -29,7 +30,7 @@ pub trait Player<At> {
     ghost history: { Self → At → List Event };
 
     /// The state of its actor after them.
-    ghost state: { Self → At → Actor };
+    ghost state: { Self → At → Actor P };
 
     /// It grew by these events of its own.
     ghost grows: { Self → At → Self → At → List Event → Type 0 };
@@ -42,7 +43,7 @@ pub trait Player<At> {
 
     /// Stands for its contract alone: what is so of each player.
     fn note_laws(&self)
-        ensures { IsPlayer counts fits actor history state grows };
+        ensures { IsPlayer P.rules counts fits actor history state grows };
 
     /// The number of its actor. It takes no memory.
     fn actor(&self) -> u32
@@ -69,7 +70,7 @@ pub trait Player<At> {
         requires idle { IsNone (state self.old at.old).running }
         requires goes_on { (state self.old at.old).stopped ≡ false }
         requires few { (state self.old at.old).number + 1 < 2 ^ 31 }
-        requires served { IsServed command }
+        requires served { P.rules.serves command ≡ true }
         ensures begins { OnOk result
             (HasBegun (grows self.old at.old self.new at.new) (next_at (actor self.old) (state self.old at.old)) command) }
         ensures fits { OnOk result (fits self.new at.new) }
@@ -85,12 +86,12 @@ pub trait Player<At> {
         ensures counts { counts at.new ≡ counts at.old }
         ensures fault { IfErr result (IsFault astray (counts at.old)) };
 
-    /// Stops for good, with its command unfinished.
-    fn stop(&mut self, at: &mut At) -> Result<(), NoMemory>
+    /// Stops for good, with its command unfinished. It takes no memory.
+    fn stop(&mut self, at: &mut At)
         requires fits { fits self.old at.old }
         requires running { IsSome (state self.old at.old).running }
-        ensures stops { OnOk result
-            (grows self.old at.old self.new at.new (events.Stopped (op_at (actor self.old) (state self.old at.old)) ∷ [])) }
-        ensures fits { OnOk result (fits self.new at.new) }
+        ensures stops { grows self.old at.old self.new at.new
+            (events.Own (op_at (actor self.old) (state self.old at.old)) happenings.Stopped ∷ []) }
+        ensures fits { fits self.new at.new }
         ensures counts { counts at.new ≡ counts at.old };
 }

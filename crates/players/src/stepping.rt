@@ -4,21 +4,22 @@ ghost use Rattle.players.specs.Players.{op_at, ComesToEnd, IsFault, StepsUpTo};
 use crate::fault::RacerFault;
 use crate::player::Player;
 use clients::Turned;
+use program_calls::Programs;
 use tect_ids::Answer;
 
 /// At most that many transactions of the player's command.
-pub fn step_up_to<P: Player<At>, At>(
-    player: &mut P,
+pub fn step_up_to<P: Programs, L: Player<P, At>, At>(
+    player: &mut L,
     at: &mut At,
     count: u32,
 ) -> Result<Option<Answer>, RacerFault>
-    requires fits { P.fits player.old at.old }
-    requires running { IsSome (P.state player.old at.old).running }
+    requires fits { L.fits player.old at.old }
+    requires running { IsSome (L.state player.old at.old).running }
     ensures steps { IfOk result
-        (StepsUpTo (P.grows player.old at.old player.new at.new) (op_at (P.actor player.old) (P.state player.old at.old)) count) }
-    ensures fits { OnOk result (P.fits player.new at.new) }
-    ensures counts { P.counts at.new ≡ P.counts at.old }
-    ensures fault { IfErr result (IsFault P.astray (P.counts at.old)) }
+        (StepsUpTo (L.grows player.old at.old player.new at.new) (op_at (L.actor player.old) (L.state player.old at.old)) count) }
+    ensures fits { OnOk result (L.fits player.new at.new) }
+    ensures counts { L.counts at.new ≡ L.counts at.old }
+    ensures fault { IfErr result (IsFault L.astray (L.counts at.old)) }
 {
     player.note_laws();
     'steps: for _step in 0..count {
@@ -31,14 +32,14 @@ pub fn step_up_to<P: Player<At>, At>(
 }
 
 /// The player's command to its end.
-pub fn run_to_end<P: Player<At>, At>(player: &mut P, at: &mut At) -> Result<Answer, RacerFault>
-    requires fits { P.fits player.old at.old }
-    requires running { IsSome (P.state player.old at.old).running }
+pub fn run_to_end<P: Programs, L: Player<P, At>, At>(player: &mut L, at: &mut At) -> Result<Answer, RacerFault>
+    requires fits { L.fits player.old at.old }
+    requires running { IsSome (L.state player.old at.old).running }
     ensures end { IfOk result
-        (ComesToEnd (P.grows player.old at.old player.new at.new) (op_at (P.actor player.old) (P.state player.old at.old))) }
-    ensures fits { OnOk result (P.fits player.new at.new) }
-    ensures counts { P.counts at.new ≡ P.counts at.old }
-    ensures fault { IfErr result (IsFault P.astray (P.counts at.old)) }
+        (ComesToEnd (L.grows player.old at.old player.new at.new) (op_at (L.actor player.old) (L.state player.old at.old))) }
+    ensures fits { OnOk result (L.fits player.new at.new) }
+    ensures counts { L.counts at.new ≡ L.counts at.old }
+    ensures fault { IfErr result (IsFault L.astray (L.counts at.old)) }
 {
     player.note_laws();
     'steps: loop {
