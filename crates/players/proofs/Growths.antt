@@ -1,6 +1,6 @@
 -- What a client's events and state become as it grows, once and again.
-use Rattle.std.proofs.Common.{◌≡◌, ℕ, ◌≤◌, ◌⊎◌, inl, inr, true, nat_lt, nat_le, List, [], ◌∷◌, ◌++◌, refl, sym, ap, ◌∙◌, append_assoc}
-use Rattle.std.proofs.Common.{arith}
+use Rattle.std.proofs.Common.{◌≡◌, ℕ, ◌≤◌, ◌⊎◌, inl, inr, true, nat_lt, nat_le, List, [], ◌∷◌, ◌++◌, refl, sym, ap, subst, ◌∙◌}
+use Rattle.std.proofs.Common.{append_assoc, arith}
 use Rattle.std.proofs.lemmas.Grind.{common_steps}
 use Rattle.std.proofs.lemmas.List.{append-nil, map-append}
 use Rattle.tect_ids.specs.declared.ids.Counts.{Counts}
@@ -12,7 +12,9 @@ use Rattle.world_runs.specs.Actors.{idle_actor}
 use Rattle.world_runs.specs.Events.{event_of, events_of}
 use Rattle.world_runs.specs.OwnRuns.{own_state}
 use Rattle.world_runs.proofs.Actors.{own_state-append}
-use Rattle.clients.specs.Lives.{ClientLife, events_in, state_in}
+use Rattle.world_runs.specs.Smooth.{OwnEndsAtOnce}
+use Rattle.world_runs.proofs.Prompt.{ends_at_once-rest}
+use Rattle.clients.specs.Lives.{ClientLife, events_in, state_in, IsLife}
 use Rattle.players.specs.Lives.{grown, news_events}
 use Rattle.players.specs.Steps.{Grows}
 
@@ -69,6 +71,13 @@ module _ (a b : ClientLife) (n : List Moment) (m : List Event) (first : Grows a 
   grows_state P =
       ap (λ (k : Counts). own_state P k idle_actor (events_in b)) grows_counts ∙ ap (own_state P a.counts idle_actor) grows_events
       ∙ own_state-append P a.counts idle_actor (events_in a) (news_events n m)
+
+  -- each command of it ended at once
+  pub grows_at_once : {S : Type 0} (P : Programs S) → IsLife P b → OwnEndsAtOnce P a.counts (state_in P a) (news_events n m)
+  grows_at_once P life =
+      ends_at_once-rest P a.counts idle_actor (events_in a) (news_events n m)
+      (subst (OwnEndsAtOnce P a.counts idle_actor) grows_events
+      (subst (λ (k : Counts). OwnEndsAtOnce P k idle_actor (events_in b)) grows_counts life.prompt))
 
 pub grows_none : (a : ClientLife) → Grows a a [] []
 grows_none a = record {

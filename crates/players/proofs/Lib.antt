@@ -1,5 +1,4 @@
 pub mod Results
-pub mod AtOnce
 pub mod Growths
 pub mod Transactions
 pub mod Running

@@ -14,8 +14,8 @@ use Rattle.world_runs.specs.declared.event.Event.{Event}
 use Rattle.world_runs.specs.declared.event.Event.TheVariants.{Own}
 use Rattle.world_runs.specs.declared.event.Happening.TheVariants.{Stopped}
 use Rattle.world_runs.specs.Actors.{Actor, running_op}
-use Rattle.world_runs.specs.Follows.{Acts, DoesLine, EndsAfter, RunsToEnd, EndsWithin, tries}
-use Rattle.world_runs.specs.OwnRuns.{own_next, own_state}
+use Rattle.world_runs.specs.Follows.{DoesLine, EndsAfter, RunsToEnd, EndsWithin, tries}
+use Rattle.world_runs.specs.OwnRuns.{own_next}
 use Rattle.world_runs.specs.Races.{own_lines}
 use Rattle.world_runs.specs.Report.{answer_line}
 use Rattle.world_runs.specs.Standing.{IsInState}

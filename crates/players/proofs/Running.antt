@@ -58,7 +58,7 @@ begins_last a s op at mine p is =
 
 went_last : {S : Type 0} (P : Programs S) (counts : Counts) (a : ℕ) (s : Actor S) (q : AnyReq) (x : AnyReply) (h : Heard)
     (o : Option (Running S)) → s.running ≡ o → RunsLast a s → RunsLast a (went_on P counts s o q x h)
-went_last P counts a s q x h None none last = last
+went_last P counts a s q x h None none last p is = last p is
 went_last P counts a s q x h (Some r) some last p is =
     let same : r.op ≡ p.op = ap (λ (z : Running _). z.op) (some_running _ p is) in
     let own = last r some in
@@ -71,12 +71,12 @@ ended_last P counts a s (Some r) some p is = absurd cc
 
 happens_last : {S : Type 0} (P : Programs S) (counts : Counts) (a : ℕ) (s : Actor S) (op : OpId) (h : Happening) → eqb op.actor a ≡ true
     → RunsLast a s → RunsLast a (own_next P counts s (Own op h))
-happens_last P counts a s op (Began c) mine last = begins_last a s op (Goes (P.starts counts c)) mine
-happens_last P counts a s op (NotBegun c) mine last = begins_last a s op NoRoom mine
-happens_last P counts a s op (Acted q x h) mine last = went_last P counts a s q x h s.running refl last
-happens_last P counts a s op (Ended x) mine last = ended_last P counts a s s.running refl
+happens_last P counts a s op (Began c) mine last p is = begins_last a s op (Goes (P.starts counts c)) mine p is
+happens_last P counts a s op (NotBegun c) mine last p is = begins_last a s op NoRoom mine p is
+happens_last P counts a s op (Acted q x h) mine last p is = went_last P counts a s q x h s.running refl last p is
+happens_last P counts a s op (Ended x) mine last p is = ended_last P counts a s s.running refl p is
 happens_last P counts a s op Stopped mine last p is = absurd cc
-happens_last P counts a s op (Failed x) mine last = ended_last P counts a s s.running refl
+happens_last P counts a s op (Failed x) mine last p is = ended_last P counts a s s.running refl p is
 
 event_last : {S : Type 0} (P : Programs S) (counts : Counts) (a : ℕ) (s : Actor S) (e : Event) → is_own a e ≡ true → RunsLast a s
     → RunsLast a (own_next P counts s e)

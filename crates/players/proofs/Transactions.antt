@@ -65,7 +65,7 @@ pub acts_keep : {S : Type 0} (P : Programs S) (counts : Counts) (op : OpId) (n :
     → Keeps s (own_state P counts s es)
 acts_keep P counts op n s [] acts = record { number = refl; stopped = refl; running = λ is. is }
 acts_keep P counts op n s (Own other h ∷ es) ((own, is_act), (rest, is, acts)) =
-    let mid : Actor S = own_next P counts s (Own other h) in
+    let mid = own_next P counts s (Own other h) in
     keeps_both s mid (own_state P counts mid es) (act_keeps P counts s other h is_act) (acts_keep P counts op rest mid es acts)
 acts_keep P counts op n s (Dumped ∷ es) acts = absurd acts.0
 
@@ -97,7 +97,7 @@ event_rests P counts s op Dumped a ends = absurd ends
 pub acts_then_rests : {S : Type 0} (P : Programs S) (counts : Counts) (op : OpId) (n : ℕ) (s : Actor S) (es : List Event) (end : Event)
     (a : Answer) → Acts op n es → EndsWith op end a → Rests s (own_state P counts s (es ++ end ∷ []))
 acts_then_rests P counts op n s es end a acts ends =
-    let mid : Actor S = own_state P counts s es in
+    let mid = own_state P counts s es in
     let k = acts_keep P counts op n s es acts in
     let r = event_rests P counts mid op end a ends in
     let is : own_state P counts s (es ++ end ∷ []) ≡ own_next P counts mid end = own_state-append P counts s es (end ∷ []) in

@@ -24,7 +24,7 @@ use Rattle.players.specs.Steps.{FoundAstray}
 -- The racer's client noted these moments, each stamped above its clock, and had these events of refused ops; once an op of it is
 -- refused it notes nothing more. Each command ended at once when its last reply gave its answer. The racer's answers grew by the lines
 -- that the events show.
-pub record Adds {S : Type 0} (P : Programs S) (names : List (List ℕ)) (old new : Racer) (news : List Moment) (more : List Event) : Type 0
+pub record Adds {S : Type 0} (P : Programs S) (names : List (List ℕ)) (old new : Racer S) (news : List Moment) (more : List Event) : Type 0
   where
     pub life : new.client ≡ grown old.client new.client.clock news more
     pub late : (news ≡ []) ⊎ (old.client.silent ≡ [])
@@ -33,7 +33,7 @@ pub record Adds {S : Type 0} (P : Programs S) (names : List (List ℕ)) (old new
     pub answers : new.answers.items ≡ old.answers.items ++ own_lines names old.client.actor (events_in old.client) (news_events news more)
 
 -- It did what a line asks of it.
-pub record Plays {S : Type 0} (P : Programs S) (names : List (List ℕ)) (act : Act) (old new : Racer) : Type 0 where
+pub record Plays {S : Type 0} (P : Programs S) (names : List (List ℕ)) (act : Act) (old new : Racer S) : Type 0 where
   pub news : List Moment
   pub more : List Event
   pub adds : Adds P names old new news more

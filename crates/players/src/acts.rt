@@ -77,7 +77,11 @@ fn do_command<P: Programs, L: Player<P, At>, At>(
     Ok(answer_line(player, at, alloc, names, answer)?)
 }
 
-fn begin<P: Programs, L: Player<P, At>, At>(player: &mut L, at: &mut At, command: &Command) -> Result<(), NoMemory>
+fn begin<P: Programs, L: Player<P, At>, At>(
+    player: &mut L,
+    at: &mut At,
+    command: &Command,
+) -> Result<(), NoMemory>
     requires fits { L.fits player.old at.old }
     requires idle { IsNone (L.state player.old at.old).running }
     requires goes_on { (L.state player.old at.old).stopped ≡ false }

@@ -32,7 +32,10 @@ pub fn step_up_to<P: Programs, L: Player<P, At>, At>(
 }
 
 /// The player's command to its end.
-pub fn run_to_end<P: Programs, L: Player<P, At>, At>(player: &mut L, at: &mut At) -> Result<Answer, RacerFault>
+pub fn run_to_end<P: Programs, L: Player<P, At>, At>(
+    player: &mut L,
+    at: &mut At,
+) -> Result<Answer, RacerFault>
     requires fits { L.fits player.old at.old }
     requires running { IsSome (L.state player.old at.old).running }
     ensures end { IfOk result

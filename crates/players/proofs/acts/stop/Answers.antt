@@ -15,4 +15,4 @@ returns-clause-plays g c =
     c.args.names.now c.args.player.now c.stop.new.self c.args.at.now c.stop.new.at c.requires.fits
     (is_running (g.L.Player.state c.args.player.now c.args.at.now).running c.is_running.result c.is_running.ensures
     c.if-not-is_running.false)
-    c.in_ok-stop.ensures.stops c.in_ok-answer_line.field-0 c.in_ok-answer_line.ensures
+    c.stop.ensures.stops c.in_ok-answer_line.field-0 c.in_ok-answer_line.ensures

@@ -1,8 +1,6 @@
-use Rattle.std.proofs.Common.{◌+◌, ◌∙◌, subst, refl}
-use Rattle.std.proofs.lemmas.Result.{err_from_is_err_and}
-use Rattle.tect_ids.specs.declared.ids.Counts.{Counts}
+use Rattle.std.proofs.Common.{◌+◌, subst}
 use Rattle.clients.specs.declared.turned.Turned.{Turned}
-use Rattle.players.specs.Players.{op_at, IsFault, StepsOnce}
+use Rattle.players.specs.Players.{op_at, StepsOnce}
 use Rattle.players.proofs.Playing.{stepped_none, stepped_more, stepped_end}
 use Rattle.players.proofs.stepping.run_to_end.Goals as goal
 
