@@ -1,5 +1,5 @@
 -- each answer is the one that the tree gives at the command's point
-use Rattle.std.proofs.Common.{◌≡◌, ◌≢◌, ◌<◌, ◌⊎◌, ℕ, Bool, true, false, ◌||◌, if◌then◌else◌, Option, Some, None, List, [], ◌∷◌}
+use Rattle.std.proofs.Common.{◌≡◌, ◌≢◌, ◌<◌, ◌⊎◌, ℕ, Bool, true, false, ◌||◌, Option, Some, None, List, [], ◌∷◌}
 use Rattle.std.proofs.Common.{◌++◌, refl, sym, ap, subst, ◌∙◌, arith, inl, inr, append_assoc, take}
 use Rattle.std.proofs.lemmas.List.{append-nil}
 use Rattle.tect_ids.specs.declared.ids.Counts.{Counts}
@@ -14,25 +14,36 @@ use Rattle.store_rules.specs.declared.any.AnyReply.{AnyReply}
 use Rattle.store_rules.specs.Places.{request_place}
 use Rattle.store_rules.specs.Store.{store_reply}
 use Rattle.tree_model.specs.Tree.{Tree, opening_tree}
+use Rattle.program_forms.specs.declared.heard.Heard.{Heard}
+use Rattle.program_forms.specs.declared.heard.Heard.TheVariants as hearing
+use Rattle.program_forms.specs.declared.standing.Standing.{Standing}
+use Rattle.program_forms.specs.declared.standing.Standing.TheVariants.{Goes, Left, NoRoom}
+use Rattle.program_forms.specs.Lacks.{no_room}
+use Rattle.program_forms.specs.Memories.{Memory}
 use Rattle.program_rules.specs.declared.program.Phase.{Phase}
 use Rattle.program_rules.specs.declared.program.Phase.TheVariants.{Walk, Bind, Grant, Swap, Release, End}
 use Rattle.program_rules.specs.declared.program.Program.{Program}
 use Rattle.program_rules.specs.Paths.{but_last}
 use Rattle.program_rules.specs.Programs.{root, way, object_number, phase_hear, phase_answer, first_phase, from_root}
-use Rattle.world_runs.specs.Served.{IsServed}
+use Rattle.program_rules.specs.Asking.{IsSmooth}
+use Rattle.program_rules.specs.Served.{is_served, programs}
+use Rattle.program_rules.proofs.Phases.{smooth_begins, hears_smoothly}
 use Rattle.world_runs.specs.declared.event.Event.{Event}
-use Rattle.world_runs.specs.declared.event.Event.TheVariants.{Began, NotBegun, Acted, Ended, Stopped, Failed, Dumped}
-use Rattle.program_forms.specs.Lacks.{no_room}
-use Rattle.world_runs.specs.Moments.{Actor, WorldState, opening, May, CanBegin, after, after_all, RunFrom, IsWorldRun, asked}
-use Rattle.world_runs.specs.Moments.{program_answer, program_of, heard, with_actor}
+use Rattle.world_runs.specs.declared.event.Event.TheVariants.{Own, Dumped}
+use Rattle.world_runs.specs.declared.event.Happening.{Happening}
+use Rattle.world_runs.specs.declared.event.Happening.TheVariants.{Began, NotBegun, Acted, Ended, Stopped, Failed}
+use Rattle.world_runs.specs.Actors.{Actor, Running, CanBegin, program_answer, program_of, ended, went_on}
+use Rattle.world_runs.specs.Moments.{WorldState, opening, May, after, after_all, RunFrom, IsWorldRun, asked, with_actor}
+use Rattle.world_runs.specs.Refusals.{refuses, was_refused}
 use Rattle.claim_words.specs.TreeSteps.{Told, told_of, tree_steps, tree_step, says, tree_after, IsTreeRun}
 use Rattle.claim_words.specs.Points.{of_op, Walked, LacksName}
-use Rattle.claim_words.specs.Headline.{begun_by, or_later, command_of, refuses, was_refused, Explains, HadNoRoom, Headline}
+use Rattle.claim_words.specs.Headline.{begun_by, or_later, command_of, Explains, HadNoRoom, Headline}
 use Rattle.world_runs.proofs.Actors.{changed}
 use Rattle.world_runs.proofs.Fronts.{front_runs, may_at}
 use Rattle.tree_runs.specs.View.{view, AllMade, MakesNew}
+use Rattle.tree_runs.proofs.Standings.{Asking, asks_of, Runs, runs_of, says_phase, stands_after, went_on_as, ended_as}
 use Rattle.tree_runs.proofs.Tracks.{Tracks, Knows, opening_tracks}
-use Rattle.tree_runs.proofs.Runs.{Asks, asks_of, acts, made_all, event_tracked, world_tracked, tree_after-append}
+use Rattle.tree_runs.proofs.Runs.{acts, made_all, event_tracked, world_tracked, tree_after-append}
 use Rattle.tree_runs.proofs.Histories.{tree_steps-append, acts_last}
 use Rattle.tree_runs.proofs.Walks.{of_op-append, other_step}
 use Rattle.tree_runs.proofs.Tells.{PhaseTells, phase_stays}
@@ -55,51 +66,54 @@ refused_still [] es op is = absurd (let k : false ≡ true = is in cc)
 refused_still (d ∷ ds) es op is = elim (refuses op d) as (λ b. (b || was_refused ds op) ≡ true → (b || was_refused (ds ++ es) op) ≡ true)
     [ true ↦ λ k. refl | false ↦ λ k. refused_still ds es op k ] is
 
-refused_now : (h : List Event) (op : OpId) (c : Command) → was_refused (h ++ NotBegun op c ∷ []) op ≡ true
+refused_now : (h : List Event) (op : OpId) (c : Command) → was_refused (h ++ Own op (NotBegun c) ∷ []) op ≡ true
 refused_now [] op c = let itself : op_eq op op ≡ true = grind (arith, op_eq_cases op op) in rw itself refl
-refused_now (d ∷ ds) op c = elim (refuses op d) as (λ b. (b || was_refused (ds ++ NotBegun op c ∷ []) op) ≡ true)
+refused_now (d ∷ ds) op c = elim (refuses op d) as (λ b. (b || was_refused (ds ++ Own op (NotBegun c) ∷ []) op) ≡ true)
     [ true ↦ refl | false ↦ refused_now ds op c ]
 
--- the command began, and was told so far
-abbrev WasBegun : List Event → Program → Type 0
-WasBegun h p = (command_of h p.op ≡ Some p.command) × PhaseTells (tree_steps h) p.op p.command p.phase
-
--- it was refused, and has its answer
-abbrev WasRefused : List Event → Program → Type 0
-WasRefused h p = (was_refused h p.op ≡ true) × (p.phase ≡ End no_room)
+-- The command began, and was told so far; or it was refused. One that heard no more of its last reply ends with no answer.
+abbrev StandTells : List Event → OpId → Standing Program → Type 0
+StandTells h op (Goes p) =
+    (command_of h op ≡ Some p.command) × PhaseTells (tree_steps h) op p.command p.phase × IsSmooth p.command p.phase
+StandTells h op Left = Unit {0}
+StandTells h op NoRoom = was_refused h op ≡ true
 
 -- what the history tells of an actor's running command
-abbrev Tells : List Event → Option Program → Type 0
+abbrev Tells : List Event → Option (Running Program) → Type 0
 Tells h None = Unit {0}
-Tells h (Some p) = WasBegun h p ⊎ WasRefused h p
+Tells h (Some r) = StandTells h r.op r.at
 
 -- what a history tells of its last moment: the tree followed it, each running command was told so far or refused, and an op that did
 -- not begin has neither command nor steps
-record AllTold (h : List Event) (m : WorldState) : Type 0 where
+record AllTold (h : List Event) (m : WorldState Program) : Type 0 where
   tracks : Tracks m (tree_after opening_tree (tree_steps h))
   tells : (a : ℕ) → Tells h (m.actors a).running
   unbegun : (op : OpId) → (m.actors op.actor).number < op.number → command_of h op ≡ None
   unasked : (op : OpId) → (m.actors op.actor).number < op.number → of_op op (tree_steps h) ≡ []
 
-tells_stay : (h : List Event) (e : Event) (o : Option Program) → ((p : Program) → o ≡ Some p → of_op p.op (told_of e) ≡ []) → Tells h o
-    → Tells (h ++ e ∷ []) o
-tells_stay h e None other t = tt
-tells_stay h e (Some p) other (inl t) =
-    inl (
-      command_more h e p.op ∙ ap (λ z. or_later z (begun_by e p.op)) t.0,
-      rw (steps_more h e)
-          (phase_stays (tree_steps h) (told_of e) p.op p.command p.phase (other p refl) t.1),
-    )
-tells_stay h e (Some p) other (inr t) = inr (refused_still h (e ∷ []) p.op t.0, t.1)
+stand_stays : (h : List Event) (e : Event) (op : OpId) (at : Standing Program) → of_op op (told_of e) ≡ [] → StandTells h op at
+    → StandTells (h ++ e ∷ []) op at
+stand_stays h e op (Goes p) other t = (
+  command_more h e op ∙ ap (λ z. or_later z (begun_by e op)) t.0,
+  rw (steps_more h e) (phase_stays (tree_steps h) (told_of e) op p.command p.phase other t.1),
+  t.2,
+)
+stand_stays h e op Left other t = tt
+stand_stays h e op NoRoom other t = refused_still h (e ∷ []) op t
 
-tracked_more : (h : List Event) (m : WorldState) (e : Event) → Tracks m (tree_after opening_tree (tree_steps h)) → May m e
-    → Tracks (after m e) (tree_after opening_tree (tree_steps (h ++ e ∷ [])))
+tells_stay : (h : List Event) (e : Event) (o : Option (Running Program))
+    → ((r : Running Program) → o ≡ Some r → of_op r.op (told_of e) ≡ []) → Tells h o → Tells (h ++ e ∷ []) o
+tells_stay h e None other t = tt
+tells_stay h e (Some r) other t = stand_stays h e r.op r.at (other r refl) t
+
+tracked_more : (h : List Event) (m : WorldState Program) (e : Event) → Tracks m (tree_after opening_tree (tree_steps h))
+    → May programs m e → Tracks (after programs m e) (tree_after opening_tree (tree_steps (h ++ e ∷ [])))
 tracked_more h m e tracks may = rw (steps_more h e, tree_after-append opening_tree (tree_steps h) (told_of e))
     (event_tracked m _ e tracks may).0
 
 -- ---- an event that is no step
 
-module _ (h : List Event) (m : WorldState) (t : AllTold h m) (e : Event) (no_step : told_of e ≡ []) where
+module _ (h : List Event) (m : WorldState Program) (t : AllTold h m) (e : Event) (no_step : told_of e ≡ []) where
   same_steps : tree_steps (h ++ e ∷ []) ≡ tree_steps h
   same_steps = steps_more h e ∙ ap (λ l. tree_steps h ++ l) no_step ∙ append-nil (tree_steps h)
 
@@ -110,7 +124,7 @@ module _ (h : List Event) (m : WorldState) (t : AllTold h m) (e : Event) (no_ste
   quiet_unasked op late = rw same_steps (t.unasked op late)
 
   -- a command ends or stops
-  rests : (a : ℕ) (state : Actor) → state.number ≡ (m.actors a).number → state.running ≡ None → ((op : OpId) → begun_by e op ≡ None)
+  rests : (a : ℕ) (state : Actor Program) → state.number ≡ (m.actors a).number → state.running ≡ None → ((op : OpId) → begun_by e op ≡ None)
       → Tracks (with_actor m a state) (tree_after opening_tree (tree_steps (h ++ e ∷ [])))
       → AllTold (h ++ e ∷ []) (with_actor m a state)
   rests a state number idle no_begin tracks = record {
@@ -138,11 +152,11 @@ module _ (h : List Event) (m : WorldState) (t : AllTold h m) (e : Event) (no_ste
 
 -- ---- a command begins
 
-module _ (h : List Event) (m : WorldState) (t : AllTold h m) (op : OpId) (c : Command) (can : CanBegin (m.actors op.actor) op)
-    (served : IsServed c) where
+module _ (h : List Event) (m : WorldState Program) (t : AllTold h m) (op : OpId) (c : Command) (can : CanBegin (m.actors op.actor) op)
+    (served : is_served c ≡ true) where
   -- the event
   abbrev began : Event
-  began = Began op c
+  began = Own op (Began c)
 
   -- the steps told then
   abbrev told_then : List Told
@@ -165,7 +179,7 @@ module _ (h : List Event) (m : WorldState) (t : AllTold h m) (op : OpId) (c : Co
   root_tells d [] w lacks = inr (lacks refl, refl)
   root_tells d (n ∷ ns) w lacks = w
 
-  first_phase_tells : (d : Command) → IsServed d → PhaseTells told_then op d (first_phase d)
+  first_phase_tells : (d : Command) → is_served d ≡ true → PhaseTells told_then op d (first_phase d)
   first_phase_tells (commands.Look p) s = starts (but_last p)
   first_phase_tells (commands.List p) s = starts p
   first_phase_tells (commands.Create p) s = root_tells (commands.Create p) p (starts (but_last p)) (λ e. e)
@@ -173,7 +187,7 @@ module _ (h : List Event) (m : WorldState) (t : AllTold h m) (op : OpId) (c : Co
   first_phase_tells (commands.Delete p) s = root_tells (commands.Delete p) p (starts (but_last p)) (λ e. e)
   first_phase_tells (commands.Rename p []) s = inr (inr refl, refl)
   first_phase_tells (commands.Rename p (n ∷ to)) s = root_tells (commands.Rename p (n ∷ to)) p (starts (but_last p)) (λ e. inl e)
-  first_phase_tells _ s = absurd s
+  first_phase_tells _ s = absurd (let k : false ≡ true = s in cc)
 
   -- a later op did not begin by this event
   not_later : (o : OpId) → (m.actors o.actor).number < o.number → (o.actor ≢ op.actor) ⊎ (op.number < o.number) → begun_by began o ≡ None
@@ -183,11 +197,11 @@ module _ (h : List Event) (m : WorldState) (t : AllTold h m) (op : OpId) (c : Co
   earlier : (o : OpId) → o.actor ≡ op.actor → op.number < o.number → (m.actors o.actor).number < o.number
   earlier o p u = rw p (omega (arith, late))
 
-  begun_told : AllTold (h ++ began ∷ []) (after m began)
+  begun_told : AllTold (h ++ began ∷ []) (after programs m began)
   begun_told = record {
-    tracks = tracked_more h m began t.tracks (can, served);
+    tracks = tracked_more h m began t.tracks ((can, served), tt);
     tells = λ b. changed (λ st. Tells (h ++ began ∷ []) st.running) m.actors op.actor _ b
-        (λ p. inl (begun_here, first_phase_tells c served)) (λ p. quiet_tells h m t began refl b);
+        (λ p. (begun_here, first_phase_tells c served, smooth_begins c)) (λ p. quiet_tells h m t began refl b);
     unbegun = λ o. changed (λ st. st.number < o.number → command_of (h ++ began ∷ []) o ≡ None) m.actors op.actor _ o.actor
         (λ p u. command_more h began o ∙ rw (t.unbegun o (earlier o p u)) (not_later o (earlier o p u) (inr u)))
         (λ p u. command_more h began o ∙ rw (t.unbegun o u) (not_later o u (inl p)));
@@ -198,19 +212,19 @@ module _ (h : List Event) (m : WorldState) (t : AllTold h m) (op : OpId) (c : Co
 
 -- ---- a command is refused
 
-module _ (h : List Event) (m : WorldState) (t : AllTold h m) (op : OpId) (c : Command) (can : CanBegin (m.actors op.actor) op)
-    (served : IsServed c) where
+module _ (h : List Event) (m : WorldState Program) (t : AllTold h m) (op : OpId) (c : Command) (can : CanBegin (m.actors op.actor) op)
+    (served : is_served c ≡ true) where
   -- the event
   abbrev refusal : Event
-  refusal = NotBegun op c
+  refusal = Own op (NotBegun c)
 
   before_it : (o : OpId) → o.actor ≡ op.actor → op.number < o.number → (m.actors o.actor).number < o.number
   before_it o p u = rw p (omega (arith, can.next, u))
 
-  refused_told : AllTold (h ++ refusal ∷ []) (after m refusal)
+  refused_told : AllTold (h ++ refusal ∷ []) (after programs m refusal)
   refused_told = record {
-    tracks = tracked_more h m refusal t.tracks (can, served);
-    tells = λ b. changed (λ st. Tells (h ++ refusal ∷ []) st.running) m.actors op.actor _ b (λ p. inr (refused_now h op c, refl))
+    tracks = tracked_more h m refusal t.tracks ((can, served), tt);
+    tells = λ b. changed (λ st. Tells (h ++ refusal ∷ []) st.running) m.actors op.actor _ b (λ p. refused_now h op c)
         (λ p. quiet_tells h m t refusal refl b);
     unbegun = λ o. changed (λ st. st.number < o.number → command_of (h ++ refusal ∷ []) o ≡ None) m.actors op.actor _ o.actor
         (λ p u. command_more h refusal o ∙ rw (t.unbegun o (before_it o p u)) refl)
@@ -222,21 +236,26 @@ module _ (h : List Event) (m : WorldState) (t : AllTold h m) (op : OpId) (c : Co
 
 -- ---- a request
 
-module _ (h : List Event) (m : WorldState) (t : AllTold h m) (op : OpId) (q : AnyReq) (asks : asked m op ≡ Some q) where
+module _ (h : List Event) (m : WorldState Program) (t : AllTold h m) (op : OpId) (q : AnyReq) (how : Heard)
+    (asks : asked programs m op ≡ Some q) where
+  -- the actor
+  abbrev s : Actor Program
+  s = m.actors op.actor
+
   -- what the store replies
   abbrev x : AnyReply
   x = store_reply m.store q
 
   -- the event
   abbrev did : Event
-  did = Acted op q x
+  did = Own op (Acted q x how)
 
   -- the tree that the history made
   abbrev tree : Tree
   tree = tree_after opening_tree (tree_steps h)
 
-  asking : Asks (m.actors op.actor).running op (m.actors op.actor).serial q
-  asking = asks_of _ op _ q asks
+  asking : Asking s.running op s.memory q
+  asking = asks_of m.counts s.memory s.running op q asks
 
   -- the program that asks
   abbrev p : Program
@@ -246,48 +265,54 @@ module _ (h : List Event) (m : WorldState) (t : AllTold h m) (op : OpId) (q : An
   seen = subst (λ (u : Tree). Tracks m u) (sym t.tracks.shown) t.tracks
 
   new : MakesNew tree.made q
-  new = (acts m tree.made seen op q asking).new
+  new = (acts m tree.made seen op q how asking).new
 
   all : AllMade m.store tree.made
-  all = made_all m tree.made seen op q asking
+  all = made_all m tree.made seen op q how asking
 
   allowed : IsTreeRun tree (told_of did)
   allowed = (event_tracked m tree did t.tracks (asks, refl)).1
 
-  known : Tells h (Some p)
-  known = rw asking.runs at (t.tells op.actor)
-
-  -- a refused op asks nothing
-  begun_before : WasBegun h p ⊎ WasRefused h p → WasBegun h p
-  begun_before (inl b) = b
-  begun_before (inr r) = let asks_none : None ≡ Some q = rw r.1 at asking.asks in absurd (cc)
-
-  before : WasBegun h p
-  before = begun_before known
+  before : StandTells h op (Goes p)
+  before = rw asking.runs at (t.tells op.actor)
 
   heard_tells : PhaseTells (tree_steps h ++ told_of did) op p.command
-      (phase_hear (request_place m.counts q) op (object_number op.actor (m.actors op.actor).serial) p.command p.phase x)
+      (phase_hear (request_place m.counts q) op (object_number op.actor s.memory.serial) p.command p.phase x)
   heard_tells =
-      let so_far : PhaseTells (tree_steps h) op p.command p.phase = rw asking.its at before.1 in
-      let heard : HeardTells m.store tree.made (request_place m.counts q) (object_number op.actor (m.actors op.actor).serial) (tree_steps h)
+      let heard : HeardTells m.store tree.made (request_place m.counts q) (object_number op.actor s.memory.serial) (tree_steps h)
       op p.command p.phase (Some q) =
       rw asking.asks at
-      (phase_tells m.store tree.made all (request_place m.counts q) (object_number op.actor (m.actors op.actor).serial) (tree_steps h)
-      op p.command p.phase so_far) in
+      (phase_tells m.store tree.made all (request_place m.counts q) (object_number op.actor s.memory.serial) (tree_steps h)
+      op p.command p.phase before.1) in
       heard new allowed
 
-  own_tells : Tells (h ++ did ∷ []) (heard m.counts (m.actors op.actor).serial q x (m.actors op.actor).running)
-  own_tells =
-      let command : command_of h op ≡ Some p.command = rw asking.its at before.0 in
-      rw (asking.runs, asking.its) (inl (command_more h did op ∙ ap (λ z. or_later z None) command, rw (steps_more h did) heard_tells))
+  stands_tell : (said : Heard) → StandTells (h ++ did ∷ []) op (stands_after m.counts s.memory op p q x said)
+  stands_tell hearing.Whole = (
+    command_more h did op ∙ ap (λ z. or_later z None) before.0,
+    rw (steps_more h did) heard_tells,
+    hears_smoothly m.counts s.memory op p before.2 q x,
+  )
+  stands_tell hearing.Unkept = (
+    command_more h did op ∙ ap (λ z. or_later z None) before.0,
+    rw (steps_more h did) heard_tells,
+    hears_smoothly m.counts s.memory op p before.2 q x,
+  )
+  stands_tell hearing.Left = tt
 
-  last : op.number ≡ (m.actors op.actor).number
+  own_tells : Tells (h ++ did ∷ []) (went_on programs m.counts s s.running q x how).running
+  own_tells = rw (went_on_as m.counts s s.running op p q x how asking.runs) (stands_tell how)
+
+  own_number : (went_on programs m.counts s s.running q x how).number ≡ s.number
+  own_number = rw (went_on_as m.counts s s.running op p q x how asking.runs) refl
+
+  last : op.number ≡ s.number
   last = (acts_last m tree t.tracks op q asks).number
 
   -- the commands of other actors
-  not_mine : (b : ℕ) → b ≢ op.actor → (o : Option Program) → (m.actors b).running ≡ o → (r : Program) → o ≡ Some r → op_eq op r.op ≡ false
+  not_mine : (b : ℕ) → b ≢ op.actor → (o : Option (Running Program)) → (m.actors b).running ≡ o → (r : Running Program) → o ≡ Some r
+      → op_eq op r.op ≡ false
   not_mine b d o is r e =
-      let its : Knows b (m.actors b).number (m.actors b).serial (Some r) = rw (is, e) at (t.tracks.knows b) in
+      let its : Knows b (m.actors b).number (m.actors b).memory.serial (Some r) = rw (is, e) at (t.tracks.knows b) in
       grind (arith, op_eq_cases op r.op, its.1)
 
   other_tells : (b : ℕ) → b ≢ op.actor → Tells (h ++ did ∷ []) (m.actors b).running
@@ -308,34 +333,58 @@ module _ (h : List Event) (m : WorldState) (t : AllTold h m) (op : OpId) (q : An
           let now : o.number ≡ (m.actors o.actor).number = rw same at last in
           absurd (omega arith)
 
-  acted_told : AllTold (h ++ did ∷ []) (after m did)
+  -- another number of the actor
+  still : (o : OpId) → o.actor ≡ op.actor → (went_on programs m.counts s s.running q x how).number < o.number
+      → (m.actors o.actor).number < o.number
+  still o e late = rw (e, ← own_number) late
+
+  acted_told : AllTold (h ++ did ∷ []) (after programs m did)
   acted_told = record {
     tracks = tracked_more h m did t.tracks (asks, refl);
     tells = λ b. changed (λ st. Tells (h ++ did ∷ []) st.running) m.actors op.actor _ b (λ e. own_tells) (λ d. other_tells b d);
     unbegun = λ o. changed (λ st. st.number < o.number → command_of (h ++ did ∷ []) o ≡ None) m.actors op.actor _ o.actor
-        (λ e late. did_unbegun o (rw e late)) (λ d late. did_unbegun o late);
+        (λ e late. did_unbegun o (still o e late)) (λ d late. did_unbegun o late);
     unasked = λ o. changed (λ st. st.number < o.number → of_op o (tree_steps (h ++ did ∷ [])) ≡ []) m.actors op.actor _ o.actor
-        (λ e late. did_unasked o (rw e late)) (λ d late. did_unasked o late);
+        (λ e late. did_unasked o (still o e late)) (λ d late. did_unasked o late);
   }
 
-event_told : (h : List Event) (m : WorldState) (e : Event) → AllTold h m → May m e → AllTold (h ++ e ∷ []) (after m e)
-event_told h m (Began op c) t may = begun_told h m t op c may.0 may.1
-event_told h m (NotBegun op c) t may = refused_told h m t op c may.0 may.1
-event_told h m (Acted op q x) t may = subst (λ (y : AnyReply). AllTold (h ++ Acted op q y ∷ []) (after m (Acted op q y))) (sym may.1)
-    (acted_told h m t op q may.0)
-event_told h m (Ended op a) t may = rests h m t (Ended op a) refl op.actor _ refl refl (λ o. refl)
-    (tracked_more h m (Ended op a) t.tracks may)
-event_told h m (Stopped op) t may = rests h m t (Stopped op) refl op.actor _ refl refl (λ o. refl)
-    (tracked_more h m (Stopped op) t.tracks may)
-event_told h m (Failed op a) t may = rests h m t (Failed op a) refl op.actor _ refl refl (λ o. refl)
-    (tracked_more h m (Failed op a) t.tracks may)
+-- a command ends
+ended_told : (h : List Event) (m : WorldState Program) (t : AllTold h m) (op : OpId) (e : Event) → told_of e ≡ []
+    → ((o : OpId) → begun_by e o ≡ None)
+    → after programs m e ≡ with_actor m op.actor (ended programs m.counts (m.actors op.actor) (m.actors op.actor).running)
+    → May programs m e → AllTold (h ++ e ∷ []) (after programs m e)
+ended_told h m t op e no_step no_begin is may =
+    let s : Actor Program = m.actors op.actor in
+    let now : after programs m e ≡ with_actor m op.actor (record s { running = None }) =
+    is ∙ ap (λ (a : Actor Program). with_actor m op.actor a) (ended_as m.counts s) in
+    subst (λ (n : WorldState Program). AllTold (h ++ e ∷ []) n) (sym now)
+    (rests h m t e no_step op.actor (record s { running = None }) refl refl no_begin
+    (subst (λ (n : WorldState Program). Tracks n (tree_after opening_tree (tree_steps (h ++ e ∷ [])))) now
+    (tracked_more h m e t.tracks may)))
+
+own_told : (h : List Event) (m : WorldState Program) (op : OpId) (e : Happening) → AllTold h m → May programs m (Own op e)
+    → AllTold (h ++ Own op e ∷ []) (after programs m (Own op e))
+own_told h m op (Began c) t may = begun_told h m t op c (may.0).0 (may.0).1
+own_told h m op (NotBegun c) t may = refused_told h m t op c (may.0).0 (may.0).1
+own_told h m op (Acted q x how) t may = subst
+    (λ (y : AnyReply). AllTold (h ++ Own op (Acted q y how) ∷ []) (after programs m (Own op (Acted q y how)))) (sym may.1)
+    (acted_told h m t op q how may.0)
+own_told h m op (Ended a) t may = ended_told h m t op (Own op (Ended a)) refl (λ o. refl) refl may
+own_told h m op Stopped t may = rests h m t (Own op Stopped) refl op.actor _ refl refl (λ o. refl)
+    (tracked_more h m (Own op Stopped) t.tracks may)
+own_told h m op (Failed a) t may = ended_told h m t op (Own op (Failed a)) refl (λ o. refl) refl may
+
+event_told : (h : List Event) (m : WorldState Program) (e : Event) → AllTold h m → May programs m e
+    → AllTold (h ++ e ∷ []) (after programs m e)
+event_told h m (Own op e) t may = own_told h m op e t may
 event_told h m Dumped t may = stays h m t Dumped refl (λ o. refl) (tracked_more h m Dumped t.tracks may)
 
-run_told : (h : List Event) (m : WorldState) (es : List Event) → AllTold h m → RunFrom m es → AllTold (h ++ es) (after_all m es)
+run_told : (h : List Event) (m : WorldState Program) (es : List Event) → AllTold h m → RunFrom programs m es
+    → AllTold (h ++ es) (after_all programs m es)
 run_told h m [] t run = rw append-nil t
 run_told h m (e ∷ es) t run =
-    let more : AllTold ((h ++ e ∷ []) ++ es) (after_all (after m e) es) = run_told (h ++ e ∷ []) (after m e) es (event_told h m e t run.0)
-    run.1 in
+    let more : AllTold ((h ++ e ∷ []) ++ es) (after_all programs (after programs m e) es) =
+    run_told (h ++ e ∷ []) (after programs m e) es (event_told h m e t run.0) run.1 in
     rw (append_assoc h (e ∷ []) es) at more
 
 opening_told : (counts : Counts) → AllTold [] (opening counts)
@@ -343,10 +392,10 @@ opening_told counts = record { tracks = opening_tracks counts; tells = λ a. tt;
 
 -- ---- each place of a history
 
-told_at : (counts : Counts) (events : List Event) (place : ℕ) → IsWorldRun counts events
-    → AllTold (take place events) (after_all (opening counts) (take place events))
+told_at : (counts : Counts) (events : List Event) (place : ℕ) → IsWorldRun programs counts events
+    → AllTold (take place events) (after_all programs (opening counts) (take place events))
 told_at counts events place run = run_told [] (opening counts) (take place events) (opening_told counts)
-    (front_runs place events (opening counts) run)
+    (front_runs programs place events (opening counts) run)
 
 -- a command that has come to its answer
 explains : (h : List Event) (op : OpId) (c : Command) (at : Phase) (a : Answer) → command_of h op ≡ Some c → phase_answer at ≡ Some a
@@ -358,38 +407,36 @@ explains h op c (Grant k n) a begun e p = absurd (let z : None ≡ Some a = e in
 explains h op c (Swap k n) a begun e p = absurd (let z : None ≡ Some a = e in cc)
 explains h op c (Release n hold old b) a begun e p = absurd (let z : None ≡ Some a = e in cc)
 
--- an op that was refused
-no_room_said : (h : List Event) (p : Program) (a : Answer) → phase_answer p.phase ≡ Some a → WasRefused h p → HadNoRoom h p.op a
-no_room_said h p a e r =
-    let k : Some no_room ≡ Some a = rw r.1 at e in
-    let same : a ≡ no_room = cc in
-    (r.0, same)
-
--- the one or the other
-answer_told : (h : List Event) (p : Program) (a : Answer) → phase_answer p.phase ≡ Some a → Tells h (Some p)
-    → Explains h p.op a ⊎ HadNoRoom h p.op a
-answer_told h p a e (inl t) = inl (explains h p.op p.command p.phase a t.0 e t.1)
-answer_told h p a e (inr r) = inr (no_room_said h p a e r)
-
-explained : (h : List Event) (op : OpId) (a : Answer) (o : Option Program) → program_answer (program_of o op) ≡ Some a → Tells h o
+-- or was refused
+answer_told : (counts : Counts) (m : Memory) (h : List Event) (op : OpId) (a : Answer) (at : Standing Program)
+    → program_answer programs counts m (Some record { op = op; at = at }) ≡ Some a → StandTells h op at
     → Explains h op a ⊎ HadNoRoom h op a
-explained h op a None e t = absurd (let z : None ≡ Some a = e in cc)
-explained h op a (Some p) e t = at (op_eq p.op op) refl e
-  where
-    at : (b : Bool) → op_eq p.op op ≡ b → program_answer (if b then Some p else None) ≡ Some a → Explains h op a ⊎ HadNoRoom h op a
-    at true is e = let same : p.op ≡ op = grind (arith, op_eq_cases p.op op)
-        in subst (λ (o : OpId). Explains h o a ⊎ HadNoRoom h o a) same (answer_told h p a e t)
-    at false is e = absurd (let z : None ≡ Some a = e in cc)
+answer_told counts m h op a (Goes p) e t =
+    inl (explains h op p.command p.phase a t.0 (sym (says_phase counts m op p t.2) ∙ e) t.1)
+answer_told counts m h op a Left e t = absurd (let z : None ≡ Some a = e in cc)
+answer_told counts m h op a NoRoom e t = let k : Some no_room ≡ Some a = e in inr (t, (let same : a ≡ no_room = cc in same))
 
-pub run_headline : (counts : Counts) (events : List Event) → IsWorldRun counts events → Headline events
+explained : (counts : Counts) (m : Memory) (h : List Event) (op : OpId) (a : Answer) (o : Option (Running Program))
+    → program_answer programs counts m (program_of o op) ≡ Some a → Tells h o → Explains h op a ⊎ HadNoRoom h op a
+explained counts m h op a o e t = of (program_of o op) refl e
+  where
+    of : (r : Option (Running Program)) → program_of o op ≡ r → program_answer programs counts m r ≡ Some a
+        → Explains h op a ⊎ HadNoRoom h op a
+    of None is e = absurd (let z : None ≡ Some a = e in cc)
+    of (Some r) is e =
+        let its : Runs o op r = runs_of o op r is in
+        let tells : Tells h (Some r) = subst (λ (z : Option (Running Program)). Tells h z) its.is t in
+        subst (λ (z : OpId). Explains h z a ⊎ HadNoRoom h z a) its.own (answer_told counts m h r.op a r.at e tells)
+
+pub run_headline : (counts : Counts) (events : List Event) → IsWorldRun programs counts events → Headline events
 run_headline counts events run = record {
   tree = (world_tracked counts events run).1;
   begins = λ place op c is.
-      let may : May (after_all (opening counts) (take place events)) (Began op c) = may_at (opening counts) events place (Began op c) run is
-      in
-      (told_at counts events place run).unasked op (omega (arith, (may.0).next));
+      let m : WorldState Program = after_all programs (opening counts) (take place events) in
+      let may : May programs m (Own op (Began c)) = may_at programs (opening counts) events place (Own op (Began c)) run is in
+      (told_at counts events place run).unasked op (omega (arith, ((may.0).0).next));
   answers = λ place op a is.
-      let may : May (after_all (opening counts) (take place events)) (Ended op a) = may_at (opening counts) events place (Ended op a) run is
-      in
-      explained (take place events) op a _ may ((told_at counts events place run).tells op.actor);
+      let m : WorldState Program = after_all programs (opening counts) (take place events) in
+      let may : May programs m (Own op (Ended a)) = may_at programs (opening counts) events place (Own op (Ended a)) run is in
+      explained m.counts (m.actors op.actor).memory (take place events) op a _ may.0 ((told_at counts events place run).tells op.actor);
 }

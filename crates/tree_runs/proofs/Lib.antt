@@ -1,5 +1,6 @@
 pub mod ValuesSeen
 pub mod RequestsShow
+pub mod Standings
 pub mod Tracks
 pub mod Phases
 pub mod Runs

@@ -41,10 +41,9 @@ use Rattle.program_rules.specs.Paths.{last_name}
 use Rattle.program_rules.specs.Programs.{object_number, own_hold, new_path, at_last, first_ask, phase_ask, phase_hear, first_hear}
 use Rattle.program_rules.specs.Programs.{grant_ask, release_ask, look_ask, refusal, walked, looked, look_heard, checked, entries_heard}
 use Rattle.program_rules.specs.Programs.{unbound_heard, source_heard, then_release, bound_heard, swapped_heard}
-use Rattle.world_runs.specs.Moments.{next_serial}
 use Rattle.claim_words.specs.TreeSteps.{told_as, tree_step, says, tree_after, where_refused}
 use Rattle.tree_runs.specs.View.{Made, view, AllMade, MakesNew}
-use Rattle.tree_runs.proofs.Tracks.{PhaseKnows, new_name, dir_at, file_at}
+use Rattle.tree_runs.proofs.Tracks.{PhaseKnows, next_serial, new_name, dir_at, file_at}
 
 -- the node has another number
 abbrev pub IsOther : ℕ → Node → Type 0

@@ -1,31 +1,37 @@
 -- every run is followed by the tree
-use Rattle.std.proofs.Common.{◌≡◌, ◌≢◌, ◌<◌, ◌≤◌, ◌+◌, ◌^◌, ◌⊎◌, inl, inr, ℕ, Bool, true, false, if◌then◌else◌, Option, Some, None, List}
-use Rattle.std.proofs.Common.{[], ◌∷◌, ◌++◌, refl, sym, subst, arith}
+use Rattle.std.proofs.Common.{◌≡◌, ◌≢◌, ◌<◌, ◌≤◌, ◌+◌, ◌^◌, ◌⊎◌, inl, inr, ℕ, Option, Some, None, List, [], ◌∷◌, ◌++◌, refl, sym, subst, arith}
 use Rattle.std.specs.FinMap.{get}
 use Rattle.tect_ids.specs.declared.ids.Counts.{Counts}
 use Rattle.tect_ids.specs.declared.ids.OpId.{OpId}
 use Rattle.tect_ids.specs.declared.command.Command.{Command}
 use Rattle.tect_ids.specs.declared.command.Command.TheVariants as commands
-use Rattle.tect_ids.specs.Keys.{op_eq}
-use Rattle.tect_ids.proofs.KeyTests.{op_eq_cases}
 use Rattle.store_rules.specs.declared.any.AnyReq.{AnyReq}
 use Rattle.store_rules.specs.declared.any.AnyReply.{AnyReply}
 use Rattle.store_rules.specs.Places.{request_place}
-use Rattle.store_rules.specs.Store.{Store, store_reply}
+use Rattle.store_rules.specs.Store.{Store, store_reply, store_step}
 use Rattle.tree_model.specs.declared.step.TreeStep.{TreeStep}
 use Rattle.tree_model.specs.declared.step.TreeReply.{TreeReply}
 use Rattle.tree_model.specs.Tree.{Tree, opening_tree, tree_next}
+use Rattle.program_forms.specs.declared.heard.Heard.{Heard}
+use Rattle.program_forms.specs.declared.heard.Heard.TheVariants as hearing
+use Rattle.program_forms.specs.declared.standing.Standing.TheVariants.{Goes}
+use Rattle.program_forms.specs.Memories.{always}
 use Rattle.program_rules.specs.declared.program.Program.{Program}
-use Rattle.program_rules.specs.Programs.{object_number, phase_ask, first_phase, from_root}
+use Rattle.program_rules.specs.Programs.{object_number, first_phase, from_root}
+use Rattle.program_rules.specs.Served.{programs}
 use Rattle.world_runs.specs.declared.event.Event.{Event}
-use Rattle.world_runs.specs.declared.event.Event.TheVariants.{Began, NotBegun, Acted, Ended, Stopped, Failed, Dumped}
-use Rattle.world_runs.specs.Moments.{Actor, WorldState, opening, May, CanBegin, after, after_all, RunFrom, IsWorldRun, moment, asked}
-use Rattle.world_runs.specs.Moments.{program_ask, program_of, next_serial, heard, with_actor}
+use Rattle.world_runs.specs.declared.event.Event.TheVariants.{Own, Dumped}
+use Rattle.world_runs.specs.declared.event.Happening.{Happening}
+use Rattle.world_runs.specs.declared.event.Happening.TheVariants.{Began, NotBegun, Acted, Ended, Stopped, Failed}
+use Rattle.world_runs.specs.Actors.{Actor, OwnMay, ended, went_on}
+use Rattle.world_runs.specs.Moments.{WorldState, opening, IsReply, May, after, after_all, RunFrom, IsWorldRun, moment, asked, with_actor}
 use Rattle.claim_words.specs.TreeSteps.{Told, told_as, told_of, tree_steps, tree_step, says, tree_after, IsTreeRun}
 use Rattle.world_runs.proofs.Actors.{changed}
 use Rattle.tree_runs.specs.View.{Made, view, Shows, AllMade, TreeFollows, StepShows}
 use Rattle.tree_runs.proofs.RequestsShow.{request_shows}
-use Rattle.tree_runs.proofs.Tracks.{Tracks, TreeMade, Fresh, PhaseKnows, Knows, dir_at, file_at, all_made, next_made, opening_tracks}
+use Rattle.tree_runs.proofs.Standings.{Asking, asks_of, stands_after, went_on_as, ended_as}
+use Rattle.tree_runs.proofs.Tracks.{Tracks, TreeMade, Fresh, PhaseKnows, StandingKnows, Knows, next_serial, dir_at, file_at, all_made, next_made}
+use Rattle.tree_runs.proofs.Tracks.{opening_tracks}
 use Rattle.tree_runs.proofs.Phases.{Acts, Makes, MakesNoOther, made_next, phase_acts}
 
 -- ---- steps of the tree, one after another
@@ -53,32 +59,15 @@ told_made t op (Some st) x h = next_made t st x h
 
 -- ---- a request
 
--- the program that asks
-pub record Asks (o : Option Program) (op : OpId) (serial : ℕ) (q : AnyReq) : Type 0 where
-  pub program : Program
-  pub runs : o ≡ Some program
-  pub its : program.op ≡ op
-  pub asks : phase_ask op (object_number op.actor serial) program.command program.phase ≡ Some q
-
-pub asks_of : (o : Option Program) (op : OpId) (serial : ℕ) (q : AnyReq) → program_ask serial (program_of o op) ≡ Some q
-    → Asks o op serial q
-asks_of None op serial q e = absurd (let k : None ≡ Some q = e in cc)
-asks_of (Some p) op serial q e = at (op_eq p.op op) refl e
-  where
-    at : (b : Bool) → op_eq p.op op ≡ b → program_ask serial (if b then Some p else None) ≡ Some q → Asks (Some p) op serial q
-    at true is e = let same : p.op ≡ op = grind (arith, op_eq_cases p.op op)
-        in record { program = p; runs = refl; its = same; asks = rw same at e }
-    at false is e = absurd (let k : None ≡ Some q = e in cc)
-
-module _ (m : WorldState) (made : Made) (tracks : Tracks m (view m.store made)) (op : OpId) (q : AnyReq)
-    (a : Asks (m.actors op.actor).running op (m.actors op.actor).serial q) where
+module _ (m : WorldState Program) (made : Made) (tracks : Tracks m (view m.store made)) (op : OpId) (q : AnyReq) (h : Heard)
+    (a : Asking (m.actors op.actor).running op (m.actors op.actor).memory q) where
   -- how many commands the actor began
   abbrev own_number : ℕ
   own_number = (m.actors op.actor).number
 
   -- the serial of the actor's next object
   abbrev own_serial : ℕ
-  own_serial = (m.actors op.actor).serial
+  own_serial = (m.actors op.actor).memory.serial
 
   -- the program that asks
   abbrev p : Program
@@ -96,7 +85,7 @@ module _ (m : WorldState) (made : Made) (tracks : Tracks m (view m.store made)) 
   abbrev told : List Told
   told = told_as op (tree_step q x) (says x)
 
-  pub knows : Knows op.actor own_number own_serial (Some p)
+  pub knows : Knows op.actor own_number own_serial (Some record { op = op; at = Goes p })
   knows = rw a.runs at (tracks.knows op.actor)
 
   few : own_serial < 2 ^ 32
@@ -114,11 +103,11 @@ module _ (m : WorldState) (made : Made) (tracks : Tracks m (view m.store made)) 
   shows = request_shows m.store made q made_all acts.new
 
   -- the same numbers stay free, but for the one that was given now
-  fresh_same : made2 ≡ made → (b j : ℕ) → 1 ≤ b → j < 2 ^ 32 → (m.actors b).serial ≤ j
+  fresh_same : made2 ≡ made → (b j : ℕ) → 1 ≤ b → j < 2 ^ 32 → (m.actors b).memory.serial ≤ j
       → (get made2 (dir_at (object_number b j)) ≡ None) × (get made2 (file_at (object_number b j)) ≡ None)
   fresh_same e b j one u l = rw e (tracks.fresh b one j l u)
 
-  fresh_other : MakesNoOther (object_number op.actor own_serial) made made2 → (b j : ℕ) → 1 ≤ b → j < 2 ^ 32 → (m.actors b).serial ≤ j
+  fresh_other : MakesNoOther (object_number op.actor own_serial) made made2 → (b j : ℕ) → 1 ≤ b → j < 2 ^ 32 → (m.actors b).memory.serial ≤ j
       → (b ≢ op.actor) ⊎ (j ≢ own_serial)
       → (get made2 (dir_at (object_number b j)) ≡ None) × (get made2 (file_at (object_number b j)) ≡ None)
   fresh_other n b j one u l d =
@@ -142,23 +131,42 @@ module _ (m : WorldState) (made : Made) (tracks : Tracks m (view m.store made)) 
       later j l = omega (arith, after_it j l)
 
   others_fresh : Makes m.store made op (object_number op.actor own_serial) q → (b : ℕ) → b ≢ op.actor → 1 ≤ b
-      → Fresh made2 b (m.actors b).serial
+      → Fresh made2 b (m.actors b).memory.serial
   others_fresh (inl n) b d one = λ j l u. fresh_same n.0 b j one u l
   others_fresh (inr n) b d one = λ j l u. fresh_other n.1 b j one u l (inl d)
 
-  knows_after : Knows op.actor own_number (next_serial own_serial x) (heard m.counts own_serial q x (m.actors op.actor).running)
-  knows_after = let actor : p.op ≡ op = a.its in rw (a.runs, a.its) (knows.0, refl, (rw a.its at knows.2), acts.knows)
+  -- the actor then
+  abbrev next : Actor Program
+  next = record (m.actors op.actor) {
+    memory = always (m.actors op.actor).memory q x;
+    running = Some record { op = op; at = stands_after m.counts (m.actors op.actor).memory op p q x h };
+  }
 
-  acted_tracks : Tracks (after m (Acted op q x)) (tree_after (view m.store made) told)
-  acted_tracks = record {
+  next_knows : (how : Heard) → StandingKnows own_number (next_serial own_serial x)
+      (stands_after m.counts (m.actors op.actor).memory op p q x how)
+  next_knows hearing.Whole = acts.knows
+  next_knows hearing.Unkept = acts.knows
+  next_knows hearing.Left = tt
+
+  next_tracks : Tracks (with_actor (record m { store = store_step m.store q }) op.actor next) (tree_after (view m.store made) told)
+  next_tracks = record {
     shown = follows_shown (view m.store made) _ op (tree_step q x) (says x) shows;
     made = told_made (view m.store made) op (tree_step q x) (says x) tracks.made;
-    fresh = λ b one. changed (λ st. Fresh made2 b st.serial) m.actors op.actor _ b (λ e. rw e (own_fresh acts.makes))
+    fresh = λ b one. changed (λ st. Fresh made2 b st.memory.serial) m.actors op.actor next b (λ e. rw e (own_fresh acts.makes))
         (λ d. others_fresh acts.makes b d one);
-    serials = λ b. changed (λ st. st.serial ≤ st.number + 1) m.actors op.actor _ b (λ e. acts.serial) (λ d. tracks.serials b);
-    numbers = λ b. changed (λ st. st.number < 2 ^ 31) m.actors op.actor _ b (λ e. tracks.numbers op.actor) (λ d. tracks.numbers b);
-    knows = λ b. changed (λ st. Knows b st.number st.serial st.running) m.actors op.actor _ b (λ e. rw e knows_after) (λ d. tracks.knows b);
+    serials = λ b. changed (λ st. st.memory.serial ≤ st.number + 1) m.actors op.actor next b (λ e. acts.serial) (λ d. tracks.serials b);
+    numbers = λ b. changed (λ st. st.number < 2 ^ 31) m.actors op.actor next b (λ e. tracks.numbers op.actor) (λ d. tracks.numbers b);
+    knows = λ b. changed (λ st. Knows b st.number st.memory.serial st.running) m.actors op.actor next b
+        (λ e. rw e (knows.0, refl, knows.2, next_knows h)) (λ d. tracks.knows b);
   }
+
+  pub is_next : went_on programs m.counts (m.actors op.actor) (m.actors op.actor).running q x h ≡ next
+  is_next = went_on_as m.counts (m.actors op.actor) _ op p q x h a.runs
+
+  acted_tracks : Tracks (after programs m (Own op (Acted q x h))) (tree_after (view m.store made) told)
+  acted_tracks = subst
+      (λ (s : Actor Program). Tracks (with_actor (record m { store = store_step m.store q }) op.actor s) (tree_after (view m.store made) told))
+      (sym is_next) next_tracks
 
   acted_run : IsTreeRun (view m.store made) told
   acted_run = follows_run (view m.store made) _ op (tree_step q x) (says x) shows
@@ -166,31 +174,31 @@ module _ (m : WorldState) (made : Made) (tracks : Tracks m (view m.store made)) 
 -- ---- the events
 
 -- the tree follows an event
-abbrev Tracked : WorldState → Tree → Event → Type 0
-Tracked m t e = Tracks (after m e) (tree_after t (told_of e)) × IsTreeRun t (told_of e)
+abbrev Tracked : WorldState Program → Tree → Event → Type 0
+Tracked m t e = Tracks (after programs m e) (tree_after t (told_of e)) × IsTreeRun t (told_of e)
 
-acted_tracked : (m : WorldState) (t : Tree) → Tracks m t → (op : OpId) (q : AnyReq) → asked m op ≡ Some q
-    → Tracked m t (Acted op q (store_reply m.store q))
-acted_tracked m t tracks op q e =
+acted_tracked : (m : WorldState Program) (t : Tree) → Tracks m t → (op : OpId) (q : AnyReq) (h : Heard) → asked programs m op ≡ Some q
+    → Tracked m t (Own op (Acted q (store_reply m.store q) h))
+acted_tracked m t tracks op q h e =
     let same : view m.store t.made ≡ t = tracks.shown in
     let it : Tracks m (view m.store t.made) = subst (λ (u : Tree). Tracks m u) (sym same) tracks in
-    let a : Asks (m.actors op.actor).running op (m.actors op.actor).serial q = asks_of _ op _ q e in
-    subst (λ (u : Tree). Tracked m u (Acted op q (store_reply m.store q))) same
-    (acted_tracks m t.made it op q a, acted_run m t.made it op q a)
+    let a : Asking (m.actors op.actor).running op (m.actors op.actor).memory q = asks_of m.counts (m.actors op.actor).memory _ op q e in
+    subst (λ (u : Tree). Tracked m u (Own op (Acted q (store_reply m.store q) h))) same
+    (acted_tracks m t.made it op q h a, acted_run m t.made it op q h a)
 
 -- an actor's running command changes, and its numbers as they may
-restarted : (m : WorldState) (t : Tree) → Tracks m t → (a : ℕ) (state : Actor) → state.serial ≡ (m.actors a).serial
-    → (m.actors a).number ≤ state.number → state.number < 2 ^ 31
-    → Knows a state.number state.serial state.running → Tracks (with_actor m a state) t
+restarted : (m : WorldState Program) (t : Tree) → Tracks m t → (a : ℕ) (state : Actor Program)
+    → state.memory.serial ≡ (m.actors a).memory.serial → (m.actors a).number ≤ state.number → state.number < 2 ^ 31
+    → Knows a state.number state.memory.serial state.running → Tracks (with_actor m a state) t
 restarted m t tracks a state same more few knows = record {
   shown = tracks.shown;
   made = tracks.made;
-  fresh = λ b one. changed (λ st. Fresh t.made b st.serial) m.actors a state b (λ e. rw (e, same) (tracks.fresh a (rw e at one)))
-      (λ d. tracks.fresh b one);
-  serials = λ b. changed (λ st. st.serial ≤ st.number + 1) m.actors a state b (λ e. omega (arith, tracks.serials a))
+  fresh = λ b one. changed (λ st. Fresh t.made b st.memory.serial) m.actors a state b
+      (λ e. rw (e, same) (tracks.fresh a (rw e at one))) (λ d. tracks.fresh b one);
+  serials = λ b. changed (λ st. st.memory.serial ≤ st.number + 1) m.actors a state b (λ e. omega (arith, tracks.serials a))
       (λ d. tracks.serials b);
   numbers = λ b. changed (λ st. st.number < 2 ^ 31) m.actors a state b (λ e. few) (λ d. tracks.numbers b);
-  knows = λ b. changed (λ st. Knows b st.number st.serial st.running) m.actors a state b (λ e. rw e knows) (λ d. tracks.knows b);
+  knows = λ b. changed (λ st. Knows b st.number st.memory.serial st.running) m.actors a state b (λ e. rw e knows) (λ d. tracks.knows b);
 }
 
 root_knows : (number serial : ℕ) (c : Command) (p ns : List (List ℕ)) → serial ≤ number → PhaseKnows number serial c (from_root p ns)
@@ -207,36 +215,44 @@ first_knows number serial (commands.Rename p []) l = tt
 first_knows number serial (commands.Rename p (n ∷ to)) l = root_knows number serial (commands.Rename p (n ∷ to)) p _ l
 first_knows number serial _ l = tt
 
-began_tracks : (m : WorldState) (t : Tree) → Tracks m t → (op : OpId) (c : Command) → CanBegin (m.actors op.actor) op
-    → Tracks (after m (Began op c)) t
-began_tracks m t tracks op c can = restarted m t tracks op.actor _ refl (omega (arith, can.next)) (omega (arith, can.few))
-    ((can.is_actor).0, refl, refl, first_knows _ _ c (omega (arith, can.next, tracks.serials op.actor)))
+-- a command ends
+ended_tracks : (m : WorldState Program) (t : Tree) → Tracks m t → (a : ℕ)
+    → Tracks (with_actor m a (ended programs m.counts (m.actors a) (m.actors a).running)) t
+ended_tracks m t tracks a = subst (λ (s : Actor Program). Tracks (with_actor m a s) t) (sym (ended_as m.counts (m.actors a)))
+    (restarted m t tracks a _ refl (omega arith) (tracks.numbers a) tt)
 
-refused_tracks : (m : WorldState) (t : Tree) → Tracks m t → (op : OpId) (c : Command) → CanBegin (m.actors op.actor) op
-    → Tracks (after m (NotBegun op c)) t
-refused_tracks m t tracks op c can = restarted m t tracks op.actor _ refl (omega (arith, can.next)) (omega (arith, can.few))
-    ((can.is_actor).0, refl, refl, tt)
+own_tracked : (m : WorldState Program) (t : Tree) (op : OpId) (h : Happening) → Tracks m t → OwnMay programs m.counts (m.actors op.actor) op h
+    → IsReply m.store h → Tracked m t (Own op h)
+own_tracked m t op (Began c) tracks may reply = (
+  restarted m t tracks op.actor _ refl (omega (arith, (may.0).next)) (omega (arith, (may.0).few))
+      (((may.0).is_actor).0, refl, refl, first_knows _ _ c (omega (arith, (may.0).next, tracks.serials op.actor))),
+  tt,
+)
+own_tracked m t op (NotBegun c) tracks may reply = (
+  restarted m t tracks op.actor _ refl (omega (arith, (may.0).next)) (omega (arith, (may.0).few))
+      (((may.0).is_actor).0, refl, refl, tt),
+  tt,
+)
+own_tracked m t op (Acted q x h) tracks may reply = subst (λ (y : AnyReply). Tracked m t (Own op (Acted q y h))) (sym reply)
+    (acted_tracked m t tracks op q h may)
+own_tracked m t op (Ended a) tracks may reply = (ended_tracks m t tracks op.actor, tt)
+own_tracked m t op Stopped tracks may reply = (restarted m t tracks op.actor _ refl (omega arith) (tracks.numbers op.actor) tt, tt)
+own_tracked m t op (Failed a) tracks may reply = (ended_tracks m t tracks op.actor, tt)
 
-pub event_tracked : (m : WorldState) (t : Tree) (e : Event) → Tracks m t → May m e → Tracked m t e
-event_tracked m t (Began op c) tracks may = (began_tracks m t tracks op c may.0, tt)
-event_tracked m t (NotBegun op c) tracks may = (refused_tracks m t tracks op c may.0, tt)
-event_tracked m t (Acted op q x) tracks may = subst (λ (y : AnyReply). Tracked m t (Acted op q y)) (sym may.1)
-    (acted_tracked m t tracks op q may.0)
-event_tracked m t (Ended op a) tracks may = (restarted m t tracks op.actor _ refl (omega arith) (tracks.numbers op.actor) tt, tt)
-event_tracked m t (Stopped op) tracks may = (restarted m t tracks op.actor _ refl (omega arith) (tracks.numbers op.actor) tt, tt)
-event_tracked m t (Failed op a) tracks may = (restarted m t tracks op.actor _ refl (omega arith) (tracks.numbers op.actor) tt, tt)
+pub event_tracked : (m : WorldState Program) (t : Tree) (e : Event) → Tracks m t → May programs m e → Tracked m t e
+event_tracked m t (Own op h) tracks may = own_tracked m t op h tracks may.0 may.1
 event_tracked m t Dumped tracks may = (tracks, tt)
 
-pub run_tracked : (m : WorldState) (t : Tree) (es : List Event) → Tracks m t → RunFrom m es
-    → Tracks (after_all m es) (tree_after t (tree_steps es)) × IsTreeRun t (tree_steps es)
+pub run_tracked : (m : WorldState Program) (t : Tree) (es : List Event) → Tracks m t → RunFrom programs m es
+    → Tracks (after_all programs m es) (tree_after t (tree_steps es)) × IsTreeRun t (tree_steps es)
 run_tracked m t [] tracks run = (tracks, tt)
 run_tracked m t (e ∷ es) tracks run =
     let now : Tracked m t e = event_tracked m t e tracks run.0 in
-    let rest : Tracks (after_all (after m e) es) (tree_after (tree_after t (told_of e)) (tree_steps es))
+    let rest : Tracks (after_all programs (after programs m e) es) (tree_after (tree_after t (told_of e)) (tree_steps es))
     × IsTreeRun (tree_after t (told_of e)) (tree_steps es) =
-    run_tracked (after m e) (tree_after t (told_of e)) es now.0 run.1 in
+    run_tracked (after programs m e) (tree_after t (told_of e)) es now.0 run.1 in
     (rw (tree_after-append t (told_of e) (tree_steps es)) rest.0, tree_run-append t (told_of e) (tree_steps es) now.1 rest.1)
 
-pub world_tracked : (counts : Counts) (events : List Event) → IsWorldRun counts events
-    → Tracks (moment counts events) (tree_after opening_tree (tree_steps events)) × IsTreeRun opening_tree (tree_steps events)
+pub world_tracked : (counts : Counts) (events : List Event) → IsWorldRun programs counts events
+    → Tracks (moment programs counts events) (tree_after opening_tree (tree_steps events)) × IsTreeRun opening_tree (tree_steps events)
 world_tracked counts events run = run_tracked (opening counts) opening_tree events (opening_tracks counts) run

@@ -1,5 +1,5 @@
 -- what each moment keeps, beside that its store shows the tree
-use Rattle.std.proofs.Common.{◌≡◌, ◌<◌, ◌≤◌, ◌+◌, ◌^◌, ℕ, true, false, is_some, Option, Some, None, List, refl, arith}
+use Rattle.std.proofs.Common.{◌≡◌, ◌<◌, ◌≤◌, ◌+◌, ◌^◌, ℕ, if◌then◌else◌, true, false, is_some, Option, Some, None, List, refl, arith}
 use Rattle.std.specs.FinMap.{get, empty, same_map}
 use Rattle.tect_ids.specs.declared.ids.DirId.{DirId}
 use Rattle.tect_ids.specs.declared.ids.FileId.{FileId}
@@ -10,17 +10,22 @@ use Rattle.tect_ids.specs.declared.command.Command.{Command}
 use Rattle.tect_ids.specs.Keys.{name_eq, dir_cmp, file_cmp, key_cmp}
 use Rattle.tect_ids.proofs.KeyTests.{dir_cmp_total, file_cmp_total, key_cmp_total, dir_antisymmetric, file_antisymmetric, key_antisymmetric}
 use Rattle.key_maps.proofs.Lookups.{maps}
+use Rattle.store_rules.specs.declared.any.AnyReply.{AnyReply}
+use Rattle.store_rules.specs.Views.{is_made}
 use Rattle.store_rules.specs.Store.{Store, opening_store}
 use Rattle.tree_model.specs.declared.step.TreeStep.{TreeStep}
 use Rattle.tree_model.specs.declared.step.TreeStep.TheVariants as step
 use Rattle.tree_model.specs.declared.step.TreeReply.{TreeReply}
 use Rattle.tree_model.specs.declared.step.TreeReply.TheVariants.{Ok, Refused}
 use Rattle.tree_model.specs.Tree.{Tree, opening_tree, tree_next, tree_change}
+use Rattle.program_forms.specs.declared.standing.Standing.{Standing}
+use Rattle.program_forms.specs.declared.standing.Standing.TheVariants.{Goes, Left, NoRoom}
 use Rattle.program_rules.specs.declared.program.Phase.{Phase}
 use Rattle.program_rules.specs.declared.program.Phase.TheVariants.{Walk, Bind, Grant, Swap, Release, End}
 use Rattle.program_rules.specs.declared.program.Program.{Program}
 use Rattle.program_rules.specs.Paths.{last_name}
 use Rattle.program_rules.specs.Programs.{object_number, new_path}
+use Rattle.world_runs.specs.Actors.{Running}
 use Rattle.world_runs.specs.Moments.{WorldState, opening}
 use Rattle.tree_runs.specs.MapValues.{map_values}
 use Rattle.tree_runs.specs.View.{Made, view, Shows, AllMade, shown_dir, shown_file, shown_entry}
@@ -57,19 +62,29 @@ PhaseKnows number serial c (Swap k n) = name_eq k.name (new_name c) ≡ false
 PhaseKnows number serial c (Release n h old a) = Unit {0}
 PhaseKnows number serial c (End a) = Unit {0}
 
+-- one that goes no further knows nothing
+abbrev pub StandingKnows : ℕ → ℕ → Standing Program → Type 0
+StandingKnows number serial (Goes p) = PhaseKnows number serial p.command p.phase
+StandingKnows number serial Left = Unit {0}
+StandingKnows number serial NoRoom = Unit {0}
+
 -- the running command is the actor's last
-abbrev pub Knows : ℕ → ℕ → ℕ → Option Program → Type 0
+abbrev pub Knows : ℕ → ℕ → ℕ → Option (Running Program) → Type 0
 Knows a number serial None = Unit {0}
-Knows a number serial (Some p) = (1 ≤ a) × (p.op.actor ≡ a) × (p.op.number ≡ number) × PhaseKnows number serial p.command p.phase
+Knows a number serial (Some r) = (1 ≤ a) × (r.op.actor ≡ a) × (r.op.number ≡ number) × StandingKnows number serial r.at
+
+-- the serial of an actor's next object after a reply
+abbrev pub next_serial : ℕ → AnyReply → ℕ
+next_serial serial x = if is_made x then serial + 1 else serial
 
 -- the moment shows the tree, and its actors keep their numbers
-pub record Tracks (m : WorldState) (t : Tree) : Type 0 where
+pub record Tracks (m : WorldState Program) (t : Tree) : Type 0 where
   pub shown : Shows m.store t
   pub made : TreeMade t
-  pub fresh : (a : ℕ) → 1 ≤ a → Fresh t.made a (m.actors a).serial
-  pub serials : (a : ℕ) → (m.actors a).serial ≤ (m.actors a).number + 1
+  pub fresh : (a : ℕ) → 1 ≤ a → Fresh t.made a (m.actors a).memory.serial
+  pub serials : (a : ℕ) → (m.actors a).memory.serial ≤ (m.actors a).number + 1
   pub numbers : (a : ℕ) → (m.actors a).number < 2 ^ 31
-  pub knows : (a : ℕ) → Knows a (m.actors a).number (m.actors a).serial (m.actors a).running
+  pub knows : (a : ℕ) → Knows a (m.actors a).number (m.actors a).memory.serial (m.actors a).running
 
 -- what stands in the store was made
 pub all_made : (s : Store) (made : Made) → TreeMade (view s made) → AllMade s made

@@ -8,6 +8,7 @@ ghost use Rattle.store_rules.specs.Store.{Store};
 ghost use Rattle.store_rules.specs.declared.any.AnyReq.{AnyReq};
 ghost use Rattle.tect_ids.specs.declared.ids.Counts.{Counts};
 ghost use Rattle.tree_model.specs.Tree.{opening_tree};
+ghost use Rattle.program_rules.specs.Served.{programs};
 ghost use Rattle.world_runs.specs.declared.event.Event.{Event};
 ghost use Rattle.world_runs.specs.Moments.{IsWorldRun, moment};
 ghost use Rattle.claim_words.specs.TreeSteps.{tree_steps, tree_after, IsTreeRun};
@@ -22,13 +23,13 @@ pub fn store_shows_a_tree()
 /// In every run of the world the tree allows what was said to each of its steps, and the store at the end shows the tree
 /// after them.
 pub fn every_run_follows_the_tree()
-    ensures shown { (counts : Counts) (events : List Event) → IsWorldRun counts events
-        → Shows (moment counts events).store (tree_after opening_tree (tree_steps events)) }
-    ensures allowed { (counts : Counts) (events : List Event) → IsWorldRun counts events → IsTreeRun opening_tree (tree_steps events) }
+    ensures shown { (counts : Counts) (events : List Event) → IsWorldRun programs counts events
+        → Shows (moment programs counts events).store (tree_after opening_tree (tree_steps events)) }
+    ensures allowed { (counts : Counts) (events : List Event) → IsWorldRun programs counts events → IsTreeRun opening_tree (tree_steps events) }
 {}
 
 /// In every run of the world, whatever its actors ask in whatever order, each answer is the one that the tree gives at the
 /// command's point, or says that there was no room to begin the command.
 pub fn each_answer_is_the_trees()
-    ensures { (counts : Counts) (events : List Event) → IsWorldRun counts events → Headline events }
+    ensures { (counts : Counts) (events : List Event) → IsWorldRun programs counts events → Headline events }
 {}
