@@ -4,3 +4,5 @@ pub mod Moves
 pub mod Lines
 pub mod FollowOn
 pub mod AtOnce
+pub mod RunOut
+pub mod CutLines
