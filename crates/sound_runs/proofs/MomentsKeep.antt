@@ -1,5 +1,5 @@
 -- each event keeps what is so at every moment
-use Rattle.std.proofs.Common.{◌≡◌, ℕ, ◌+◌, ◌<◌, ◌≤◌, ◌^◌, [], ◌∷◌, Bool, true, false, eqb, Option, Some, None, refl, arith, subst}
+use Rattle.std.proofs.Common.{◌≡◌, ℕ, ◌+◌, ◌<◌, ◌≤◌, ◌^◌, [], ◌∷◌, Bool, true, false, eqb, Option, Some, None, refl, sym, arith, subst}
 use Rattle.tect_ids.specs.declared.ids.Counts.{Counts}
 use Rattle.tect_ids.specs.declared.ids.Node.TheVariants.{Dir, File}
 use Rattle.tect_ids.specs.declared.ids.OpId.{OpId}
@@ -10,25 +10,30 @@ use Rattle.store_rules.specs.declared.any.AnyReq.{AnyReq}
 use Rattle.store_rules.specs.declared.any.AnyReply.{AnyReply}
 use Rattle.store_rules.specs.Places.{request_place}
 use Rattle.store_rules.specs.Store.{store_reply}
-use Rattle.program_rules.specs.declared.program.Phase.{Phase}
-use Rattle.program_rules.specs.declared.program.Phase.TheVariants.{End}
+use Rattle.program_forms.specs.declared.heard.Heard.{Heard}
+use Rattle.program_forms.specs.declared.heard.Heard.TheVariants as hearing
+use Rattle.program_forms.specs.declared.standing.Standing.{Standing}
+use Rattle.program_forms.specs.declared.standing.Standing.TheVariants.{Goes, Left, NoRoom}
+use Rattle.program_forms.specs.Memories.{Memory}
+use Rattle.program_forms.specs.Kinds.{state_heard, memory_heard}
 use Rattle.program_rules.specs.declared.program.Program.{Program}
-use Rattle.program_rules.specs.Programs.{root, object_number, own_hold, phase_ask, phase_hear, first_phase}
+use Rattle.program_rules.specs.Programs.{root, object_number, own_hold, phase_hear, first_phase, started}
+use Rattle.program_rules.specs.Served.{programs}
 use Rattle.world_runs.specs.declared.event.Event.{Event}
-use Rattle.world_runs.specs.declared.event.Event.TheVariants.{Began, NotBegun, Acted, Ended, Stopped, Failed, Dumped}
-use Rattle.world_runs.specs.Served.{IsServed}
-use Rattle.program_forms.specs.Lacks.{no_room}
-use Rattle.world_runs.specs.Moments.{Actor, WorldState, CanBegin, May, after, went_on, next_serial, opening, with_actor}
+use Rattle.world_runs.specs.declared.event.Event.TheVariants.{Own, Dumped}
+use Rattle.world_runs.specs.declared.event.Happening.TheVariants.{Began, NotBegun, Acted, Ended, Stopped, Failed}
+use Rattle.world_runs.specs.Actors.{Actor, Running, CanBegin, went_on, ended, standing_heard}
+use Rattle.world_runs.specs.Moments.{WorldState, May, after, opening, with_actor}
 use Rattle.store_world.specs.Worlds.{World, Ghost, next, ghost_next, opening_ghost}
 use Rattle.store_world.specs.Later.{actor_of, Later, Within, by_actor}
 use Rattle.store_world.specs.Requests.{Needs, Kept, touched_by}
 use Rattle.store_world.proofs.Frames.{weaken}
 use Rattle.store_world.proofs.Rows.{row_kept, opening_sound}
 use Rattle.world_runs.proofs.Actors.{changed, other_number}
-use Rattle.script_runs.proofs.Running.{Asks, asks_by}
 use Rattle.sound_runs.specs.Pasts.{ghost_after, world_of}
-use Rattle.sound_runs.specs.Known.{PhaseKnows, Knows, RunningKnows, IsFresh, ActorSound, AllSound}
-use Rattle.sound_runs.proofs.PhasesAsk.{IsFree, phase_needs, phase_own, phase_later, MakesNoLater}
+use Rattle.sound_runs.specs.Known.{PhaseKnows, StandingKnows, Knows, RunningKnows, IsFresh, ActorSound, AllSound}
+use Rattle.sound_runs.proofs.Turns.{heard_same, serial_same, end_same, IsAsked, asked_by_op}
+use Rattle.sound_runs.proofs.PhasesAsk.{IsFree, next_serial, phase_needs, phase_own, phase_later, MakesNoLater}
 use Rattle.sound_runs.proofs.PhasesKeep.{phase_stays, phase_goes_on}
 
 -- what another actor does leaves an actor's part
@@ -42,33 +47,37 @@ module _ (a b : ℕ) (w v : World) (l : Later (by_actor a) w v) (apart : eqb b a
     hold = λ h own lt. l.fresh h (rw own apart) (f.hold h own lt);
   }
 
-  running_stays : (serial number : ℕ) (o : Option Program) → RunningKnows w b serial number o → RunningKnows v b serial number o
+  standing_stays : (op : OpId) → eqb op.actor a ≡ false → (serial : ℕ) (at : Standing Program) → StandingKnows w op serial at
+      → StandingKnows v op serial at
+  standing_stays op other serial (Goes p) k = phase_stays a w v l op other serial p.command p.phase k
+  standing_stays op other serial Left k = tt
+  standing_stays op other serial NoRoom k = tt
+
+  running_stays : (serial number : ℕ) (o : Option (Running Program)) → RunningKnows w b serial number o → RunningKnows v b serial number o
   running_stays serial number None k = tt
-  running_stays serial number (Some p) k = record {
+  running_stays serial number (Some r) k = record {
     own = k.own;
     last = k.last;
     is_actor = k.is_actor;
-    served = k.served;
-    phase = phase_stays a w v l p.op (rw k.own apart) serial p.command p.phase k.phase;
+    at = standing_stays r.op (rw k.own apart) serial r.at k.at;
   }
 
-  actor_stays : (st : Actor) → ActorSound w b st → ActorSound v b st
+  actor_stays : (st : Actor Program) → ActorSound w b st → ActorSound v b st
   actor_stays st s = record {
-    fresh = λ one. fresh_stays st.serial st.number (s.fresh one);
+    fresh = λ one. fresh_stays st.memory.serial st.number (s.fresh one);
     few_made = s.few_made;
     few_begun = s.few_begun;
-    running = running_stays st.serial st.number st.running s.running;
+    running = running_stays st.memory.serial st.number st.running s.running;
   }
 
 serial_grows : (serial : ℕ) (x : AnyReply) → serial ≤ next_serial serial x
 serial_grows serial x = grind arith
 
 -- a running command's transaction
-module _ (m : WorldState) (g : Ghost) (s : AllSound m g) (p : Program) (is : (m.actors p.op.actor).running ≡ Some p) (q : AnyReq)
-    (ask : phase_ask p.op (object_number p.op.actor (m.actors p.op.actor).serial) p.command p.phase ≡ Some q) where
+module _ (m : WorldState Program) (g : Ghost) (s : AllSound m g) (op : OpId) (q : AnyReq) (p : Program) (by : IsAsked m op q p) where
   -- its actor, the world before and after, and what is said to it
-  abbrev st : Actor
-  st = m.actors p.op.actor
+  abbrev st : Actor Program
+  st = m.actors op.actor
 
   abbrev w : World
   w = world_of m g
@@ -79,72 +88,96 @@ module _ (m : WorldState) (g : Ghost) (s : AllSound m g) (p : Program) (is : (m.
   abbrev x : AnyReply
   x = store_reply m.store q
 
-  actor : ActorSound w p.op.actor st
-  actor = s.actors p.op.actor
+  actor : ActorSound w op.actor st
+  actor = s.actors op.actor
 
-  knows : Knows w p.op.actor st.serial st.number p
-  knows = rw is at actor.running
+  knows : Knows w op.actor st.memory.serial st.number record { op = op; at = Goes p }
+  knows = rw by.is at actor.running
 
-  few : st.serial < 2 ^ 32
+  few : st.memory.serial < 2 ^ 32
   few = omega (arith, actor.few_made, actor.few_begun)
 
-  few_made : st.serial ≤ p.op.number + 1
+  few_made : st.memory.serial ≤ op.number + 1
   few_made = rw knows.last actor.few_made
 
-  fresh : IsFresh w p.op.actor st.serial st.number
+  fresh : IsFresh w op.actor st.memory.serial st.number
   fresh = actor.fresh knows.is_actor.0
 
-  free : IsFree w (object_number p.op.actor st.serial)
-  free = (fresh.file st.serial (omega arith) few, fresh.dir st.serial (omega arith) few)
+  free : IsFree w (object_number op.actor st.memory.serial)
+  free = (fresh.file st.memory.serial (omega arith) few, fresh.dir st.memory.serial (omega arith) few)
 
   -- what it asks needs no more than it knows
   pub asks_what_it_needs : Needs w q
-  asks_what_it_needs = rw ask at (phase_needs w p.op (object_number p.op.actor st.serial) free st.serial p.command p.phase knows.phase)
+  asks_what_it_needs =
+      rw by.ask at (phase_needs w op (object_number op.actor st.memory.serial) free st.memory.serial p.command p.phase knows.at)
 
   -- what it asks touches its actor's own alone
-  pub touches_its_own : Within (touched_by q) (by_actor p.op.actor)
-  touches_its_own = rw ask at (phase_own p.op st.serial few w p.command p.phase knows.phase)
+  pub touches_its_own : Within (touched_by q) (by_actor op.actor)
+  touches_its_own = rw by.ask at (phase_own op st.memory.serial few w p.command p.phase knows.at)
 
-  kept : Kept w v q
+  pub kept : Kept w v q
   kept = row_kept w s.sound q asks_what_it_needs
 
-  later : Later (by_actor p.op.actor) w v
-  later = weaken (touched_by q) (by_actor p.op.actor) w v touches_its_own kept.later
+  later : Later (by_actor op.actor) w v
+  later = weaken (touched_by q) (by_actor op.actor) w v touches_its_own kept.later
 
-  none_later : MakesNoLater (touched_by q) p.op (next_serial st.serial x) × (next_serial st.serial x ≤ p.op.number + 1)
-  none_later = (rw ask at (phase_later w v p.op st.serial few_made p.command p.phase knows.phase)) kept
+  none_later : MakesNoLater (touched_by q) op (next_serial st.memory.serial x) × (next_serial st.memory.serial x ≤ op.number + 1)
+  none_later = (rw by.ask at (phase_later w v op st.memory.serial few_made p.command p.phase knows.at)) kept
 
-  goes_on : PhaseKnows v p.op (next_serial st.serial x) p.command
-      (phase_hear (request_place m.counts q) p.op (object_number p.op.actor st.serial) p.command p.phase x)
-  goes_on = (rw ask at (phase_goes_on w v p.op st.serial few (request_place m.counts q) p.command p.phase knows.phase)) kept
+  goes_on : PhaseKnows v op (next_serial st.memory.serial x) p.command
+      (phase_hear (request_place m.counts q) op (object_number op.actor st.memory.serial) p.command p.phase x)
+  goes_on = (rw by.ask at (phase_goes_on w v op st.memory.serial few (request_place m.counts q) p.command p.phase knows.at)) kept
 
-  acts_on : ActorSound v p.op.actor (went_on m.counts st q x)
-  acts_on = record {
+  -- the actor's state with that serial, where its command stands so
+  stands_on : (mem : Memory) (at : Standing Program) → mem.serial ≡ next_serial st.memory.serial x
+      → StandingKnows v op (next_serial st.memory.serial x) at
+      → ActorSound v op.actor record st { memory = mem; running = Some record { op = op; at = at } }
+  stands_on mem at e k = record {
     fresh = λ one. record {
-      file = λ i le lt. kept.later.unmade (File record { 0 = object_number p.op.actor i }) (none_later.0.file i le)
-          (fresh.file i (omega (arith, serial_grows st.serial x)) lt);
-      dir = λ i le lt. kept.later.unmade (Dir record { 0 = object_number p.op.actor i }) (none_later.0.dir i le)
-          (fresh.dir i (omega (arith, serial_grows st.serial x)) lt);
+      file = λ i le lt. kept.later.unmade (File record { 0 = object_number op.actor i }) (none_later.0.file i (rw (← e) le))
+          (fresh.file i (omega (arith, serial_grows st.memory.serial x, e)) lt);
+      dir = λ i le lt. kept.later.unmade (Dir record { 0 = object_number op.actor i }) (none_later.0.dir i (rw (← e) le))
+          (fresh.dir i (omega (arith, serial_grows st.memory.serial x, e)) lt);
       hold = λ h own lt. kept.later.fresh h (none_later.0.hold h (rw knows.last lt)) (fresh.hold h own lt);
     };
-    few_made = rw (← knows.last) none_later.1;
+    few_made = rw (e, ← knows.last) none_later.1;
     few_begun = actor.few_begun;
-    running = rw is record { own = refl; last = knows.last; is_actor = knows.is_actor; served = knows.served; phase = goes_on };
+    running = record {
+      own = refl;
+      last = knows.last;
+      is_actor = knows.is_actor;
+      at = subst (λ (i : ℕ). StandingKnows v op i at) (sym e) k;
+    };
   }
 
-  acted_sound : AllSound (after m (Acted p.op q x)) (ghost_next m.store g q)
-  acted_sound = record {
+  goes_heard : StandingKnows v op (next_serial st.memory.serial x) (Goes (state_heard programs.kind m.counts st.memory op p q x))
+  goes_heard = subst (λ (t : Program). PhaseKnows v op (next_serial st.memory.serial x) t.command t.phase)
+      (sym (heard_same m.counts st.memory op p q x)) goes_on
+
+  -- where it stands then, by how it heard the reply
+  heard_on : (h : Heard)
+      → StandingKnows v op (next_serial st.memory.serial x) (standing_heard programs m.counts st.memory op (Goes p) q x h)
+  heard_on hearing.Whole = goes_heard
+  heard_on hearing.Unkept = goes_heard
+  heard_on hearing.Left = tt
+
+  acts_on : (h : Heard) → ActorSound v op.actor (went_on programs m.counts st (Some record { op = op; at = Goes p }) q x h)
+  acts_on h = stands_on (memory_heard programs.kind m.counts st.memory op p q x h)
+      (standing_heard programs m.counts st.memory op (Goes p) q x h) (serial_same m.counts st.memory op p q x h) (heard_on h)
+
+  pub acted_sound : (h : Heard) → AllSound (after programs m (Own op (Acted q x h))) (ghost_next m.store g q)
+  acted_sound h = record {
     sound = kept.sound;
     root = later.made (Dir root) s.root;
-    actors = λ b. changed (λ z. ActorSound v b z) m.actors p.op.actor (went_on m.counts st q x) b (λ e. rw e acts_on)
-        (λ d. actor_stays p.op.actor b w v later (other_number b p.op.actor d) (m.actors b) (s.actors b));
+    actors = λ b. changed (λ z. ActorSound v b z) m.actors op.actor (went_on programs m.counts st st.running q x h) b
+        (λ e. rw (e, by.is) (acts_on h))
+        (λ d. actor_stays op.actor b w v later (other_number b op.actor d) (m.actors b) (s.actors b));
   }
 
 -- a command begins
-module _ (m : WorldState) (g : Ghost) (s : AllSound m g) (op : OpId) (c : Command) (can : CanBegin (m.actors op.actor) op)
-    (served : IsServed c) where
+module _ (m : WorldState Program) (g : Ghost) (s : AllSound m g) (op : OpId) (c : Command) (can : CanBegin (m.actors op.actor) op) where
   -- its actor, and the world
-  abbrev idle : Actor
+  abbrev idle : Actor Program
   idle = m.actors op.actor
 
   abbrev here : World
@@ -153,7 +186,7 @@ module _ (m : WorldState) (g : Ghost) (s : AllSound m g) (op : OpId) (c : Comman
   part : ActorSound here op.actor idle
   part = s.actors op.actor
 
-  serial_few : idle.serial ≤ op.number
+  serial_few : idle.memory.serial ≤ op.number
   serial_few = omega (arith, part.few_made, can.next)
 
   hold_free : g.given (own_hold op) ≡ None
@@ -161,7 +194,7 @@ module _ (m : WorldState) (g : Ghost) (s : AllSound m g) (op : OpId) (c : Comman
 
   -- what a command knows as it begins
   abbrev Starts : Command → Type 0
-  Starts c = PhaseKnows here op idle.serial c (first_phase c)
+  Starts c = PhaseKnows here op idle.memory.serial c (first_phase c)
 
   starts : (c : Command) → Starts c
   starts (commands.Look p) = (s.root, hold_free, serial_few, refl)
@@ -177,11 +210,11 @@ module _ (m : WorldState) (g : Ghost) (s : AllSound m g) (op : OpId) (c : Comman
   starts (commands.Rename (k ∷ p) (n ∷ to)) = (s.root, hold_free, serial_few, refl)
   starts _ = refl
 
-  -- the actor's state once the op runs, in that phase
-  abbrev runs_in : Phase → Actor
-  runs_in at = record idle { number = op.number; running = Some record { op = op; command = c; phase = at } }
+  -- the actor's state once the op runs, and stands so
+  abbrev runs_at : Standing Program → Actor Program
+  runs_at at = record idle { number = op.number; running = Some record { op = op; at = at } }
 
-  begins : (at : Phase) → PhaseKnows here op idle.serial c at → ActorSound here op.actor (runs_in at)
+  begins : (at : Standing Program) → StandingKnows here op idle.memory.serial at → ActorSound here op.actor (runs_at at)
   begins at knows = record {
     fresh = λ one. record {
       file = (part.fresh one).file;
@@ -190,51 +223,56 @@ module _ (m : WorldState) (g : Ghost) (s : AllSound m g) (op : OpId) (c : Comman
     };
     few_made = omega (arith, serial_few);
     few_begun = can.few;
-    running = record { own = refl; last = refl; is_actor = can.is_actor; served = served; phase = knows };
+    running = record { own = refl; last = refl; is_actor = can.is_actor; at = knows };
   }
 
-  begins_sound : (at : Phase) → PhaseKnows here op idle.serial c at → AllSound (with_actor m op.actor (runs_in at)) g
+  begins_sound : (at : Standing Program) → StandingKnows here op idle.memory.serial at → AllSound (with_actor m op.actor (runs_at at)) g
   begins_sound at knows = record {
     sound = s.sound;
     root = s.root;
-    actors = λ b. changed (λ z. ActorSound here b z) m.actors op.actor (runs_in at) b (λ e. rw e (begins at knows)) (λ d. s.actors b);
+    actors = λ b. changed (λ z. ActorSound here b z) m.actors op.actor (runs_at at) b (λ e. rw e (begins at knows)) (λ d. s.actors b);
   }
 
-  began_sound : AllSound (after m (Began op c)) g
-  began_sound = begins_sound (first_phase c) (starts c)
+  began_sound : AllSound (after programs m (Own op (Began c))) g
+  began_sound = begins_sound (Goes (started c)) (starts c)
 
   -- a refused op has its answer, of which nothing is owed
-  refused_sound : AllSound (after m (NotBegun op c)) g
-  refused_sound = begins_sound (End no_room) refl
+  refused_sound : AllSound (after programs m (Own op (NotBegun c))) g
+  refused_sound = begins_sound NoRoom tt
 
 -- an actor has no running command any more
-module _ (m : WorldState) (g : Ghost) (s : AllSound m g) (a : ℕ) where
+module _ (m : WorldState Program) (g : Ghost) (s : AllSound m g) (a : ℕ) where
   rests : (stopped : Bool) → ActorSound (world_of m g) a record (m.actors a) { running = None; stopped = stopped }
   rests stopped = let part : ActorSound (world_of m g) a (m.actors a) = s.actors a
       in record { fresh = part.fresh; few_made = part.few_made; few_begun = part.few_begun; running = tt }
 
-  rest_sound : (stopped : Bool) → AllSound (with_actor m a record (m.actors a) { running = None; stopped = stopped }) g
-  rest_sound stopped = record {
+  ends_at : (o : Option (Running Program)) → ActorSound (world_of m g) a (ended programs m.counts (m.actors a) o)
+  ends_at None = s.actors a
+  ends_at (Some r) = subst (λ (mem : Memory). ActorSound (world_of m g) a record (m.actors a) { memory = mem; running = None })
+      (sym (end_same m.counts (m.actors a).memory r.op r.at)) (rests (m.actors a).stopped)
+
+  stands_now : (state : Actor Program) → ActorSound (world_of m g) a state → AllSound (with_actor m a state) g
+  stands_now state part = record {
     sound = s.sound;
     root = s.root;
-    actors = λ b. changed (λ z. ActorSound (world_of m g) b z) m.actors a _ b (λ e. rw e (rests stopped)) (λ d. s.actors b);
+    actors = λ b. changed (λ z. ActorSound (world_of m g) b z) m.actors a state b (λ e. rw e part) (λ d. s.actors b);
   }
 
-acts_sound : (m : WorldState) (g : Ghost) (op : OpId) (q : AnyReq) (x : AnyReply) → AllSound m g → May m (Acted op q x)
-    → AllSound (after m (Acted op q x)) (ghost_next m.store g q)
-acts_sound m g op q x s can =
-    let by : (p : Program) × Asks m op q p = asks_by m op q can.0 in
-    rw can.1 (subst (λ (o : OpId). AllSound (after m (Acted o q (store_reply m.store q))) (ghost_next m.store g q)) by.1.same
-    (acted_sound m g s by.0 by.1.is q by.1.ask))
+acts_sound : (m : WorldState Program) (g : Ghost) (op : OpId) (q : AnyReq) (x : AnyReply) (h : Heard) → AllSound m g
+    → May programs m (Own op (Acted q x h)) → AllSound (after programs m (Own op (Acted q x h))) (ghost_next m.store g q)
+acts_sound m g op q x h s can =
+    let by : (p : Program) × IsAsked m op q p = asked_by_op m op q can.0 in
+    rw can.1 (acted_sound m g s op q by.0 by.1 h)
 
 -- each event that may happen keeps what is so at every moment
-pub event_sound : (m : WorldState) (g : Ghost) (e : Event) → AllSound m g → May m e → AllSound (after m e) (ghost_after m g e)
-event_sound m g (Began op c) s can = began_sound m g s op c can.0 can.1
-event_sound m g (NotBegun op c) s can = refused_sound m g s op c can.0 can.1
-event_sound m g (Acted op q x) s can = acts_sound m g op q x s can
-event_sound m g (Ended op a) s can = rest_sound m g s op.actor (m.actors op.actor).stopped
-event_sound m g (Stopped op) s can = rest_sound m g s op.actor true
-event_sound m g (Failed op a) s can = rest_sound m g s op.actor (m.actors op.actor).stopped
+pub event_sound : (m : WorldState Program) (g : Ghost) (e : Event) → AllSound m g → May programs m e
+    → AllSound (after programs m e) (ghost_after m.store g e)
+event_sound m g (Own op (Began c)) s can = began_sound m g s op c can.0.0
+event_sound m g (Own op (NotBegun c)) s can = refused_sound m g s op c can.0.0
+event_sound m g (Own op (Acted q x h)) s can = acts_sound m g op q x h s can
+event_sound m g (Own op (Ended a)) s can = stands_now m g s op.actor _ (ends_at m g s op.actor (m.actors op.actor).running)
+event_sound m g (Own op Stopped) s can = stands_now m g s op.actor _ (rests m g s op.actor true)
+event_sound m g (Own op (Failed a)) s can = stands_now m g s op.actor _ (ends_at m g s op.actor (m.actors op.actor).running)
 event_sound m g Dumped s can = s
 
 -- it is so before anything was done

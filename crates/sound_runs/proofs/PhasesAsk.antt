@@ -1,5 +1,5 @@
 -- what a running command asks: it needs no more than is known, and touches its own alone
-use Rattle.std.proofs.Common.{◌≡◌, ◌≢◌, ℕ, ◌+◌, ◌<◌, ◌≤◌, ◌^◌, List, [], ◌∷◌, true, false, Option, Some, None, refl, arith}
+use Rattle.std.proofs.Common.{◌≡◌, ◌≢◌, ℕ, ◌+◌, ◌<◌, ◌≤◌, ◌^◌, if◌then◌else◌, List, [], ◌∷◌, true, false, Option, Some, None, refl, arith}
 use Rattle.tect_ids.specs.declared.ids.DirId.{DirId}
 use Rattle.tect_ids.specs.declared.ids.Hold.{Hold}
 use Rattle.tect_ids.specs.declared.ids.Node.{Node}
@@ -12,6 +12,7 @@ use Rattle.tect_ids.proofs.KeyTests.{keys}
 use Rattle.store_rules.specs.declared.names.NameReq.TheVariants as names
 use Rattle.store_rules.specs.declared.any.AnyReq.{AnyReq}
 use Rattle.store_rules.specs.declared.any.AnyReq.TheVariants as any
+use Rattle.store_rules.specs.declared.any.AnyReply.{AnyReply}
 use Rattle.store_rules.specs.Names.{key_in}
 use Rattle.store_rules.specs.Store.{store_reply}
 use Rattle.store_rules.specs.Views.{is_made}
@@ -19,13 +20,16 @@ use Rattle.program_rules.specs.declared.program.Phase.{Phase}
 use Rattle.program_rules.specs.declared.program.Phase.TheVariants.{Walk, Bind, Grant, Swap, Release, End}
 use Rattle.program_rules.specs.Paths.{last_name}
 use Rattle.program_rules.specs.Programs.{object_number, own_hold, new_path, at_last, grant_ask, first_ask, phase_ask}
-use Rattle.world_runs.specs.Moments.{next_serial}
 use Rattle.store_world.specs.Worlds.{World}
 use Rattle.store_world.specs.Sound.{was_made, IsGranted}
 use Rattle.store_world.specs.Later.{actor_of, Touched, by_actor, Within}
 use Rattle.store_world.specs.Requests.{Needs, GrantNeeds, Kept, touched_by, touches_nothing, touches_hold, touches_new, touches_named}
 use Rattle.sound_runs.specs.Known.{PhaseKnows}
 use Rattle.sound_runs.proofs.Refusals.{makes, makes_none}
+
+-- the serial after a reply
+abbrev pub next_serial : ℕ → AnyReply → ℕ
+next_serial serial x = if is_made x then serial + 1 else serial
 
 -- the request that is asked, if there is one, is such
 abbrev pub OfAsked : (AnyReq → Type 0) → Option AnyReq → Type 0
@@ -46,14 +50,14 @@ module _ (w : World) (op : OpId) (number : ℕ) (free : IsFree w number) where
   first_needs d (commands.Create []) made fresh = tt
   first_needs d (commands.Create (n ∷ ns)) made fresh = (free.0, fresh, made)
   first_needs d (commands.Mkdir []) made fresh = tt
-  first_needs d (commands.Mkdir (n ∷ ns)) made fresh = (free.1, fresh, made)
+  first_needs d (commands.Mkdir (n ∷ ns)) made fresh = (free.1, fresh, made, refl)
   first_needs d (commands.Delete []) made fresh = tt
   first_needs d (commands.Delete (n ∷ ns)) made fresh = tt
   first_needs d (commands.Rename [] to) made fresh = tt
   first_needs d (commands.Rename (n ∷ ns) to) made fresh = tt
   first_needs d _ made fresh = tt
 
-  grant_needs : (p : List (List ℕ)) (k : Key) (n : Node) → GrantNeeds w (own_hold op) k
+  grant_needs : (p : List (List ℕ)) (k : Key) (n : Node) → GrantNeeds w n (own_hold op) k
       → OfAsked (Needs w) (at_last p (λ to. grant_ask n (own_hold op) (key_in k.dir to)))
   grant_needs [] k n needs = tt
   grant_needs (m ∷ ms) k (Dir d) needs = needs
@@ -69,7 +73,7 @@ module _ (w : World) (op : OpId) (number : ℕ) (free : IsFree w number) where
   phase_needs serial c (Walk d []) k = first_needs d c k.0 k.1
   phase_needs serial c (Walk d (n ∷ ns)) k = tt
   phase_needs serial c (Bind key n o) k = (k.0, k.1)
-  phase_needs serial c (Grant key n) k = grant_needs (new_path c) key n (k.1, k.0)
+  phase_needs serial c (Grant key n) k = grant_needs (new_path c) key n (k.1, k.0, k.4)
   phase_needs serial c (Swap key n) k = swap_needs (new_path c) key n k.0 k.1
   phase_needs serial c (Release (Dir d) hold old a) k = k.0
   phase_needs serial c (Release (File f) hold old a) k = k.0

@@ -34,7 +34,6 @@ use Rattle.program_rules.specs.Paths.{last_name}
 use Rattle.program_rules.specs.Programs.{object_number, own_hold, new_path, at_last, grant_ask, release_ask, phase_ask, phase_hear, refusal}
 use Rattle.program_rules.specs.Programs.{dir_refusal, walked, looked, checked, entries_heard, unbound_heard, source_heard, bound_heard}
 use Rattle.program_rules.specs.Programs.{swapped_heard, then_release}
-use Rattle.world_runs.specs.Moments.{next_serial}
 use Rattle.store_world.specs.Worlds.{World}
 use Rattle.store_world.specs.Sound.{was_made, IsGranted}
 use Rattle.store_world.specs.Later.{actor_of, Later, Touched, by_actor}
@@ -42,7 +41,7 @@ use Rattle.store_world.specs.Requests.{Kept, touched_by, FoundTaught, OldSpent, 
 use Rattle.sound_runs.specs.Known.{PhaseKnows, is_whole, has_name, is_odd, new_key}
 use Rattle.sound_runs.proofs.Refusals.{look_not_odd, check_not_odd, list_not_odd, bind_not_odd, swap_not_odd, unbind_not_odd}
 use Rattle.sound_runs.proofs.Refusals.{dir_grant_not_odd, file_grant_not_odd, makes_none}
-use Rattle.sound_runs.proofs.PhasesAsk.{OfAsked, own_file, own_dir}
+use Rattle.sound_runs.proofs.PhasesAsk.{OfAsked, next_serial, own_file, own_dir}
 
 old_stays : (by : Touched) (w v : World) → Later by w v → (old : Option Replaced) → OldSpent w old → OldSpent v old
 old_stays by w v l None k = tt
@@ -53,7 +52,8 @@ pub phase_stays : (a : ℕ) (w v : World) → Later (by_actor a) w v → (op : O
     → (serial : ℕ) (c : Command) (at : Phase) → PhaseKnows w op serial c at → PhaseKnows v op serial c at
 phase_stays a w v l op other serial c (Walk d ns) k = (l.made (Dir d) k.0, l.fresh (own_hold op) other k.1, k.2, k.3)
 phase_stays a w v l op other serial c (Bind key n o) k = (l.live (own_hold op) _ other k.0 refl, l.unnamed n (rw k.2 other) k.1, k.2)
-phase_stays a w v l op other serial c (Grant key n) k = (l.made (Dir key.dir) k.0, l.fresh (own_hold op) other k.1, k.2, k.3)
+phase_stays a w v l op other serial c (Grant key n) k =
+    (l.made (Dir key.dir) k.0, l.fresh (own_hold op) other k.1, k.2, k.3, l.named n k.4)
 phase_stays a w v l op other serial c (Swap key n) k = (l.live (own_hold op) _ other k.0 refl, k.1, k.2)
 phase_stays a w v l op other serial c (Release n hold old x) k = (l.spent hold k.0, old_stays (by_actor a) w v l old k.1, k.2)
 phase_stays a w v l op other serial c (End x) k = k
@@ -63,7 +63,7 @@ module _ (v : World) (op : OpId) (serial : ℕ) (c : Command) (place : Place) (x
   walked_on : (k : Key) (ns : List (List ℕ)) (o : Option Node) → (o ≡ None → is_odd (refusal place k x) ≡ false) → FoundTaught v o
       → v.ghost.given (own_hold op) ≡ None → serial ≤ op.number → is_whole c ≡ true → PhaseKnows v op serial c (walked place k ns x o)
   walked_on k ns None plain t fresh le whole = plain refl
-  walked_on k ns (Some (Dir d)) plain t fresh le whole = (t, fresh, le, whole)
+  walked_on k ns (Some (Dir d)) plain t fresh le whole = (t.0, fresh, le, whole)
   walked_on k ns (Some (File f)) plain t fresh le whole = refl
 
   looked_on : (k : Key) (o : Option Node) → (o ≡ None → is_odd (refusal place k x) ≡ false) → PhaseKnows v op serial c (looked place k x o)
@@ -90,15 +90,16 @@ module _ (v : World) (op : OpId) (serial : ℕ) (c : Command) (place : Place) (x
   unbound_on k None plain t = plain refl
   unbound_on k (Some p) plain t = (t, tt, refl)
 
-  source_on : (k : Key) (o : Option Node) → (o ≡ None → is_odd (refusal place k x) ≡ false) → was_made v.ghost (Dir k.dir) ≡ true
+  source_on : (k : Key) (o : Option Node) → (o ≡ None → is_odd (refusal place k x) ≡ false) → FoundTaught v o
+      → was_made v.ghost (Dir k.dir) ≡ true
       → v.ghost.given (own_hold op) ≡ None
       → has_name (new_path c) ≡ true → PhaseKnows v op serial c (source_heard place k (last_name (new_path c)) x o)
-  source_on k None plain made fresh whole = plain refl
-  source_on k (Some n) plain made fresh whole = at (name_eq k.name (last_name (new_path c))) refl
+  source_on k None plain t made fresh whole = plain refl
+  source_on k (Some n) plain t made fresh whole = at (name_eq k.name (last_name (new_path c))) refl
     where
       at : (b : Bool) → name_eq k.name (last_name (new_path c)) ≡ b → PhaseKnows v op serial c (if b then End answers.Done else Grant k n)
       at true e = refl
-      at false e = (made, fresh, grind (arith, name_eq_cases), whole)
+      at false e = (made, fresh, grind (arith, name_eq_cases), whole, t.1)
 
   then_on : (old : Option Replaced) (a : Answer) → OldSpent v old → is_odd a ≡ false → PhaseKnows v op serial c (then_release old a)
   then_on None a t plain = plain
@@ -179,7 +180,7 @@ module _ (w v : World) (op : OpId) (serial : ℕ) (few : serial < 2 ^ 32) (place
       let q : AnyReq = any.Name (names.Look key) in
       let named : has_name to ≡ true = k.3 in
       source_on v op (later q) (commands.Rename (n ∷ ns) to) place (said q) key (as_found (said q)) (look_not_odd w.store place key key)
-      (kept.later.made (Dir d) k.0) (kept.later.fresh (own_hold op) refl k.1) named
+      kept.taught (kept.later.made (Dir d) k.0) (kept.later.fresh (own_hold op) refl k.1) named
   first_goes_on _ d k = tt
 
   walk_goes_on : (c : Command) (d : DirId) (n : List ℕ) (ns : List (List ℕ)) → PhaseKnows w op serial c (Walk d (n ∷ ns))

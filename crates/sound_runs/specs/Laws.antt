@@ -4,42 +4,52 @@ use Rattle.tect_ids.specs.declared.ids.Counts.{Counts}
 use Rattle.tect_ids.specs.declared.ids.OpId.{OpId}
 use Rattle.tect_ids.specs.declared.ids.Place.{Place}
 use Rattle.tect_ids.specs.declared.answer.Answer.TheVariants as answers
+use Rattle.program_forms.specs.declared.standing.Standing.TheVariants.{Left}
 use Rattle.program_rules.specs.declared.program.Program.{Program}
+use Rattle.program_rules.specs.Served.{programs}
 use Rattle.world_runs.specs.declared.event.Event.{Event}
-use Rattle.world_runs.specs.Moments.{Actor, IsWorldRun, moment, AtEachMoment, running, asked, answered}
-use Rattle.claim_words.specs.Sound.{IsSound}
+use Rattle.world_runs.specs.Actors.{Actor, Running}
+use Rattle.world_runs.specs.Moments.{IsWorldRun, moment, running, asked, answered}
 use Rattle.world_runs.specs.Standing.{IsLastBegun}
+use Rattle.claim_words.specs.Sound.{IsSound, AfterEachFront}
+use Rattle.claim_words.specs.Granted.{GrantedHoldsAreListed}
 
--- at every moment of every run the store is sound
+-- after each front of every run the store is sound
 abbrev pub EveryMomentIsSound : Type 0
-EveryMomentIsSound = (counts : Counts) (events : List Event) → IsWorldRun counts events → AtEachMoment IsSound counts events
+EveryMomentIsSound = (counts : Counts) (events : List Event) → IsWorldRun programs counts events → AfterEachFront IsSound events
+
+-- and each hold that was granted, and neither bound nor given up, is bound nowhere and listed by its object
+abbrev pub EveryGrantedHoldIsListed : Type 0
+EveryGrantedHoldIsListed =
+    (counts : Counts) (events : List Event) → IsWorldRun programs counts events → AfterEachFront GrantedHoldsAreListed events
 
 -- no command comes to the answer that a reply was odd
 abbrev pub NoRunAnswersOdd : Type 0
 NoRunAnswersOdd =
-    (counts : Counts) (events : List Event) → IsWorldRun counts events
-    → (op : OpId) (place : Place) → answered (moment counts events) op ≢ Some (answers.Odd place)
+    (counts : Counts) (events : List Event) → IsWorldRun programs counts events
+    → (op : OpId) (place : Place) → answered programs (moment programs counts events) op ≢ Some (answers.Odd place)
 
--- a command that runs has a next request or its answer
+-- a command that runs, and heard its last reply, has a next request or its answer
 abbrev pub RunningGoesOn : Type 0
 RunningGoesOn =
-    (counts : Counts) (events : List Event) → IsWorldRun counts events → (op : OpId) (p : Program)
-    → running (moment counts events) op ≡ Some p
-    → (is_some (asked (moment counts events) op) || is_some (answered (moment counts events) op)) ≡ true
+    (counts : Counts) (events : List Event) → IsWorldRun programs counts events → (op : OpId) (r : Running Program)
+    → running (moment programs counts events) op ≡ Some r → r.at ≢ Left
+    → (is_some (asked programs (moment programs counts events) op) || is_some (answered programs (moment programs counts events) op)) ≡ true
 
 -- an actor makes at most one object for each command that it begins, and it begins fewer than 2^31
-pub record HasSmallNumbers (actor : Actor) : Type 0 where
-  pub serial_small : actor.serial ≤ actor.number + 1
+pub record HasSmallNumbers (actor : Actor Program) : Type 0 where
+  pub serial_small : actor.memory.serial ≤ actor.number + 1
   pub number_small : actor.number < 2 ^ 31
 
 -- so it is of each actor after every run
 abbrev pub NumbersStaySmall : Type 0
 NumbersStaySmall =
-    (counts : Counts) (events : List Event) → IsWorldRun counts events → (a : ℕ) → HasSmallNumbers ((moment counts events).actors a)
+    (counts : Counts) (events : List Event) → IsWorldRun programs counts events → (a : ℕ)
+    → HasSmallNumbers ((moment programs counts events).actors a)
 
--- so it is of each running program after every run
+-- so it is of each running command after every run
 abbrev pub RunningIsLastBegun : Type 0
 RunningIsLastBegun =
-    (counts : Counts) (events : List Event) → IsWorldRun counts events → (a : ℕ) (p : Program)
-    → ((moment counts events).actors a).running ≡ Some p
-    → IsLastBegun a ((moment counts events).actors a) p
+    (counts : Counts) (events : List Event) → IsWorldRun programs counts events → (a : ℕ) (r : Running Program)
+    → ((moment programs counts events).actors a).running ≡ Some r
+    → IsLastBegun a ((moment programs counts events).actors a) r

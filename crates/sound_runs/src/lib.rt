@@ -1,12 +1,20 @@
-//! Laws of every run of the world: each moment is sound, no command answers that a reply was odd, each running command
-//! goes on, and the numbers of actors stay small. Nothing here is called: each function's contract is a law.
+//! Laws of every run of the world with the commands' own programs: each moment is sound, each hold that was granted is listed until it
+//! is bound or given up, no command answers that a reply was odd, each running command goes on, and the numbers of actors stay small.
+//! Nothing here is called: each function's contract is a law.
 #![tactic(auto)]
 
-ghost use Rattle.sound_runs.specs.Laws.{EveryMomentIsSound, NoRunAnswersOdd, NumbersStaySmall, RunningGoesOn, RunningIsLastBegun};
+ghost use Rattle.sound_runs.specs.Laws.{EveryMomentIsSound, EveryGrantedHoldIsListed, NoRunAnswersOdd, NumbersStaySmall};
+ghost use Rattle.sound_runs.specs.Laws.{RunningGoesOn, RunningIsLastBegun};
 
 /// At every moment of every run the store is sound.
 pub fn every_moment_is_sound()
     ensures { EveryMomentIsSound }
+{}
+
+/// At every moment of every run a hold that was granted, and neither bound nor given up, is bound nowhere, and its object lists it with
+/// its key, unless the key's directory stands no more.
+pub fn every_granted_hold_is_listed()
+    ensures { EveryGrantedHoldIsListed }
 {}
 
 /// No command of a run comes to the answer that a reply was odd.
@@ -14,7 +22,7 @@ pub fn no_run_answers_odd()
     ensures { NoRunAnswersOdd }
 {}
 
-/// A command that runs has a next request or its answer.
+/// A command that runs, and heard its last reply, has a next request or its answer.
 pub fn running_goes_on()
     ensures { RunningGoesOn }
 {}
