@@ -1,5 +1,5 @@
 -- the laws of every run
-use Rattle.std.proofs.Common.{◌≡◌, ◌≢◌, ◌≤◌, ◌<◌, ◌+◌, ◌^◌, ◌||◌, ℕ, List, [], ◌∷◌, true, false, take, is_some, Option, Some, None, refl}
+use Rattle.std.proofs.Common.{◌≡◌, ◌≢◌, ◌||◌, ℕ, List, [], ◌∷◌, true, false, take, is_some, Option, Some, None, refl}
 use Rattle.std.proofs.Common.{subst, arith}
 use Rattle.tect_ids.specs.declared.ids.Counts.{Counts}
 use Rattle.tect_ids.specs.declared.ids.OpId.{OpId}
@@ -19,20 +19,18 @@ use Rattle.program_rules.specs.Programs.{object_number, phase_ask, phase_answer}
 use Rattle.program_rules.specs.Served.{programs, does_by}
 use Rattle.world_runs.specs.declared.event.Event.{Event}
 use Rattle.world_runs.specs.declared.event.Event.TheVariants.{Own, Dumped}
-use Rattle.world_runs.specs.Actors.{Actor, Running, program_answer, standing_does, asked_in, answer_in}
-use Rattle.world_runs.specs.Moments.{WorldState, RunFrom, IsWorldRun, moment, after, after_all, opening, running, asked}
+use Rattle.world_runs.specs.Actors.{Running, program_answer, standing_does, asked_in, answer_in}
+use Rattle.world_runs.specs.Moments.{WorldState, RunFrom, IsWorldRun, moment, after, after_all, opening, running}
 use Rattle.world_runs.proofs.Fronts.{front_runs}
 use Rattle.world_runs.proofs.Owns.{store_is_after}
 use Rattle.claim_words.specs.Sound.{IsSound, IsSoundStore}
 use Rattle.store_world.specs.Worlds.{World, Ghost, opening_ghost}
 use Rattle.store_world.specs.Sound.{Sound}
-use Rattle.store_world.specs.Later.{Within, by_actor}
-use Rattle.store_world.specs.Requests.{Needs, touched_by}
 use Rattle.sound_runs.specs.Pasts.{ghosts_after, ghosts, ghost_after, world_of, world}
 use Rattle.sound_runs.specs.Known.{PhaseKnows, StandingKnows, Knows, AllSound, is_odd}
-use Rattle.sound_runs.specs.Laws.{EveryMomentIsSound, NoRunAnswersOdd, RunningGoesOn, HasSmallNumbers, NumbersStaySmall, RunningIsLastBegun}
-use Rattle.sound_runs.proofs.Turns.{does_same, IsAsked, asked_by_op, RunsAs, runs_as}
-use Rattle.sound_runs.proofs.MomentsKeep.{event_sound, opening_all_sound, asks_what_it_needs, touches_its_own}
+use Rattle.sound_runs.specs.Laws.{EveryMomentIsSound, NoRunAnswersOdd, RunningGoesOn, NumbersStaySmall, RunningIsLastBegun}
+use Rattle.sound_runs.proofs.Turns.{does_same, RunsAs, runs_as}
+use Rattle.sound_runs.proofs.MomentsKeep.{event_sound, opening_all_sound}
 
 -- a sound world's store is sound
 pub store_sound : (w : World) → Sound w → IsSoundStore w.store
@@ -94,23 +92,6 @@ running_is_last_begun counts events run a r is =
     ((moment programs counts events).actors a).number r
     = knows_of (moment programs counts events) (ghosts events) (run_all_sound counts events run) a r is in
     record { own = k.own; last = k.last; is_actor = k.is_actor }
-
--- so one more serial and each object's number fit
-pub serial_fits : (actor : Actor Program) → HasSmallNumbers actor → actor.memory.serial + 1 < 2 ^ 32
-serial_fits actor small = omega (arith, small.serial_small, small.number_small)
-
-pub object_fits : (a : ℕ) (actor : Actor Program) → a ≤ 65 → HasSmallNumbers actor → object_number a actor.memory.serial < 2 ^ 64
-object_fits a actor few small = omega (arith, few, small.serial_small, small.number_small)
-
--- what is asked in a sound moment needs no more than is known
-pub asked_needs : (m : WorldState Program) (g : Ghost) → AllSound m g → (op : OpId) (q : AnyReq) → asked programs m op ≡ Some q
-    → Needs (world_of m g) q
-asked_needs m g s op q e = let by : (p : Program) × IsAsked m op q p = asked_by_op m op q e in asks_what_it_needs m g s op q by.0 by.1
-
--- and touches its actor's own alone
-pub asked_touches : (m : WorldState Program) (g : Ghost) → AllSound m g → (op : OpId) (q : AnyReq) → asked programs m op ≡ Some q
-    → Within (touched_by q) (by_actor op.actor)
-asked_touches m g s op q e = let by : (p : Program) × IsAsked m op q p = asked_by_op m op q e in touches_its_own m g s op q by.0 by.1
 
 -- an answer that a command has come to is not odd: it is that of its end, or where there is neither request nor answer, that there was
 -- no name

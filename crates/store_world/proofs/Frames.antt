@@ -20,19 +20,6 @@ later_same by w = record {
   spent = λ h e. e;
 }
 
--- one thing and then another
-pub later_then : (by : Touched) (w v u : World) → Later by w v → Later by v u → Later by w u
-later_then by w v u l m = record {
-  made = λ n e. m.made n (l.made n e);
-  unmade = λ n o e. m.unmade n o (l.unmade n o e);
-  named = λ n e. m.named n (l.named n e);
-  unnamed = λ n o e. m.unnamed n o (l.unnamed n o e);
-  fresh = λ h o e. m.fresh h o (l.fresh h o e);
-  live = λ h g o e p. m.live h g o (l.live h g o e p) p;
-  kept = λ h p e. m.kept h p (l.kept h p e);
-  spent = λ h e. m.spent h (l.spent h e);
-}
-
 -- where more may be touched, less is said
 pub weaken : (t u : Touched) (w v : World) → Within t u → Later t w v → Later u w v
 weaken t u w v i l = record {
