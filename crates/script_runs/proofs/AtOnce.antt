@@ -1,25 +1,22 @@
 -- events after which each op that has come to its answer has ended
-use Rattle.std.proofs.Common.{◌≡◌, ◌≤◌, ◌+◌, ℕ, zero, suc, Bool, true, false, Option, Some, None, List, [], ◌∷◌, ◌++◌, refl, sym, subst}
+use Rattle.std.proofs.Common.{◌≡◌, ◌≤◌, ◌+◌, ℕ, zero, suc, true, false, Option, Some, None, List, [], ◌∷◌, ◌++◌, refl, sym, subst}
 use Rattle.std.proofs.Common.{arith, take}
 use Rattle.tect_ids.specs.declared.ids.Counts.{Counts}
 use Rattle.tect_ids.specs.declared.ids.OpId.{OpId}
 use Rattle.tect_ids.specs.declared.command.Command.{Command}
 use Rattle.tect_ids.specs.declared.answer.Answer.{Answer}
 use Rattle.store_rules.specs.declared.any.AnyReq.{AnyReq}
-use Rattle.store_rules.specs.declared.any.AnyReply.{AnyReply}
-use Rattle.program_forms.specs.declared.heard.Heard.{Heard}
 use Rattle.program_forms.specs.declared.standing.Standing.{Standing}
 use Rattle.program_forms.specs.declared.standing.Standing.TheVariants.{Goes, Left, NoRoom}
 use Rattle.program_forms.specs.Memories.{Memory}
 use Rattle.program_forms.specs.Kinds.{Does, Asks, Says, asked_by, Programs, turned_by, next_does}
 use Rattle.world_runs.specs.declared.event.Event.{Event}
 use Rattle.world_runs.specs.declared.event.Event.TheVariants.{Own, Dumped}
-use Rattle.world_runs.specs.declared.event.Happening.{Happening}
 use Rattle.world_runs.specs.declared.event.Happening.TheVariants.{Began, NotBegun, Acted, Ended, Stopped, Failed}
-use Rattle.world_runs.specs.Actors.{Actor, Running, is_said, standing_does, standing_ended, has_ended, asked_in, answer_in, program_ask}
+use Rattle.world_runs.specs.Actors.{Running, is_said, standing_does, standing_ended, has_ended, asked_in, answer_in, program_ask}
 use Rattle.world_runs.specs.Moments.{WorldState, May, after, after_all, RunFrom, running, does, asked, answered}
 use Rattle.world_runs.specs.Follows.{Acts, IsActOf, IsEndOf, IsBeginOf}
-use Rattle.world_runs.specs.Smooth.{EndIsNext, OwnIsPrompt, IsPrompt, EndsAtOnce}
+use Rattle.world_runs.specs.Smooth.{EndIsNext, IsPrompt, EndsAtOnce}
 use Rattle.world_runs.proofs.Prompt.{end_next-append}
 use Rattle.script_runs.specs.InTime.{only_ends}
 use Rattle.script_runs.proofs.Histories.{IsActed, act_is}

@@ -6,3 +6,8 @@ pub mod FollowOn
 pub mod AtOnce
 pub mod RunOut
 pub mod CutLines
+pub mod Fine
+pub mod SameEnds
+pub mod InTime
+pub mod Settles
+pub mod Fixed

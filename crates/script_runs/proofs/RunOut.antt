@@ -14,7 +14,6 @@ use Rattle.program_forms.specs.declared.standing.Standing.TheVariants.{Goes, NoR
 use Rattle.program_forms.specs.Kinds.{Programs}
 use Rattle.world_runs.specs.declared.event.Event.{Event}
 use Rattle.world_runs.specs.declared.event.Event.TheVariants.{Own, Dumped}
-use Rattle.world_runs.specs.declared.event.Happening.{Happening}
 use Rattle.world_runs.specs.declared.event.Happening.TheVariants.{Began, NotBegun, Acted, Ended, Stopped, Failed}
 use Rattle.world_runs.specs.Actors.{Actor, Running, CanBegin, running_op, program_of, begun, not_begun}
 use Rattle.world_runs.specs.Moments.{WorldState, May, opening, after, after_all, RunFrom, IsWorldRun, moment, running, answered}
@@ -261,7 +260,7 @@ module _ {S : Type 0} (P : Programs S) (full : List Event → ℕ → Bool) wher
           d.events,
           rest.events,
           d.next,
-          refl,
+          refl {a = d.events ++ rest.events},
           d.does,
           subst (λ (b : Busy). FollowsFrom b ls rest.events)
               (sym (busy_after m n a act d.next done)) rest.follows,
