@@ -6,29 +6,37 @@ use Rattle.tect_ids.specs.declared.ids.OpId.{OpId}
 use Rattle.tect_ids.specs.declared.ids.Place.{Place}
 use Rattle.tect_ids.specs.declared.answer.Answer.{Answer}
 use Rattle.tect_ids.specs.declared.answer.Answer.TheVariants.{Odd}
+use Rattle.program_rules.specs.declared.program.Program.{Program}
+use Rattle.program_rules.specs.Served.{programs}
 use Rattle.world_runs.specs.declared.event.Event.{Event}
-use Rattle.world_runs.specs.declared.event.Event.TheVariants.{Ended}
-use Rattle.world_runs.specs.Moments.{IsWorldRun, answered, moment, opening}
+use Rattle.world_runs.specs.declared.event.Event.TheVariants.{Own}
+use Rattle.world_runs.specs.declared.event.Happening.TheVariants.{Ended}
+use Rattle.world_runs.specs.Moments.{WorldState, May, IsWorldRun, moment, opening}
 use Rattle.world_runs.proofs.Fronts.{front_runs, may_at}
 use Rattle.sound_runs.proofs.RunsKeep.{no_run_answers_odd, sound_at_each_moment}
+use Rattle.sound_runs.proofs.Grants.{granted_at_each_moment}
 use Rattle.tree_runs.proofs.Headlines.{run_headline}
 use Rattle.run_claims.proofs.RunsShort.{each_is_short}
+use Rattle.run_claims.proofs.Complete.{is_complete}
 use Rattle.run_claims.specs.Claims.{EveryRunIsClaimed}
 
-no_end_is_odd : (counts : Counts) (history : List Event) → IsWorldRun counts history → (op : OpId) (a : Answer) (n : ℕ)
-    → slice_get history n ≡ Some (Ended op a)
+no_end_is_odd : (counts : Counts) (history : List Event) → IsWorldRun programs counts history → (op : OpId) (a : Answer) (n : ℕ)
+    → slice_get history n ≡ Some (Own op (Ended a))
     → (place : Place) → a ≢ Odd place
 no_end_is_odd counts history run op a n at place odd =
-    let front : IsWorldRun counts (take n history) = front_runs n history (opening counts) run in
-    let may : answered (moment counts (take n history)) op ≡ Some a = may_at (opening counts) history n (Ended op a) run at in
-    no_run_answers_odd counts (take n history) front op place (may ∙ ap (λ (b : Answer). Some b) odd)
+    let m : WorldState Program = moment programs counts (take n history) in
+    let front : IsWorldRun programs counts (take n history) = front_runs programs n history (opening counts) run in
+    let may : May programs m (Own op (Ended a)) = may_at programs (opening counts) history n (Own op (Ended a)) run at in
+    no_run_answers_odd counts (take n history) front op place (may.0 ∙ ap (λ (b : Answer). Some b) odd)
 
 pub every_run_is_claimed : EveryRunIsClaimed
 every_run_is_claimed counts history run limits = record {
   run = run;
   limits = limits;
   sound = sound_at_each_moment counts history run;
+  granted = granted_at_each_moment counts history run;
   answers = run_headline counts history run;
   not_odd = no_end_is_odd counts history run;
   short = each_is_short counts history run;
+  complete = is_complete counts history run limits (run_headline counts history run);
 }

@@ -1,4 +1,6 @@
 pub mod PhasesLeft
+pub mod Ops
 pub mod Steps
 pub mod RunsShort
+pub mod Complete
 pub mod Claims

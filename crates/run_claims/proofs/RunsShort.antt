@@ -6,16 +6,22 @@ use Rattle.tect_ids.specs.declared.ids.Counts.{Counts}
 use Rattle.tect_ids.specs.declared.ids.OpId.{OpId}
 use Rattle.tect_ids.specs.declared.command.Command.{Command}
 use Rattle.tect_ids.specs.Keys.{op_eq}
+use Rattle.program_forms.specs.declared.standing.Standing.{Standing}
+use Rattle.program_forms.specs.declared.standing.Standing.TheVariants.{Goes, NoRoom}
 use Rattle.program_rules.specs.declared.program.Program.{Program}
 use Rattle.program_rules.specs.Programs.{started, first_phase}
+use Rattle.program_rules.specs.Served.{programs}
 use Rattle.world_runs.specs.declared.event.Event.{Event}
-use Rattle.world_runs.specs.declared.event.Event.TheVariants.{Began, NotBegun, Acted, Ended, Stopped, Failed, Dumped}
+use Rattle.world_runs.specs.declared.event.Event.TheVariants.{Own, Dumped}
+use Rattle.world_runs.specs.declared.event.Happening.{Happening}
+use Rattle.world_runs.specs.declared.event.Happening.TheVariants.{Began, NotBegun, Acted, Ended, Stopped, Failed}
 use Rattle.world_runs.specs.Moments.{WorldState, RunFrom, IsWorldRun, opening, after}
 use Rattle.claim_words.specs.Headline.{or_later, command_of}
 use Rattle.world_runs.specs.Report.{is_act_of, transactions}
 use Rattle.run_claims.specs.Bounds.{is_look, is_look_of, is_other_of, looks_of, others_of, most_looks, IsShort}
 use Rattle.run_claims.proofs.PhasesLeft.{looks_left, others_left, one_if, Leaves, first_leaves}
-use Rattle.run_claims.proofs.Steps.{IsPast, Runs, IsAhead, IsNone, Rests, Declines, past_step, running_step, ahead_step}
+use Rattle.run_claims.proofs.Ops.{IsPast, Runs, IsAhead, stand_looks, stand_others, IsNone}
+use Rattle.run_claims.proofs.Steps.{Rests, Declines, past_step, running_step, ahead_step}
 
 -- ---- an op that is past
 
@@ -55,29 +61,29 @@ none_more op e es looks others none rest =
     }
 
 -- an op that is past takes nothing more
-past_takes : (es : List Event) (m : WorldState) (op : OpId) → RunFrom m es → IsPast m op → Takes es op 0 0
+past_takes : (es : List Event) (m : WorldState Program) (op : OpId) → RunFrom programs m es → IsPast m op → Takes es op 0 0
 past_takes [] m op run past = nothing_takes op 0 0
 past_takes (e ∷ es) m op run past =
     let step : Rests m e op = past_step m e run.0 op past in
-    none_more op e es 0 0 step.none (past_takes es (after m e) op run.1 step.past)
+    none_more op e es 0 0 step.none (past_takes es (after programs m e) op run.1 step.past)
 
 -- ---- an op that runs
 
 -- an op that runs takes at most what its phase leaves
-running_takes : (es : List Event) (m : WorldState) (op : OpId) (p : Program) → RunFrom m es → Runs m op p
-    → Takes es op (looks_left p.command p.phase) (others_left p.phase)
-running_takes [] m op p run r = nothing_takes op _ _
-running_takes (e ∷ es) m op p run r =
-    elim (running_step m e run.0 op p r) [
+running_takes : (es : List Event) (m : WorldState Program) (op : OpId) (at : Standing Program) → RunFrom programs m es → Runs m op at
+    → Takes es op (stand_looks at) (stand_others at)
+running_takes [] m op at run r = nothing_takes op _ _
+running_takes (e ∷ es) m op at run r =
+    elim (running_step m e run.0 op at r) [
       | inl s ↦
-          let rest : Takes es op (looks_left s.next.command s.next.phase) (others_left s.next.phase) = running_takes es (after m e) op
+          let rest : Takes es op (stand_looks s.next) (stand_others s.next) = running_takes es (after programs m e) op
           s.next run.1 s.runs in
           record {
             looks = omega (arith, looks_more op e es, s.looks, rest.looks);
             others = omega (arith, others_more op e es, s.others, rest.others);
           }
       | inr s ↦
-          let rest : Takes (e ∷ es) op 0 0 = none_more op e es 0 0 s.none (past_takes es (after m e) op run.1 s.past) in
+          let rest : Takes (e ∷ es) op 0 0 = none_more op e es 0 0 s.none (past_takes es (after programs m e) op run.1 s.past) in
           record { looks = omega (arith, rest.looks); others = omega (arith, rest.others) }
     ]
 
@@ -91,15 +97,12 @@ begun_takes es op c t =
     record { looks = omega (arith, l.looks, t.looks); others = omega (arith, l.others, t.others) }
 
 -- an op that is refused takes nothing
-declined_takes : (es : List Event) (m : WorldState) (e : Event) (op : OpId) → RunFrom (after m e) es → Declines m e op
+declined_takes : (es : List Event) (m : WorldState Program) (e : Event) (op : OpId) → RunFrom programs (after programs m e) es → Declines m e op
     → Takes (e ∷ es) op 0 0
-declined_takes es m e op run d =
-    let rest : Takes es op (looks_left d.program.command d.program.phase) (others_left d.program.phase) = running_takes es (after m e) op
-    d.program run d.runs in
-    none_more op e es 0 0 d.none record { looks = omega (arith, rest.looks, d.looks); others = omega (arith, rest.others, d.others) }
+declined_takes es m e op run d = none_more op e es 0 0 d.none (running_takes es (after programs m e) op NoRoom run d.runs)
 
 -- an op that has not begun takes at most the most of the command that it will begin
-ahead_takes : (es : List Event) (m : WorldState) (op : OpId) (c : Command) → RunFrom m es → IsAhead m op → command_of es op ≡ Some c
+ahead_takes : (es : List Event) (m : WorldState Program) (op : OpId) (c : Command) → RunFrom programs m es → IsAhead m op → command_of es op ≡ Some c
     → Takes es op (most_looks c) 4
 ahead_takes [] m op c run ahead began = nothing_takes op _ _
 ahead_takes (e ∷ es) m op c run ahead began =
@@ -109,17 +112,17 @@ ahead_takes (e ∷ es) m op c run ahead began =
           let same : s.command ≡ c = cc in
           subst (λ (d : Command). Takes (e ∷ es) op (most_looks d) 4) same
           (none_more op e es (most_looks s.command) 4 s.none
-          (begun_takes es op s.command (running_takes es (after m e) op (started op s.command) run.1 s.runs)))
+          (begun_takes es op s.command (running_takes es (after programs m e) op (Goes (started s.command)) run.1 s.runs)))
       | inl (inr s) ↦
           let t : Takes (e ∷ es) op 0 0 = declined_takes es m e op run.1 s in
           record { looks = omega (arith, t.looks); others = omega (arith, t.others) }
       | inr s ↦
           let later : command_of es op ≡ Some c = subst (λ (o : Option Command). or_later o (command_of es op) ≡ Some c) s.begins began in
-          none_more op e es (most_looks c) 4 s.none (ahead_takes es (after m e) op c run.1 s.ahead later)
+          none_more op e es (most_looks c) 4 s.none (ahead_takes es (after programs m e) op c run.1 s.ahead later)
     ]
 
 -- an op that begins no command
-idle_takes : (es : List Event) (m : WorldState) (op : OpId) → RunFrom m es → IsAhead m op → command_of es op ≡ None → Takes es op 0 0
+idle_takes : (es : List Event) (m : WorldState Program) (op : OpId) → RunFrom programs m es → IsAhead m op → command_of es op ≡ None → Takes es op 0 0
 idle_takes [] m op run ahead idle = nothing_takes op 0 0
 idle_takes (e ∷ es) m op run ahead idle =
     elim (ahead_step m e run.0 op ahead) [
@@ -129,25 +132,32 @@ idle_takes (e ∷ es) m op run ahead idle =
       | inl (inr s) ↦ declined_takes es m e op run.1 s
       | inr s ↦
           let later : command_of es op ≡ None = subst (λ (o : Option Command). or_later o (command_of es op) ≡ None) s.begins idle in
-          none_more op e es 0 0 s.none (idle_takes es (after m e) op run.1 s.ahead later)
+          none_more op e es 0 0 s.none (idle_takes es (after programs m e) op run.1 s.ahead later)
     ]
 
 -- ---- the law
 
 -- a transaction is a look or another
-one_of_both : (a b : Bool) → one_if a ≡ one_if (a && b) + one_if (a && not b)
+one_of_both : (a b : Bool) → one_if (a && true) ≡ one_if (a && b) + one_if (a && not b)
 one_of_both true true = refl
 one_of_both true false = refl
 one_of_both false b = refl
 
 -- the same of an event
 pub event_splits : (e : Event) (op : OpId) → one_if (is_act_of op e) ≡ one_if (is_look_of op e) + one_if (is_other_of op e)
-event_splits (Began other c) op = refl
-event_splits (NotBegun other c) op = refl
-event_splits (Acted other q x) op = one_of_both (op_eq other op) (is_look q)
-event_splits (Ended other a) op = refl
-event_splits (Stopped other) op = refl
-event_splits (Failed other a) op = refl
+event_splits (Own other h) op = act_splits h
+  where
+    none : (b : Bool) → one_if (b && false) ≡ one_if (b && false) + one_if (b && false)
+    none true = refl
+    none false = refl
+
+    act_splits : (g : Happening) → one_if (is_act_of op (Own other g)) ≡ one_if (is_look_of op (Own other g)) + one_if (is_other_of op (Own other g))
+    act_splits (Acted q x how) = one_of_both (op_eq other op) (is_look q)
+    act_splits (Began c) = none (op_eq other op)
+    act_splits (NotBegun c) = none (op_eq other op)
+    act_splits (Ended a) = none (op_eq other op)
+    act_splits Stopped = none (op_eq other op)
+    act_splits (Failed a) = none (op_eq other op)
 event_splits Dumped op = refl
 
 -- the same of a history
@@ -162,7 +172,7 @@ zero_or_more zero = inl (omega arith)
 zero_or_more (suc n) = inr (omega arith)
 
 -- what the op takes in a whole run
-run_takes : (counts : Counts) (history : List Event) → IsWorldRun counts history → (op : OpId) (c : Command)
+run_takes : (counts : Counts) (history : List Event) → IsWorldRun programs counts history → (op : OpId) (c : Command)
     → command_of history op ≡ Some c → Takes history op (most_looks c) 4
 run_takes counts history run op c began =
     elim (zero_or_more op.number) [
@@ -173,14 +183,14 @@ run_takes counts history run op c began =
     ]
 
 -- each command of a run is short
-pub each_is_short : (counts : Counts) (history : List Event) → IsWorldRun counts history → (op : OpId) (c : Command)
+pub each_is_short : (counts : Counts) (history : List Event) → IsWorldRun programs counts history → (op : OpId) (c : Command)
     → command_of history op ≡ Some c → IsShort history op c
 each_is_short counts history run op c began =
     let t : Takes history op (most_looks c) 4 = run_takes counts history run op c began in
     record { looks = t.looks; others = t.others; all = omega (arith, transactions_split history op, t.looks, t.others) }
 
 -- an op that began no command has no transaction
-pub idle_has_none : (counts : Counts) (history : List Event) → IsWorldRun counts history → (op : OpId) → command_of history op ≡ None
+pub idle_has_none : (counts : Counts) (history : List Event) → IsWorldRun programs counts history → (op : OpId) → command_of history op ≡ None
     → transactions history op ≡ 0
 idle_has_none counts history run op idle =
     let t : Takes history op 0 0 = elim (zero_or_more op.number) [
