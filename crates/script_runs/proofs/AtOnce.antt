@@ -109,7 +109,8 @@ module _ {S : Type 0} (P : Programs S) where
       → EndsAtOnce P (after_all P m es) (d ∷ gs) → EndsAtOnce P m (es ++ d ∷ gs)
   at_once-swap m [] d fs gs all then = then
   at_once-swap m (e ∷ es) d fs gs all then =
-      (prompt_by (after P m e) e (es ++ d ∷ fs) (es ++ d ∷ gs) (next_same es d fs gs) all.0, at_once-swap (after P m e) es d fs gs all.1 then)
+      let k : WorldState S = after P m e in
+      (prompt_by k e (es ++ d ∷ fs) (es ++ d ∷ gs) (next_same es d fs gs) all.0, at_once-swap k es d fs gs all.1 then)
 
   -- ---- the events of one op
 
@@ -152,7 +153,8 @@ module _ {S : Type 0} (P : Programs S) where
     take_at_once m (suc k) n (e ∷ es) more few acts run =
         let later : k + 1 ≤ (acts.1).0 = omega (arith, few, (acts.1).1) in
         let l : WorldState S = after P m e in (
-          act_prompt l op e (take k es) acts.0 (λ ended. absurd (acts_not_ended l op (acts.1).0 es more (omega (arith, later)) (acts.1).2 run.1 ended)),
+          act_prompt l op e (take k es) acts.0
+              (λ ended. absurd (acts_not_ended l op (acts.1).0 es more (omega (arith, later)) (acts.1).2 run.1 ended)),
           take_at_once l k (acts.1).0 es more later (acts.1).2 run.1,
         )
 

@@ -1,5 +1,5 @@
 -- a run that stopped within a line can be brought to the end of its script without a further transaction
-use Rattle.std.proofs.Common.{◌≡◌, ◌<◌, ◌≤◌, ◌+◌, ◌^◌, ◌⊎◌, inl, inr, ℕ, Bool, Option, Some, None, List, [], ◌∷◌, ◌++◌, length, refl, sym}
+use Rattle.std.proofs.Common.{◌≡◌, ◌<◌, ◌≤◌, ◌+◌, ◌^◌, inl, inr, ℕ, Bool, Option, Some, None, List, [], ◌∷◌, ◌++◌, length, refl, sym}
 use Rattle.std.proofs.Common.{ap, subst, ◌∙◌, arith, append_assoc}
 use Rattle.std.proofs.lemmas.List.{append-nil}
 use Rattle.tect_ids.specs.declared.ids.OpId.{OpId}
@@ -25,75 +25,8 @@ use Rattle.script_runs.proofs.Moves.{Keeps, acts_move, begin_moves}
 use Rattle.script_runs.proofs.Lines.{busy_is, IsDone, line_does, busy_after, within_after}
 use Rattle.script_runs.proofs.FollowOn.{AllStand, stand_after, opening_stand}
 use Rattle.script_runs.proofs.AtOnce.{at_once-append, at_once-swap, at_once-rest, end_at_once, begin_once}
+use Rattle.script_runs.proofs.Fronts.{fronts, both_none, ActsSome, acts_front, ends_front, within_front}
 use Rattle.script_runs.proofs.RunOut.{EndsNow, busy_ends, CanRunOut, lines_run_out, refuses-append, refuses_at_once}
-
--- ---- fronts of lists
-
--- of two fronts of one list the one is a front of the other
-record Within (h rest part : List Event) (later : List Event) : Type 0 where
-  tail : List Event
-  parts : part ≡ h ++ tail
-  rests : rest ≡ tail ++ later
-
-record Beyond (h rest part : List Event) (later : List Event) : Type 0 where
-  first : Event
-  tail : List Event
-  parts : h ≡ part ++ first ∷ tail
-  laters : later ≡ first ∷ tail ++ rest
-
-fronts : (h rest part later : List Event) → h ++ rest ≡ part ++ later → Within h rest part later ⊎ Beyond h rest part later
-fronts [] rest part later e = inl record { tail = part; parts = refl; rests = e }
-fronts (d ∷ h) rest [] later e = inr record { first = d; tail = h; parts = refl; laters = sym e }
-fronts (d ∷ h) rest (c ∷ part) later e =
-    let same : d ≡ c = cc in
-    let others : h ++ rest ≡ part ++ later = cc in
-    elim (fronts h rest part later others) [
-      | inl w ↦ inl record { tail = w.tail; parts = λ i. (sym same) i ∷ w.parts i; rests = w.rests }
-      | inr b ↦ inr record { first = b.first; tail = b.tail; parts = λ i. same i ∷ b.parts i; laters = b.laters }
-    ]
-
--- two lists that make none
-both_none : (es fs : List Event) → es ++ fs ≡ [] → es ≡ []
-both_none [] fs e = refl
-both_none (d ∷ es) fs e = absurd (let k : d ∷ (es ++ fs) ≡ [] = e in cc)
-
--- ---- the front of what an op does
-
-record ActsSome (op : OpId) (n : ℕ) (h : List Event) : Type 0 where
-  count : ℕ
-  few : count ≤ n
-  acts : Acts op count h
-
-acts_front : (op : OpId) (n : ℕ) (h tail : List Event) → Acts op n (h ++ tail) → ActsSome op n h
-acts_front op n [] tail acts = record { count = 0; few = omega arith; acts = refl }
-acts_front op n (e ∷ h) tail acts =
-    let rest : ActsSome op (acts.1).0 h = acts_front op (acts.1).0 h tail (acts.1).2 in
-    record { count = rest.count + 1; few = omega (arith, rest.few, (acts.1).1); acts = (acts.0, (rest.count, refl, rest.acts)) }
-
--- it came to its end, or did but transactions
-end_front : (op : OpId) (n : ℕ) (h tail front : List Event) (end : Event) → h ++ tail ≡ front ++ end ∷ [] → Acts op n front
-    → (h ≡ front ++ end ∷ []) ⊎ ActsSome op n h
-end_front op n h tail front end is acts =
-    elim (fronts h tail front (end ∷ []) is) [
-      | inl w ↦ inr (acts_front op n h w.tail (subst (λ (l : List Event). Acts op n l) w.parts acts))
-      | inr b ↦
-          let last : end ∷ [] ≡ b.first ∷ (b.tail ++ tail) = b.laters in
-          let same : b.first ≡ end = cc in
-          let others : [] ≡ b.tail ++ tail = cc in
-          let none : b.tail ≡ [] = both_none b.tail tail (sym others) in
-          inl (b.parts ∙ λ i. front ++ same i ∷ none i)
-    ]
-
-ends_front : (op : OpId) (n : ℕ) (h tail : List Event) → EndsAfter op n (h ++ tail) → EndsAfter op n h ⊎ ActsSome op n h
-ends_front op n h tail e =
-    elim (end_front op n h tail e.0 e.1 e.2 e.3) [ inl all ↦ inl (e.0, e.1, all, e.3, e.4) | inr some ↦ inr some ]
-
-within_front : (op : OpId) (n : ℕ) (h tail : List Event) → EndsWithin op n (h ++ tail) → EndsWithin op n h ⊎ ActsSome op n h
-within_front op n h tail e =
-    elim (end_front op e.0 h tail e.1 e.2 e.3 e.4) [
-      | inl all ↦ inl (e.0, e.1, e.2, all, e.4, e.5, e.6)
-      | inr some ↦ inr record { count = some.count; few = omega (arith, some.few, e.6); acts = some.acts }
-    ]
 
 module _ {S : Type 0} (P : Programs S) (full : List Event → ℕ → Bool) where
   ends_once : (m : WorldState S) (op : OpId) (n : ℕ) (es : List Event) → EndsAfter op n es → RunFrom P m es → EndsAtOnce P m es
@@ -131,13 +64,20 @@ module _ {S : Type 0} (P : Programs S) (full : List Event → ℕ → Bool) wher
     ends : EndsAfter op n (h ++ end ∷ [])
     refuses : (before : List Event) → RefusesAsFull full before (end ∷ [])
 
-  to_end : (m : WorldState S) → AllWell m → (op : OpId) (n : ℕ) (h : List Event) → busy_at m op.actor ≡ Some op → RunFrom P m h → Acts op n h
-      → ToEnd m op n h
+  to_end : (m : WorldState S) → AllWell m → (op : OpId) (n : ℕ) (h : List Event) → busy_at m op.actor ≡ Some op → RunFrom P m h
+      → Acts op n h → ToEnd m op n h
   to_end m s op n h busy run acts =
       let k : WorldState S = after_all P m h in
       let moved : Keeps m k op.actor (busy_at m op.actor) = acts_move P m op n h acts in
       let e : EndsNow P full k op = busy_ends P full k (run_well P h m s run) op.actor op (moved.busy ∙ busy) in
-      record { end = e.end; is_end = e.ends; no_try = e.no_try; run = run-append P m h (e.end ∷ []) run (e.may, tt); ends = (h, e.end, refl, acts, e.ends); refuses = e.refuses }
+      record {
+        end = e.end;
+        is_end = e.ends;
+        no_try = e.no_try;
+        run = run-append P m h (e.end ∷ []) run (e.may, tt);
+        ends = (h, e.end, refl, acts, e.ends);
+        refuses = e.refuses;
+      }
 
   module _ (m : WorldState S) (s : AllWell m) (a : ℕ) where
     -- a command that began
@@ -363,9 +303,11 @@ module _ {S : Type 0} (P : Programs S) (full : List Event → ℕ → Bool) wher
             (subst (λ (l : List Event). EndsAtOnce P m l) parts at_once) in
             line_done_then client a act (ls ++ back) before m states k s in_turn all (d ∷ h) rest part f.2 b.first b.tail b.parts mine f.4
             at_once
-            (cut_run_out ls back before (b.first ∷ b.tail) rest n (with_state states a (state_left_at act)) (k + 1) (run_well P part m s mine)
+            (cut_run_out ls back before (b.first ∷ b.tail) rest n (with_state states a (state_left_at act)) (k + 1)
+            (run_well P part m s mine)
             in_turn.3
-            (stand_after P m n states k a act part f.2 done f.4 in_turn.2 all) (omega (arith, few)) (run-rest P m part (b.first ∷ b.tail) both)
+            (stand_after P m n states k a act part f.2 done f.4 in_turn.2 all) (omega (arith, few))
+            (run-rest P m part (b.first ∷ b.tail) both)
             on later)
       ]
   cut_run_out (lines.Dump ∷ ls) back before (d ∷ h) rest m states k s in_turn all few run f at_once =

@@ -104,8 +104,8 @@ module _ {S : Type 0} (P : Programs S) where
         → Settles P (after_all P m part) ls d → Settles P (after_all P m other) ls e → part ++ d ≡ other ++ e
     line_fixed part other d e next last f g does also settled as_well first second =
         let same : part ≡ other =
-        line_same before m a part other (fine-front P before m part d f) (fine-front P before m other e g) act (busy_at m a) next last does also
-        settled as_well in
+        line_same before m a part other (fine-front P before m part d f) (fine-front P before m other e g) act (busy_at m a) next last
+        does also settled as_well in
         rest_fixed part other d e same (fine-rest P before m part d f) (fine-rest P before m other e g) first second
 
   lines_fixed : (ls : List Line) → IsFixed ls

@@ -107,8 +107,8 @@ module _ {S : Type 0} (P : Programs S) where
           λ all. end_ends (before ++ e.1) (after_all P m e.1) op e.2 e.5 last (omega (arith, all, e.6)),
         )
 
-    line_in_time : (before : List Event) (m : WorldState S) (a : ℕ) (busy : Option OpId) (act : Act) (part : List Event) (next : Option OpId)
-        → AreFine P before m part → DoesLine a busy act part next → DoesInTime P m a busy act part next
+    line_in_time : (before : List Event) (m : WorldState S) (a : ℕ) (busy : Option OpId) (act : Act) (part : List Event)
+        (next : Option OpId) → AreFine P before m part → DoesLine a busy act part next → DoesInTime P m a busy act part next
     line_in_time before m a None act part next fine d = d
     line_in_time before m a (Some op) (acts.Do c) part next fine d = d
     line_in_time before m a (Some op) (acts.Begin c) part next fine d = d

@@ -5,9 +5,11 @@ pub mod Lines
 pub mod FollowOn
 pub mod AtOnce
 pub mod RunOut
+pub mod Fronts
 pub mod CutLines
 pub mod Fine
 pub mod SameEnds
 pub mod InTime
+pub mod FirstEnds
 pub mod Settles
 pub mod Fixed

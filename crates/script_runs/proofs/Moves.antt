@@ -140,7 +140,8 @@ module _ {S : Type 0} (P : Programs S) where
   pub begin_moves : (m : WorldState S) (op : OpId) (c : Command) (e : Event) → IsBeginOf op c e → May P m e
       → Moves m (after P m e) op.actor ((m.actors op.actor).number + 1) (m.actors op.actor).stopped (Some op)
   begin_moves m op c (Own o (Began d)) is may =
-      subst (λ (z : OpId). Moves m (after P m (Own o (Began d))) z.actor ((m.actors z.actor).number + 1) (m.actors z.actor).stopped (Some z))
+      subst
+      (λ (z : OpId). Moves m (after P m (Own o (Began d))) z.actor ((m.actors z.actor).number + 1) (m.actors z.actor).stopped (Some z))
       is.0 (begun_moves m o d may)
   begin_moves m op c (Own o (NotBegun d)) is may =
       subst
