@@ -121,7 +121,8 @@ module _ (clients : List (List ℕ)) where
       ∙ ap (λ b. b ++ own a part) own_before ∙ ap (λ p. before ++ p) (own_events a ms silent are quiet)
 
   reports_by : (cuts : List Cut) (last : List Event) (ms : List Moment) (history : List Event) (before : ℕ → List Event) (store : Store)
-      → ((a : ℕ) → own a history ≡ before a) → stored_after opening_store history ≡ store → AllByRecursion IsOwnNote ms → AreSilentCuts cuts last
+      → ((a : ℕ) → own a history ≡ before a) → stored_after opening_store history ≡ store → AllByRecursion IsOwnNote ms
+      → AreSilentCuts cuts last
       → race_report_after clients history [] (woven cuts last ms) ≡ parts_report clients before store cuts last ms
   reports_by [] last ms history before store own_before at are quiet =
       let part : List Event = events_of ms ++ last in

@@ -3,8 +3,8 @@
 #![tactic(auto)]
 
 ghost use Rattle.program_forms.specs.Kinds.{Programs};
-ghost use Rattle.noted_runs.specs.Laws.{ActorsAreTheirOwn, ClientsFollow, OwnLimitsMakeLimits, OwnRunsMakeRun, PromptIsOwnPrompt, RunIsOwnRuns};
-ghost use Rattle.noted_runs.specs.Laws.{WovenConcerns, WovenReplies, WovenReports};
+ghost use Rattle.noted_runs.specs.Laws.{ActorsAreTheirOwn, ClientsFollow, OwnLimitsMakeLimits, OwnRunsMakeRun, PromptIsOwnPrompt};
+ghost use Rattle.noted_runs.specs.Laws.{RunIsOwnRuns, WovenConcerns, WovenReplies, WovenReports};
 
 /// Where each actor's own events are a run of its programs, and each reply is the one that the store gives after the requests
 /// before it, the whole is a run of the world.

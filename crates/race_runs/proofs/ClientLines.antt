@@ -10,9 +10,10 @@ use Rattle.tect_ids.specs.declared.script.Act.TheVariants as acts
 use Rattle.tect_ids.specs.declared.script.Line.{Line}
 use Rattle.tect_ids.specs.declared.script.Line.TheVariants as lines
 use Rattle.world_runs.specs.declared.event.Event.{Event}
-use Rattle.world_runs.specs.declared.event.Event.TheVariants.{Began, NotBegun, Acted, Ended, Stopped, Failed, Dumped}
+use Rattle.world_runs.specs.declared.event.Event.TheVariants.{Own, Dumped}
+use Rattle.world_runs.specs.declared.event.Happening.TheVariants.{Stopped}
 use Rattle.world_runs.specs.Races.{concerns, line_concerns}
-use Rattle.world_runs.specs.Follows.{Acts, IsEndOf, EndsAfter, IsBeginOf, DoesLine}
+use Rattle.world_runs.specs.Follows.{Acts, IsEndOf, RunsToEnd, IsBeginOf, DoesLine}
 use Rattle.world_runs.specs.ClientLines.{DoesLines}
 use Rattle.world_runs.proofs.Actors.{same_number, other_number}
 use Rattle.race_runs.specs.Gathered.{IsLineOf, is_dump}
@@ -34,36 +35,26 @@ is_theirs a other op h k = ap (λ (o : OpId). eqb o.actor a) h ∙ ap (λ n. eqb
 
 acts_concern : (a : ℕ) (op : OpId) (n : ℕ) (es : List Event) → op.actor ≡ a → Acts op n es → AllConcern a es
 acts_concern a op n [] k h = tt
-acts_concern a op n (Acted other q x ∷ es) k h = (is_theirs a other op h.0 k, acts_concern a op h.1.0 es k h.1.2)
-acts_concern a op n (Began other c ∷ es) k h = absurd h
-acts_concern a op n (NotBegun other c ∷ es) k h = absurd h
-acts_concern a op n (Ended other x ∷ es) k h = absurd h
-acts_concern a op n (Stopped other ∷ es) k h = absurd h
-acts_concern a op n (Failed other x ∷ es) k h = absurd h
-acts_concern a op n (Dumped ∷ es) k h = absurd h
+acts_concern a op n (Own other what ∷ es) k h = (is_theirs a other op h.0.0 k, acts_concern a op h.1.0 es k h.1.2)
+acts_concern a op n (Dumped ∷ es) k h = absurd h.0
 
 end_concerns : (a : ℕ) (op : OpId) (e : Event) → op.actor ≡ a → IsEndOf op e → concerns a e ≡ true
-end_concerns a op (Ended other x) k h = is_theirs a other op h k
-end_concerns a op (Failed other x) k h = is_theirs a other op h k
-end_concerns a op (Began other c) k h = absurd h
-end_concerns a op (NotBegun other c) k h = absurd h
-end_concerns a op (Acted other q x) k h = absurd h
-end_concerns a op (Stopped other) k h = absurd h
+end_concerns a op (Own other what) k h = is_theirs a other op h.0 k
 end_concerns a op Dumped k h = absurd h
 
 begin_concerns : (a : ℕ) (op : OpId) (c : Command) (e : Event) → op.actor ≡ a → IsBeginOf op c e → concerns a e ≡ true
-begin_concerns a op c (Began other d) k h = is_theirs a other op h.0 k
-begin_concerns a op c (NotBegun other d) k h = is_theirs a other op h.0 k
-begin_concerns a op c (Acted other q x) k h = absurd h
-begin_concerns a op c (Ended other x) k h = absurd h
-begin_concerns a op c (Stopped other) k h = absurd h
-begin_concerns a op c (Failed other x) k h = absurd h
+begin_concerns a op c (Own other what) k h = is_theirs a other op h.0 k
 begin_concerns a op c Dumped k h = absurd h
 
-ends_concern : (a : ℕ) (op : OpId) (n : ℕ) (es : List Event) → op.actor ≡ a → EndsAfter op n es → AllConcern a es
-ends_concern a op n es k (front, end, is, acts, ends) =
+-- transactions of the op, and then its end
+ends_concern : (a : ℕ) (op : OpId) (n : ℕ) (front : List Event) (end : Event) (es : List Event) → op.actor ≡ a → es ≡ front ++ end ∷ []
+    → Acts op n front → IsEndOf op end → AllConcern a es
+ends_concern a op n front end es k is acts ends =
     same_events a es (front ++ end ∷ []) is
     (concern-append a front (end ∷ []) (acts_concern a op n front k acts) (end_concerns a op end k ends, tt))
+
+runs_concern : (a : ℕ) (op : OpId) (es : List Event) → op.actor ≡ a → RunsToEnd op es → AllConcern a es
+runs_concern a op es k (n, (front, end, is, acts, ends)) = ends_concern a op n front end es k is acts ends
 
 none_concern : (a : ℕ) (es : List Event) → es ≡ [] → AllConcern a es
 none_concern a es e = same_events a es [] e tt
@@ -75,7 +66,7 @@ line_concern : (a : ℕ) (busy : Option OpId) (act : Act) (es : List Event) (nex
     → DoesLine a busy act es next
     → AllConcern a es × BusyIsOf a next
 line_concern a None (acts.Do c) es next k ((op, begin, rest, own, is, begins, runs), last) = (
-  same_events a es (begin ∷ rest) is (begin_concerns a op c begin own begins, ends_concern a op runs.0 rest own runs.1),
+  same_events a es (begin ∷ rest) is (begin_concerns a op c begin own begins, runs_concern a op rest own runs),
   next_is_of a
       None next last tt,
 )
@@ -89,11 +80,11 @@ line_concern a (Some op) (acts.Begin c) es next k h = absurd h
 line_concern a (Some op) (acts.Step n) es next k h =
     elim h [
       | inl s ↦ (acts_concern a op n es k s.0, next_is_of a (Some op) next s.1 k)
-      | inr s ↦ (ends_concern a op s.0 es k s.2, next_is_of a None next s.3 tt)
+      | inr s ↦ (ends_concern a op s.0.0 s.0.1 s.0.2 es k s.0.3 s.0.4 s.0.5, next_is_of a None next s.1 tt)
     ]
-line_concern a (Some op) acts.Run es next k h = (ends_concern a op h.0.0 es k h.0.1, next_is_of a None next h.1 tt)
+line_concern a (Some op) acts.Run es next k h = (runs_concern a op es k h.0, next_is_of a None next h.1 tt)
 line_concern a (Some op) acts.Stop es next k h =
-    (same_events a es (Stopped op ∷ []) h.0 (is_theirs a op op refl k, tt), next_is_of a None next h.1 tt)
+    (same_events a es (Own op Stopped ∷ []) h.0 (is_theirs a op op refl k, tt), next_is_of a None next h.1 tt)
 
 pub lines_concern : (a : ℕ) (busy : Option OpId) (ls : List Line) (es : List Event) (next : Option OpId) → BusyIsOf a busy
     → DoesLines a busy ls es next

@@ -6,6 +6,7 @@ pub mod PartLines
 pub mod Stores
 pub mod Parts
 pub mod Cuts
+pub mod Silent
 pub mod Told
 pub mod Replies
 pub mod Gathered

@@ -59,7 +59,7 @@ own_end a op (answers.HistoryFull p) = refl
 own_end a op _ = refl
 
 own_moment : (a : ℕ) (m : Moment) → IsOwnNote m → is_own a (event_of m) ≡ is_of a m
-own_moment a (Act e) h = refl
+own_moment a (Act e heard) h = refl
 own_moment a (Local stamp actor (notes.Began op c)) h = ap (λ n. eqb n a) h
 own_moment a (Local stamp actor (notes.Ended op x)) h = own_end a op x ∙ ap (λ n. eqb n a) h
 own_moment a (Local stamp actor (notes.Stopped op)) h = ap (λ n. eqb n a) h

@@ -2,14 +2,13 @@
 use Rattle.std.proofs.Common.{◌≡◌, ◌≢◌, ℕ, ◌+◌, true, Some, List, [], ◌∷◌, ◌++◌, refl, sym, ap, ◌∙◌, subst, zero, suc, arith}
 use Rattle.std.proofs.lemmas.List.{append-nil}
 use Rattle.std.specs.List.{AllByRecursion, filter, flat_map, slice_get}
-use Rattle.tect_ids.specs.declared.ids.Counts.{Counts}
 use Rattle.entry_words.specs.declared.entry.Moment.{Moment}
 use Rattle.entry_words.specs.Moments.{is_of}
 use Rattle.world_runs.specs.declared.event.Event.{Event}
 use Rattle.world_runs.specs.declared.event.Event.TheVariants.{Dumped}
 use Rattle.world_runs.specs.Races.{is_own, concerns}
 use Rattle.world_runs.specs.Events.{events_of, own}
-use Rattle.world_runs.specs.Woven.{IsSilent}
+use Rattle.world_runs.proofs.Refusals.{AreQuiet, IsQuiet}
 use Rattle.world_runs.specs.Woven.{is_early, is_late}
 use Rattle.world_runs.proofs.Actors.{own-append}
 use Rattle.noted_runs.proofs.Shown.{IsNoDump, silent_no_dump}
@@ -24,22 +23,25 @@ use Rattle.race_runs.proofs.Timing.{early_news, late_news}
 pub record OwnPart (actor : ℕ) (p : Part) : Type 0 where
   pub noted : AreOwn actor (events_of p.news)
   pub silent : AreOwn actor p.silent
-  pub quiet : AllByRecursion IsSilent p.silent
+  pub quiet : AreQuiet p.silent
+
+abbrev pub AllPartsQuiet : List Part → Type 0
+AllPartsQuiet ended = AllByRecursion (λ p. AreQuiet p.silent) ended
 
 abbrev pub OwnParts : ℕ → List Part → Part → Type 0
 OwnParts actor ended last = AllByRecursion (OwnPart actor) ended × OwnPart actor last
 
-own_part : (a : ℕ) (p : Part) → AllByRecursion IsSilent p.silent → AllConcern a (part_events p) → OwnPart a p
+own_part : (a : ℕ) (p : Part) → AreQuiet p.silent → AllConcern a (part_events p) → OwnPart a p
 own_part a p quiet all = record {
   noted = concerned_own a (events_of p.news) (moments_are_plain p.news)
       (every-front (λ e. concerns a e ≡ true) (events_of p.news) p.silent all);
-  silent = concerned_own a p.silent (every_weaker IsSilent IsNoDump silent_no_dump p.silent quiet)
+  silent = concerned_own a p.silent (every_weaker IsQuiet IsNoDump silent_no_dump p.silent quiet)
       (every-rest (λ e. concerns a e ≡ true) (events_of p.news) p.silent all);
   quiet = quiet;
 }
 
-pub own_parts : (a : ℕ) (ended : List Part) (last : Part) → AllByRecursion (λ p. AllByRecursion IsSilent p.silent) ended
-    → AllByRecursion IsSilent last.silent
+pub own_parts : (a : ℕ) (ended : List Part) (last : Part) → AllPartsQuiet ended
+    → AreQuiet last.silent
     → AllConcern a (with_dumps ended last) → OwnParts a ended last
 own_parts a [] last quiet q all = (tt, own_part a last q all)
 own_parts a (p ∷ ps) last quiet q all =
@@ -61,12 +63,12 @@ own_with_dumps a (p ∷ ps) last h =
 -- ---- what one client does from a point on
 
 -- Behind these events, and with these moments yet to come, the client goes on so.
-pub record GoesOn (counts : Counts) (names : List (List ℕ)) (low : ℕ) (clocks : List ℕ) (before : List Event) (ms : List Moment) (s : Story)
+pub record GoesOn (names : List (List ℕ)) (low : ℕ) (clocks : List ℕ) (before : List Event) (ms : List Moment) (s : Story)
     : Type 0 where
   pub timely : Timely low clocks s.ended s.last
   pub owned : OwnParts s.actor s.ended s.last
   pub trail : filter (is_of s.actor) ms ≡ all_moments s.ended s.last
-  pub answers : Answers counts names s.actor (own s.actor before) s.ended s.last
+  pub answers : Answers names s.actor (own s.actor before) s.ended s.last
 
 ended_cases : (actor low k : ℕ) (ks : List ℕ) (ended : List Part) (last : Part) → Timely low (k ∷ ks) ended last
     → let s : Story = record { actor = actor; ended = ended; last = last } in ended ≡ part_of s ∷ (rest_of s).ended
@@ -81,25 +83,25 @@ none_ended low [] last t = refl
 none_ended low (p ∷ ps) last t = absurd t
 
 -- its moments in the order of all
-pub news_now : (counts : Counts) (names : List (List ℕ)) (low k : ℕ) (ks : List ℕ) (before : List Event) (ms : List Moment) (s : Story)
-    → GoesOn counts names low (k ∷ ks) before ms s → filter (is_of s.actor) (filter (is_early k) ms) ≡ (part_of s).news
-news_now counts names low k ks before ms s g =
+pub news_now : (names : List (List ℕ)) (low k : ℕ) (ks : List ℕ) (before : List Event) (ms : List Moment) (s : Story)
+    → GoesOn names low (k ∷ ks) before ms s → filter (is_of s.actor) (filter (is_early k) ms) ≡ (part_of s).news
+news_now names low k ks before ms s g =
     let is : s.ended ≡ part_of s ∷ (rest_of s).ended = ended_is low k ks s g.timely in
     let t : Timely low (k ∷ ks) (part_of s ∷ (rest_of s).ended) s.last = subst (λ (ps : List Part). Timely low (k ∷ ks) ps s.last) is
     g.timely in
     filter-swap (is_of s.actor) (is_early k) ms ∙ ap (λ (ns : List Moment). filter (is_early k) ns) g.trail
     ∙ ap (λ (ps : List Part). filter (is_early k) (all_moments ps s.last)) is ∙ early_news low k ks (part_of s) (rest_of s).ended s.last t
 
-pub goes_on : (counts : Counts) (names : List (List ℕ)) (low k : ℕ) (ks : List ℕ) (before part : List Event) (ms : List Moment) (s : Story)
-    → GoesOn counts names low (k ∷ ks) before ms s → own s.actor part ≡ part_events (part_of s)
-    → GoesOn counts names k ks ((before ++ part) ++ Dumped ∷ []) (filter (is_late k) ms) (rest_of s)
-goes_on counts names low k ks before part ms s g own_is =
+pub goes_on : (names : List (List ℕ)) (low k : ℕ) (ks : List ℕ) (before part : List Event) (ms : List Moment) (s : Story)
+    → GoesOn names low (k ∷ ks) before ms s → own s.actor part ≡ part_events (part_of s)
+    → GoesOn names k ks ((before ++ part) ++ Dumped ∷ []) (filter (is_late k) ms) (rest_of s)
+goes_on names low k ks before part ms s g own_is =
     let is : s.ended ≡ part_of s ∷ (rest_of s).ended = ended_is low k ks s g.timely in
     let t : Timely low (k ∷ ks) (part_of s ∷ (rest_of s).ended) s.last = subst (λ (ps : List Part). Timely low (k ∷ ks) ps s.last) is
     g.timely in
     let o : OwnParts s.actor (part_of s ∷ (rest_of s).ended) s.last = subst (λ (ps : List Part). OwnParts s.actor ps s.last) is g.owned in
-    let a : Answers counts names s.actor (own s.actor before) (part_of s ∷ (rest_of s).ended) s.last =
-    subst (λ (ps : List Part). Answers counts names s.actor (own s.actor before) ps s.last) is g.answers in
+    let a : Answers names s.actor (own s.actor before) (part_of s ∷ (rest_of s).ended) s.last =
+    subst (λ (ps : List Part). Answers names s.actor (own s.actor before) ps s.last) is g.answers in
     let past : own s.actor ((before ++ part) ++ Dumped ∷ []) ≡ own s.actor before ++ part_events (part_of s) =
     own-append s.actor (before ++ part) (Dumped ∷ []) ∙ append-nil (own s.actor (before ++ part)) ∙ own-append s.actor before part
     ∙ ap (λ (es : List Event). own s.actor before ++ es) own_is in
@@ -109,7 +111,7 @@ goes_on counts names low k ks before part ms s g own_is =
       trail = filter-swap (is_of s.actor) (is_late k) ms ∙ ap (λ (ns : List Moment). filter (is_late k) ns) g.trail
           ∙ ap (λ (ps : List Part). filter (is_late k) (all_moments ps s.last)) is ∙ late_news low k ks (part_of s) (rest_of s).ended s.last
           t;
-      answers = subst (λ (es : List Event). Answers counts names s.actor es (rest_of s).ended s.last) (sym past) a.1;
+      answers = subst (λ (es : List Event). Answers names s.actor es (rest_of s).ended s.last) (sym past) a.1;
     }
 
 -- ---- one client's among those of all

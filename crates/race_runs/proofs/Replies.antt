@@ -1,6 +1,6 @@
 -- where each place's moments are a legal history of its shard, the replies are those of the whole store
 use Rattle.std.proofs.Common.{◌≡◌, ◌≢◌, ℕ, zero, suc, ◌+◌, ◌<◌, ◌≤◌, Bool, true, false, if◌then◌else◌, Some, List, [], ◌∷◌, length, refl}
-use Rattle.std.proofs.Common.{sym, ap, ◌∙◌, subst, map, eqb, nat_lt, arith}
+use Rattle.std.proofs.Common.{sym, ap, ◌∙◌, subst, eqb, nat_lt, arith}
 use Rattle.std.proofs.lemmas.Bool.{ltb-true, ltb-false}
 use Rattle.std.proofs.lemmas.List.Elements.{All-filter, filter_passes, recursion_from_All}
 use Rattle.std.proofs.lemmas.Option.{get_or_from_slice_get}
@@ -25,12 +25,13 @@ use Rattle.place_kit.specs.declared.any.AnyKept.TheVariants as kepts
 use Rattle.entry_words.specs.declared.entry.Entry.{Entry}
 use Rattle.entry_words.specs.declared.entry.Label.{Label}
 use Rattle.entry_words.specs.declared.entry.Moment.{Moment}
+use Rattle.program_forms.specs.declared.heard.Heard.{Heard}
 use Rattle.entry_words.specs.declared.entry.Moment.TheVariants.{Act, Local}
 use Rattle.entry_words.specs.declared.entry.Note.{Note}
 use Rattle.entry_words.specs.declared.entry.Note.TheVariants as notes
 use Rattle.place_kit.specs.Kept.{history_of, label_of, place_of}
 use Rattle.place_kit.specs.Machines.{name_after, name_replies, name_opening, file_after, file_replies}
-use Rattle.entry_words.specs.Moments.{is_at}
+use Rattle.entry_words.specs.Moments.{is_at, trail_of}
 use Rattle.place_kit.specs.Replay.{IsLegal}
 use Rattle.entry_words.specs.Labels.{label_at}
 use Rattle.place_kit.specs.Started.{AreStarted, has_names}
@@ -77,31 +78,31 @@ file_steps c s (any.Name r) has high = absurd (let shard = request_shard c (any.
 abbrev AreAt : Counts → ℕ → List Moment → Type 0
 AreAt c n ms = AllByRecursion (λ m. is_at n m ≡ true) ms × AllByRecursion (IsPlaced c) ms
 
-place_at : (c : Counts) (n : ℕ) (e : Entry) → is_at n (Act e) ≡ true → IsPlaced c (Act e) → (request_place c e.req).0 ≡ n
-place_at c n e at placed = ap (λ (p : Place). p.0) (sym placed) ∙ one_number e.place.0 n at
+place_at : (c : Counts) (n : ℕ) (e : Entry) (h : Heard) → is_at n (Act e h) ≡ true → IsPlaced c (Act e h) → (request_place c e.req).0 ≡ n
+place_at c n e h at placed = ap (λ (p : Place). p.0) (sym placed) ∙ one_number e.place.0 n at
 
-name_history : (c : Counts) (n : ℕ) (s : Names) (es : List Entry) → n < c.names → AreAt c n (map Act es)
-    → IsLegal name_after name_replies s es
-    → RepliesAre (name_part s) (events_of (map Act es))
+name_history : (c : Counts) (n : ℕ) (s : Names) (ms : List Moment) → n < c.names → AreAt c n ms
+    → IsLegal name_after name_replies s (trail_of ms)
+    → RepliesAre (name_part s) (events_of ms)
 name_history c n s [] low at legal = tt
-name_history c n s (e ∷ es) low at legal =
-    let here : (request_place c e.req).0 ≡ n = place_at c n e at.0.0 at.1.0 in
+name_history c n s (Local stamp actor note ∷ ms) low at legal = absurd (let none : false ≡ true = at.0.0 in cc)
+name_history c n s (Act e h ∷ ms) low at legal =
+    let here : (request_place c e.req).0 ≡ n = place_at c n e h at.0.0 at.1.0 in
     let steps : store_step (name_part s) e.req ≡ name_part (name_after s e.req) = name_steps c s e.req (omega arith) in (
       legal.0,
-      subst (λ t. RepliesAre t (events_of (map Act es))) (sym steps)
-          (name_history c n (name_after s e.req) es low (at.0.1, at.1.1) legal.1),
+      subst (λ t. RepliesAre t (events_of ms)) (sym steps) (name_history c n (name_after s e.req) ms low (at.0.1, at.1.1) legal.1),
     )
 
-file_history : (c : Counts) (n : ℕ) (s : Files) (es : List Entry) → HasPlaces c → c.names ≤ n → AreAt c n (map Act es)
-    → IsLegal file_after file_replies s es
-    → RepliesAre (file_part s) (events_of (map Act es))
+file_history : (c : Counts) (n : ℕ) (s : Files) (ms : List Moment) → HasPlaces c → c.names ≤ n → AreAt c n ms
+    → IsLegal file_after file_replies s (trail_of ms)
+    → RepliesAre (file_part s) (events_of ms)
 file_history c n s [] has high at legal = tt
-file_history c n s (e ∷ es) has high at legal =
-    let here : (request_place c e.req).0 ≡ n = place_at c n e at.0.0 at.1.0 in
+file_history c n s (Local stamp actor note ∷ ms) has high at legal = absurd (let none : false ≡ true = at.0.0 in cc)
+file_history c n s (Act e h ∷ ms) has high at legal =
+    let here : (request_place c e.req).0 ≡ n = place_at c n e h at.0.0 at.1.0 in
     let steps : store_step (file_part s) e.req ≡ file_part (file_after s e.req) = file_steps c s e.req has (omega arith) in (
       legal.0,
-      subst (λ t. RepliesAre t (events_of (map Act es))) (sym steps)
-          (file_history c n (file_after s e.req) es has high (at.0.1, at.1.1) legal.1),
+      subst (λ t. RepliesAre t (events_of ms)) (sym steps) (file_history c n (file_after s e.req) ms has high (at.0.1, at.1.1) legal.1),
     )
 
 -- ---- a kept machine that was started at its place
@@ -123,34 +124,38 @@ module _ (c : Counts) (has : HasPlaces c) (n : ℕ) where
       (ap (λ b. if b then root_names else no_names) (other_number n (place_number c layers.Names 1) there)) in
       λ i. record { names = names i; files = opened i }
 
-  kept_replies : (k : AnyKept) → label_of k ≡ label_at c n → has_names k ≡ nat_lt n c.names → AreAt c n (map Act (history_of k))
-      → RepliesAre (opening_parts c the_place) (events_of (map Act (history_of k)))
-  kept_replies (kepts.Name k) label names at =
+  kept_replies : (k : AnyKept) (ms : List Moment) → label_of k ≡ label_at c n → has_names k ≡ nat_lt n c.names → AreAt c n ms
+      → trail_of ms ≡ history_of k
+      → RepliesAre (opening_parts c the_place) (events_of ms)
+  kept_replies (kepts.Name k) ms label names at trail =
       let low : n < c.names = ltb-true n c.names (sym names) in
       let whole : k.label.folded ≡ false = ap (λ (l : Label). l.folded) label in
       let rooted : k.label.rooted ≡ eqb n (place_number c layers.Names 1) = ap (λ (l : Label). l.rooted) label in
-      subst (λ t. RepliesAre t (events_of (map Act k.history.items)))
-      (opens_names k.base.value low (k.kept.opened whole ∙ ap name_opening rooted))
-      (name_history c n k.base.value k.history.items low at k.kept.legal)
-  kept_replies (kepts.File k) label names at =
+      let legal : IsLegal name_after name_replies k.base.value (trail_of ms) =
+      subst (λ (es : List Entry). IsLegal name_after name_replies k.base.value es) (sym trail) k.kept.legal in
+      subst (λ t. RepliesAre t (events_of ms)) (opens_names k.base.value low (k.kept.opened whole ∙ ap name_opening rooted))
+      (name_history c n k.base.value ms low at legal)
+  kept_replies (kepts.File k) ms label names at trail =
       let high : c.names ≤ n = ltb-false n c.names (sym names) in
       let whole : k.label.folded ≡ false = ap (λ (l : Label). l.folded) label in
-      subst (λ t. RepliesAre t (events_of (map Act k.history.items))) (opens_files k.base.value high (k.kept.opened whole))
-      (file_history c n k.base.value k.history.items has high at k.kept.legal)
+      let legal : IsLegal file_after file_replies k.base.value (trail_of ms) =
+      subst (λ (es : List Entry). IsLegal file_after file_replies k.base.value es) (sym trail) k.kept.legal in
+      subst (λ t. RepliesAre t (events_of ms)) (opens_files k.base.value high (k.kept.opened whole))
+      (file_history c n k.base.value ms has high at legal)
 
 -- ---- all places
 
 -- a moment that is no transaction says nothing of the store
-ends_reply : (s : Store) (op : OpId) (a : Answer) (es : List Event) → RepliesAre s es → RepliesAre s (end_event op a ∷ es)
-ends_reply s op answers.NoMemory es r = r
-ends_reply s op (answers.HistoryFull p) es r = r
-ends_reply s op _ es r = r
+end_replies : (s : Store) (op : OpId) (a : Answer) (es : List Event) → RepliesAre s es → RepliesAre s (end_event op a ∷ es)
+end_replies s op answers.NoMemory es r = (tt, r)
+end_replies s op (answers.HistoryFull p) es r = (tt, r)
+end_replies s op _ es r = (tt, r)
 
 note_replies : (s : Store) (stamp actor : ℕ) (note : Note) (es : List Event) → RepliesAre s es
     → RepliesAre s (event_of (Local stamp actor note) ∷ es)
-note_replies s stamp actor (notes.Began op c) es r = r
-note_replies s stamp actor (notes.Ended op a) es r = ends_reply s op a es r
-note_replies s stamp actor (notes.Stopped op) es r = r
+note_replies s stamp actor (notes.Began op c) es r = (tt, r)
+note_replies s stamp actor (notes.Ended op a) es r = end_replies s op a es r
+note_replies s stamp actor (notes.Stopped op) es r = (tt, r)
 
 -- each place's own moments are replied to by its part
 abbrev PlacesReplyFrom : Counts → Parts → List Moment → Type 0
@@ -160,22 +165,24 @@ request_within : (c : Counts) (q : AnyReq) → HasPlaces c → (request_place c 
 request_within c (any.Name r) has = let shard = request_shard c (any.Name r) has in omega (arith, shard.1)
 request_within c (any.File r) has = let shard = request_shard c (any.File r) has in omega (arith, shard.1)
 
-rest_part : (s : Store) (e : Entry) (ms : List Moment) (b : Bool) → RepliesAre s (events_of (if b then Act e ∷ ms else ms))
+rest_part : (s : Store) (e : Entry) (h : Heard) (ms : List Moment) (b : Bool) → RepliesAre s (events_of (if b then Act e h ∷ ms else ms))
     → RepliesAre (if b then store_step s e.req else s) (events_of ms)
-rest_part s e ms true r = r.1
-rest_part s e ms false r = r
+rest_part s e h ms true r = r.1
+rest_part s e h ms false r = r
 
-first_part : (s : Store) (e : Entry) (ms : List Moment) (b : Bool) → b ≡ true → RepliesAre s (events_of (if b then Act e ∷ ms else ms))
+first_part : (s : Store) (e : Entry) (h : Heard) (ms : List Moment) (b : Bool) → b ≡ true
+    → RepliesAre s (events_of (if b then Act e h ∷ ms else ms))
     → e.reply ≡ store_reply s e.req
-first_part s e ms true h r = r.0
-first_part s e ms false h r = absurd cc
+first_part s e h ms true is r = r.0
+first_part s e h ms false is r = absurd cc
 
-rest_places : (c : Counts) (parts : Parts) (e : Entry) (ms : List Moment) → IsPlaced c (Act e) → PlacesReplyFrom c parts (Act e ∷ ms)
+rest_places : (c : Counts) (parts : Parts) (e : Entry) (h : Heard) (ms : List Moment) → IsPlaced c (Act e h)
+    → PlacesReplyFrom c parts (Act e h ∷ ms)
     → PlacesReplyFrom c (parts_step c parts e.req) ms
-rest_places c parts e ms placed replies p low =
+rest_places c parts e h ms placed replies p low =
     let same : eqb e.place.0 p.0 ≡ place_eq p (request_place c e.req) = flipped e.place.0 p.0 ∙ ap (λ (r : Place). eqb p.0 r.0) placed in
     subst (λ b. RepliesAre (if b then store_step (parts p) e.req else parts p) (events_of (filter (is_at p.0) ms))) same
-    (rest_part (parts p) e (filter (is_at p.0) ms) (eqb e.place.0 p.0) (replies p low))
+    (rest_part (parts p) e h (filter (is_at p.0) ms) (eqb e.place.0 p.0) (replies p low))
 
 pub parts_make_replies : (c : Counts) (parts : Parts) (whole : Store) (ms : List Moment) → HasPlaces c → AreWhole c parts whole
     → PlacesReplyFrom c parts ms
@@ -183,14 +190,14 @@ pub parts_make_replies : (c : Counts) (parts : Parts) (whole : Store) (ms : List
 parts_make_replies c parts whole [] has is replies placed = tt
 parts_make_replies c parts whole (Local stamp actor note ∷ ms) has is replies placed =
     note_replies whole stamp actor note (events_of ms) (parts_make_replies c parts whole ms has is replies placed.1)
-parts_make_replies c parts whole (Act e ∷ ms) has is replies placed =
+parts_make_replies c parts whole (Act e h ∷ ms) has is replies placed =
     let p : Place = request_place c e.req in
-    let here : is_at p.0 (Act e) ≡ true = ap (λ (r : Place). eqb r.0 p.0) placed.0 ∙ same_number p.0 in
-    let first : e.reply ≡ store_reply (parts p) e.req = first_part (parts p) e (filter (is_at p.0) ms) (is_at p.0 (Act e)) here
+    let here : is_at p.0 (Act e h) ≡ true = ap (λ (r : Place). eqb r.0 p.0) placed.0 ∙ same_number p.0 in
+    let first : e.reply ≡ store_reply (parts p) e.req = first_part (parts p) e h (filter (is_at p.0) ms) (is_at p.0 (Act e h)) here
     (replies p (request_within c e.req has)) in (
       first ∙ same_reply c parts whole is e.req,
       parts_make_replies c (parts_step c parts e.req) (store_step whole e.req) ms has
-          (step_whole c parts whole is e.req) (rest_places c parts e ms placed.0 replies) placed.1,
+          (step_whole c parts whole is e.req) (rest_places c parts e h ms placed.0 replies) placed.1,
     )
 
 -- ---- from the kept machines
@@ -201,24 +208,23 @@ item_at (x ∷ xs) zero low = (x, refl)
 item_at (x ∷ xs) (suc n) low = item_at xs n (omega arith)
 
 place_replies : (c : Counts) (ks : List AnyKept) (ms : List Moment) → HasPlaces c → AreStarted c ks
-    → All (λ k. filter (is_at (place_of k)) ms ≡ map Act (history_of k)) ks
+    → All (λ k. trail_of (filter (is_at (place_of k)) ms) ≡ history_of k) ks
     → All (IsPlaced c) ms → PlacesReplyFrom c (opening_parts c) ms
 place_replies c ks ms has started histories placed p low =
     let there : p.0 < length ks = omega (arith, started.number) in
     let item : (k : AnyKept) × (slice_get ks p.0 ≡ Some k) = item_at ks p.0 there in
     let k : AnyKept = item.0 in
     let label : label_of k ≡ label_at c p.0 = started.labels p.0 k item.1 in
-    let at_k : filter (is_at (place_of k)) ms ≡ map Act (history_of k) =
-    subst (λ (x : AnyKept). filter (is_at (place_of x)) ms ≡ map Act (history_of x)) (get_or_from_slice_get ks p.0 k k item.1)
+    let at_k : trail_of (filter (is_at (place_of k)) ms) ≡ history_of k =
+    subst (λ (x : AnyKept). trail_of (filter (is_at (place_of x)) ms) ≡ history_of x) (get_or_from_slice_get ks p.0 k k item.1)
     (histories p.0 k there) in
-    let at_p : filter (is_at p.0) ms ≡ map Act (history_of k) = subst (λ (l : Label). filter (is_at l.place.0) ms ≡ map Act (history_of k))
-    label at_k in
+    let at_p : trail_of (filter (is_at p.0) ms) ≡ history_of k = subst
+    (λ (l : Label). trail_of (filter (is_at l.place.0) ms) ≡ history_of k) label at_k in
     let passes : AllByRecursion (λ m. is_at p.0 m ≡ true) (filter (is_at p.0) ms) = recursion_from_All (λ m. is_at p.0 m ≡ true)
     (filter (is_at p.0) ms) (filter_passes (is_at p.0) ms) in
     let own : AllByRecursion (IsPlaced c) (filter (is_at p.0) ms) = recursion_from_All (IsPlaced c) (filter (is_at p.0) ms)
     (All-filter (is_at p.0) (IsPlaced c) ms placed) in
-    let are : AreAt c p.0 (map Act (history_of k)) = subst (λ fs. AreAt c p.0 fs) at_p (passes, own) in
-    subst (λ fs. RepliesAre (opening_parts c p) (events_of fs)) (sym at_p) (kept_replies c has p.0 k label (started.kinds p.0 k item.1) are)
+    kept_replies c has p.0 k (filter (is_at p.0) ms) label (started.kinds p.0 k item.1) (passes, own) at_p
 
 pub places_reply : PlacesReply
 places_reply c ks ms has started histories placed =

@@ -10,7 +10,7 @@ use Rattle.world_runs.specs.declared.event.Event.{Event}
 use Rattle.world_runs.specs.declared.event.Event.TheVariants.{Dumped}
 use Rattle.world_runs.specs.Events.{event_of, events_of}
 use Rattle.world_runs.specs.Events.{StampsRise}
-use Rattle.world_runs.specs.Woven.{IsSilent}
+use Rattle.world_runs.proofs.Refusals.{AreQuiet}
 use Rattle.world_runs.specs.OwnRuns.{stored_after}
 use Rattle.world_runs.specs.Woven.{is_early, is_late}
 use Rattle.world_runs.proofs.Actors.{stored_after-append}
@@ -21,7 +21,7 @@ use Rattle.race_runs.proofs.Timing.{AllUpTo, early_all, early_up_to}
 use Rattle.race_runs.proofs.Lists.{every-append, every_always}
 
 -- What was done before is what these moments say, all of which came up to the clock; then it is so of the part up to the clock too.
-part_stores : (s : Store) (before : List Event) (past now : List Moment) (silent : List Event) → AllByRecursion IsSilent silent
+part_stores : (s : Store) (before : List Event) (past now : List Moment) (silent : List Event) → AreQuiet silent
     → stored_after s before ≡ stored_after s (events_of past)
     → stored_after s (before ++ (events_of now ++ silent)) ≡ stored_after s (events_of (past ++ now))
 part_stores s before past now silent quiet e =
@@ -31,7 +31,7 @@ part_stores s before past now silent quiet e =
     ∙ sym (stored_after-append s (events_of past) (events_of now))
     ∙ ap (λ (es : List Event). stored_after s es) (sym (map-append event_of past now))
 
-pub part_store : (k : ℕ) (before : List Event) (past rest : List Moment) (silent : List Event) → AllByRecursion IsSilent silent
+pub part_store : (k : ℕ) (before : List Event) (past rest : List Moment) (silent : List Event) → AreQuiet silent
     → AllUpTo k past
     → stored_after opening_store before ≡ stored_after opening_store (events_of past)
     → stored_after opening_store (before ++ (events_of (filter (is_early k) rest) ++ silent)) ≡ store_at k (past ++ rest)
@@ -41,7 +41,7 @@ part_store k before past rest silent quiet up e =
     part_stores opening_store before past (filter (is_early k) rest) silent quiet e ∙ ap
     (λ (ms : List Moment). stored_after opening_store (events_of ms)) (sym early)
 
-pub dumped_store : (k : ℕ) (before : List Event) (past rest : List Moment) (silent : List Event) → AllByRecursion IsSilent silent
+pub dumped_store : (k : ℕ) (before : List Event) (past rest : List Moment) (silent : List Event) → AreQuiet silent
     → stored_after opening_store before ≡ stored_after opening_store (events_of past)
     → stored_after opening_store ((before ++ (events_of (filter (is_early k) rest) ++ silent)) ++ Dumped ∷ [])
     ≡ stored_after opening_store (events_of (past ++ filter (is_early k) rest))

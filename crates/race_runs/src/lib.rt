@@ -7,8 +7,8 @@ ghost use Rattle.race_runs.specs.Gathered.{GatheredStoriesAreRun};
 ghost use Rattle.race_runs.specs.PlacesReply.{PlacesReply};
 
 /// Where each client's story is a run of its own programs, and one list of all their moments says of each place what it keeps,
-/// the history that is woven of them is a run of the world, in which each client ends a command at once when its last reply gave the answer.
-/// It is so of any programs over any states `S`.
+/// the history that is woven of them is a run of the world, in which each client ends a command at once when its last reply gave
+/// the answer. It is so of any programs, over any states `S`.
 pub fn gathered_stories_are_run<S>()
     ensures { (P : Programs S) → GatheredStoriesAreRun P }
 {}

@@ -95,11 +95,13 @@ own_from P m Dumped may = (tt, (tt, tt))
 
 -- ---- one list of events after another
 
-pub after_all-append : {S : Type 0} (P : Programs S) (m : WorldState S) (es fs : List Event) → after_all P m (es ++ fs) ≡ after_all P (after_all P m es) fs
+pub after_all-append : {S : Type 0} (P : Programs S) (m : WorldState S) (es fs : List Event)
+    → after_all P m (es ++ fs) ≡ after_all P (after_all P m es) fs
 after_all-append P m [] fs = refl
 after_all-append P m (e ∷ es) fs = after_all-append P (after P m e) es fs
 
-pub moment-append : {S : Type 0} (P : Programs S) (counts : Counts) (es fs : List Event) → moment P counts (es ++ fs) ≡ after_all P (moment P counts es) fs
+pub moment-append : {S : Type 0} (P : Programs S) (counts : Counts) (es fs : List Event)
+    → moment P counts (es ++ fs) ≡ after_all P (moment P counts es) fs
 moment-append P counts es fs = after_all-append P (opening counts) es fs
 
 pub own-append : (a : ℕ) (es fs : List Event) → own a (es ++ fs) ≡ own a es ++ own a fs
@@ -110,12 +112,14 @@ pub own_state-append : {S : Type 0} (P : Programs S) (counts : Counts) (s : Acto
 own_state-append P counts s [] fs = refl
 own_state-append P counts s (e ∷ es) fs = own_state-append P counts (own_next P counts s e) es fs
 
-pub own_run-append : {S : Type 0} (P : Programs S) (counts : Counts) (s : Actor S) (es fs : List Event) → OwnRun P counts s es → OwnRun P counts (own_state P counts s es) fs
+pub own_run-append : {S : Type 0} (P : Programs S) (counts : Counts) (s : Actor S) (es fs : List Event) → OwnRun P counts s es
+    → OwnRun P counts (own_state P counts s es) fs
     → OwnRun P counts s (es ++ fs)
 own_run-append P counts s [] fs r q = q
 own_run-append P counts s (e ∷ es) fs r q = (r.0, own_run-append P counts (own_next P counts s e) es fs r.1 q)
 
-pub own_run-front : {S : Type 0} (P : Programs S) (counts : Counts) (s : Actor S) (es fs : List Event) → OwnRun P counts s (es ++ fs) → OwnRun P counts s es
+pub own_run-front : {S : Type 0} (P : Programs S) (counts : Counts) (s : Actor S) (es fs : List Event) → OwnRun P counts s (es ++ fs)
+    → OwnRun P counts s es
 own_run-front P counts s [] fs r = tt
 own_run-front P counts s (e ∷ es) fs r = (r.0, own_run-front P counts (own_next P counts s e) es fs r.1)
 

@@ -16,7 +16,8 @@ use Rattle.world_runs.specs.Actors.{Actor, idle_actor}
 use Rattle.world_runs.specs.Moments.{opening, moment}
 use Rattle.world_runs.specs.Races.{is_own}
 use Rattle.world_runs.specs.Events.{own}
-use Rattle.world_runs.specs.Limits.{cost, kept_bytes_of, event_cost, event_bytes, used, kept_bytes, EndsFull, KeepsRoom, KeepsLimits, KeepsLimitsAfter}
+use Rattle.world_runs.specs.Limits.{cost, kept_bytes_of, event_cost, event_bytes, used, kept_bytes}
+use Rattle.world_runs.specs.Limits.{EndsFull, KeepsRoom, KeepsLimits, KeepsLimitsAfter}
 use Rattle.world_runs.specs.Limits.{OwnLimits, actor_in}
 use Rattle.world_runs.specs.OwnRuns.{own_next, own_state}
 use Rattle.world_runs.proofs.Actors.{own_of_actor, after_actors, moment-append, own-append}
@@ -59,23 +60,27 @@ kept_bytes_own es a = own_sum a (event_bytes a) (other_bytes a) es
 -- ---- own limits
 
 pub own_limits-append : {S : Type 0} (P : Programs S) (counts : Counts) (before : List Event) (s : Actor S) (es fs : List Event)
-    → OwnLimits P counts before s es → OwnLimits P counts (before ++ es) (own_state P counts s es) fs → OwnLimits P counts before s (es ++ fs)
+    → OwnLimits P counts before s es → OwnLimits P counts (before ++ es) (own_state P counts s es) fs
+    → OwnLimits P counts before s (es ++ fs)
 own_limits-append P counts before s [] fs l k = subst (λ (es : List Event). OwnLimits P counts es s fs) (append-nil before) k
 own_limits-append P counts before s (e ∷ es) fs l k =
     (l.0, own_limits-append P counts (before ++ e ∷ []) (own_next P counts s e) es fs l.1 (rw append_assoc k))
 
-pub own_limits-front : {S : Type 0} (P : Programs S) (counts : Counts) (before : List Event) (s : Actor S) (es fs : List Event) → OwnLimits P counts before s (es ++ fs)
+pub own_limits-front : {S : Type 0} (P : Programs S) (counts : Counts) (before : List Event) (s : Actor S) (es fs : List Event)
+    → OwnLimits P counts before s (es ++ fs)
     → OwnLimits P counts before s es
 own_limits-front P counts before s [] fs l = tt
 own_limits-front P counts before s (e ∷ es) fs l = (l.0, own_limits-front P counts (before ++ e ∷ []) (own_next P counts s e) es fs l.1)
 
 -- what is said of an event's room is told by its actor's own events
-ends_from_own : {S : Type 0} (P : Programs S) (counts : Counts) (before : List Event) (s : Actor S) (op : OpId) (x : Answer) → EndsFull P counts (own op.actor before) s op x
+ends_from_own : {S : Type 0} (P : Programs S) (counts : Counts) (before : List Event) (s : Actor S) (op : OpId) (x : Answer)
+    → EndsFull P counts (own op.actor before) s op x
     → EndsFull P counts before s op x
 ends_from_own P counts before s op (answers.HistoryFull p) h = (rw (used_own before op.actor, kept_bytes_own before op.actor) at h.0, h.1)
 ends_from_own P counts before s op _ h = tt
 
-room_from_own : {S : Type 0} (P : Programs S) (counts : Counts) (before : List Event) (s : Actor S) (e : Event) → KeepsRoom P counts (own (actor_in e) before) s e
+room_from_own : {S : Type 0} (P : Programs S) (counts : Counts) (before : List Event) (s : Actor S) (e : Event)
+    → KeepsRoom P counts (own (actor_in e) before) s e
     → KeepsRoom P counts before s e
 room_from_own P counts before s (Own op (Began c)) h = rw (used_own before op.actor) at h
 room_from_own P counts before s (Own op (NotBegun c)) h = rw (used_own before op.actor) at h
@@ -91,12 +96,14 @@ room_from_own P counts before s Dumped h = tt
 abbrev pub AreOwnLimits : {S : Type 0} (P : Programs S) → Counts → List Event → List Event → Type 0
 AreOwnLimits P counts before es = (a : ℕ) → OwnLimits P counts (own a before) ((moment P counts before).actors a) (own a es)
 
-first_room : {S : Type 0} (P : Programs S) (counts : Counts) (before : List Event) (s : Actor S) (e : Event) (es : List Event) (b : Bool) → b ≡ true
+first_room : {S : Type 0} (P : Programs S) (counts : Counts) (before : List Event) (s : Actor S) (e : Event) (es : List Event) (b : Bool)
+    → b ≡ true
     → OwnLimits P counts before s (if b then e ∷ es else es) → KeepsRoom P counts before s e
 first_room P counts before s e es true h l = l.0
 first_room P counts before s e es false h l = absurd cc
 
-first_keeps : {S : Type 0} (P : Programs S) (counts : Counts) (before : List Event) (e : Event) (es : List Event) → AreOwnLimits P counts before (e ∷ es)
+first_keeps : {S : Type 0} (P : Programs S) (counts : Counts) (before : List Event) (e : Event) (es : List Event)
+    → AreOwnLimits P counts before (e ∷ es)
     → KeepsRoom P counts before ((moment P counts before).actors (actor_in e)) e
 first_keeps P counts before e es limits =
     let k : ℕ = actor_in e in
@@ -122,18 +129,21 @@ state_more P counts before e a =
     ap (λ n. n.actors a) (moment-append P counts before (e ∷ [])) ∙ after_actors P m e a ∙ ap
     (λ (c : Counts). if is_own a e then own_next P c (m.actors a) e else m.actors a) same
 
-rest_keep : {S : Type 0} (P : Programs S) (counts : Counts) (before : List Event) (e : Event) (es : List Event) → AreOwnLimits P counts before (e ∷ es)
+rest_keep : {S : Type 0} (P : Programs S) (counts : Counts) (before : List Event) (e : Event) (es : List Event)
+    → AreOwnLimits P counts before (e ∷ es)
     → AreOwnLimits P counts (before ++ e ∷ []) es
 rest_keep P counts before e es limits a =
     let s = (moment P counts before).actors a in
     rw (own-append a before (e ∷ []), state_more P counts before e a)
     (rest_limits P counts (own a before) s e (own a es) (is_own a e) (limits a))
 
-pub limits_from_own : {S : Type 0} (P : Programs S) (counts : Counts) (before es : List Event) → AreOwnLimits P counts before es → KeepsLimitsAfter P counts before es
+pub limits_from_own : {S : Type 0} (P : Programs S) (counts : Counts) (before es : List Event) → AreOwnLimits P counts before es
+    → KeepsLimitsAfter P counts before es
 limits_from_own P counts before [] limits = tt
 limits_from_own P counts before (e ∷ es) limits =
     (first_keeps P counts before e es limits, limits_from_own P counts (before ++ e ∷ []) es (rest_keep P counts before e es limits))
 
-pub own_limits_make_limits : {S : Type 0} (P : Programs S) (counts : Counts) (history : List Event) → ((actor : ℕ) → OwnLimits P counts [] idle_actor (own actor history))
+pub own_limits_make_limits : {S : Type 0} (P : Programs S) (counts : Counts) (history : List Event)
+    → ((actor : ℕ) → OwnLimits P counts [] idle_actor (own actor history))
     → KeepsLimits P counts history
 own_limits_make_limits P counts history limits = limits_from_own P counts [] history limits

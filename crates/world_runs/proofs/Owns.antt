@@ -17,13 +17,15 @@ use Rattle.world_runs.proofs.Actors.{replies-append, replies-front, replies-rest
 abbrev pub AreOwnRuns : {S : Type 0} (P : Programs S) → WorldState S → List Event → Type 0
 AreOwnRuns P m es = (a : ℕ) → OwnRun P m.counts (m.actors a) (own a es)
 
-first_own : {S : Type 0} (P : Programs S) (counts : Counts) (s : Actor S) (e : Event) (es : List Event) (b : Bool) → b ≡ true → OwnRun P counts s (if b then e ∷ es else es)
+first_own : {S : Type 0} (P : Programs S) (counts : Counts) (s : Actor S) (e : Event) (es : List Event) (b : Bool) → b ≡ true
+    → OwnRun P counts s (if b then e ∷ es else es)
     → OwnMayHappen P counts s e
 first_own P counts s e es true h r = r.0
 first_own P counts s e es false h r = absurd cc
 
 -- the first event may be done
-first_may : {S : Type 0} (P : Programs S) (m : WorldState S) (e : Event) (es : List Event) → AreOwnRuns P m (e ∷ es) → OwnMayHappen P m.counts (m.actors (actor_in e)) e
+first_may : {S : Type 0} (P : Programs S) (m : WorldState S) (e : Event) (es : List Event) → AreOwnRuns P m (e ∷ es)
+    → OwnMayHappen P m.counts (m.actors (actor_in e)) e
 first_may P m e es runs =
     let k : ℕ = actor_in e in
     elim (own_of_actor e) [
@@ -32,15 +34,19 @@ first_may P m e es runs =
     ]
 
 -- the other events go on from the moment after it
-rest_run : {S : Type 0} (P : Programs S) (counts : Counts) (s : Actor S) (e : Event) (es : List Event) (b : Bool) → OwnRun P counts s (if b then e ∷ es else es)
+rest_run : {S : Type 0} (P : Programs S) (counts : Counts) (s : Actor S) (e : Event) (es : List Event) (b : Bool)
+    → OwnRun P counts s (if b then e ∷ es else es)
     → OwnRun P counts (if b then own_next P counts s e else s) es
 rest_run P counts s e es true r = r.1
 rest_run P counts s e es false r = r
 
-rest_runs : {S : Type 0} (P : Programs S) (m : WorldState S) (e : Event) (es : List Event) → AreOwnRuns P m (e ∷ es) → AreOwnRuns P (after P m e) es
-rest_runs P m e es runs a = rw (after_counts P m e, after_actors P m e a) (rest_run P m.counts (m.actors a) e (own a es) (is_own a e) (runs a))
+rest_runs : {S : Type 0} (P : Programs S) (m : WorldState S) (e : Event) (es : List Event) → AreOwnRuns P m (e ∷ es)
+    → AreOwnRuns P (after P m e) es
+rest_runs P m e es runs a = rw (after_counts P m e, after_actors P m e a)
+    (rest_run P m.counts (m.actors a) e (own a es) (is_own a e) (runs a))
 
-pub run_from_own : {S : Type 0} (P : Programs S) (m : WorldState S) (es : List Event) → AreOwnRuns P m es → RepliesAre m.store es → RunFrom P m es
+pub run_from_own : {S : Type 0} (P : Programs S) (m : WorldState S) (es : List Event) → AreOwnRuns P m es → RepliesAre m.store es
+    → RunFrom P m es
 run_from_own P m [] runs replies = tt
 run_from_own P m (e ∷ es) runs replies =
     let rest : RepliesAre (after P m e).store es = rw (after_store P m e) (replies-rest m.store (e ∷ []) es replies) in (
@@ -49,14 +55,16 @@ run_from_own P m (e ∷ es) runs replies =
           rest,
     )
 
-pub own_runs_make_run : {S : Type 0} (P : Programs S) (counts : Counts) (history : List Event) → ((actor : ℕ) → OwnRun P counts idle_actor (own actor history))
+pub own_runs_make_run : {S : Type 0} (P : Programs S) (counts : Counts) (history : List Event)
+    → ((actor : ℕ) → OwnRun P counts idle_actor (own actor history))
     → RepliesAre opening_store history
     → IsWorldRun P counts history
 own_runs_make_run P counts history runs replies = run_from_own P (opening counts) history runs replies
 
 -- ---- the other way round
 
-all_run : {S : Type 0} (P : Programs S) (counts : Counts) (s : Actor S) (e : Event) (es : List Event) (b : Bool) → (b ≡ true → OwnMayHappen P counts s e)
+all_run : {S : Type 0} (P : Programs S) (counts : Counts) (s : Actor S) (e : Event) (es : List Event) (b : Bool)
+    → (b ≡ true → OwnMayHappen P counts s e)
     → OwnRun P counts (if b then own_next P counts s e else s) es → OwnRun P counts s (if b then e ∷ es else es)
 all_run P counts s e es true may r = (may refl, r)
 all_run P counts s e es false may r = r
@@ -64,8 +72,8 @@ all_run P counts s e es false may r = r
 pub own_from_run : {S : Type 0} (P : Programs S) (m : WorldState S) (es : List Event) → RunFrom P m es → AreOwnRuns P m es
 own_from_run P m [] run a = tt
 own_from_run P m (e ∷ es) run a =
-    let may : is_own a e ≡ true
-    → OwnMayHappen P m.counts (m.actors a) e = λ h. subst (λ (k : ℕ). OwnMayHappen P m.counts (m.actors k) e) (actor_of_own a e h) (own_from P m e run.0).0 in
+    let may : is_own a e ≡ true → OwnMayHappen P m.counts (m.actors a) e = λ h. subst
+    (λ (k : ℕ). OwnMayHappen P m.counts (m.actors k) e) (actor_of_own a e h) (own_from P m e run.0).0 in
     let rest : OwnRun P m.counts (if is_own a e then own_next P m.counts (m.actors a) e else m.actors a) (own a es) =
     rw (after_counts P m e, after_actors P m e a) at (own_from_run P (after P m e) es run.1 a) in
     all_run P m.counts (m.actors a) e (own a es) (is_own a e) may rest
