@@ -1,6 +1,6 @@
 -- a story that goes on: its last part has more in it, and a dump ends that part
-use Rattle.std.proofs.Common.{◌≡◌, ◌⊎◌, inl, inr, ℕ, ◌<◌, ◌≤◌, List, [], ◌∷◌, ◌++◌, refl, sym, ap, ◌∙◌, subst, append_assoc}
-use Rattle.std.proofs.lemmas.List.{append-nil, map-append}
+use Rattle.std.proofs.Common.{◌≡◌, ℕ, ◌<◌, ◌≤◌, List, [], ◌∷◌, ◌++◌, refl, sym, ap, ◌∙◌, subst, append_assoc}
+use Rattle.std.proofs.lemmas.List.{append-nil}
 use Rattle.std.proofs.lemmas.List.Elements.{All-nil, recursion_from_All, All-from_recursion}
 use Rattle.std.specs.List.{AllByRecursion, All}
 use Rattle.tect_ids.specs.declared.ids.Counts.{Counts}
@@ -8,7 +8,6 @@ use Rattle.entry_words.specs.declared.entry.Moment.{Moment}
 use Rattle.entry_words.specs.Moments.{stamp_of}
 use Rattle.world_runs.specs.declared.event.Event.{Event}
 use Rattle.world_runs.specs.declared.event.Event.TheVariants.{Dumped}
-use Rattle.world_runs.specs.Races.{own_lines}
 use Rattle.program_forms.specs.Kinds.{Programs}
 use Rattle.world_runs.specs.Actors.{Actor}
 use Rattle.world_runs.specs.OwnRuns.{own_state}
@@ -17,7 +16,6 @@ use Rattle.world_runs.specs.Smooth.{OwnEndsAtOnce}
 use Rattle.world_runs.proofs.Actors.{own_state-append}
 use Rattle.world_runs.proofs.Prompt.{ends_at_once-append}
 use Rattle.world_runs.proofs.Refusals.{of_refused-front, of_refused-rest}
-use Rattle.world_runs.specs.Events.{event_of, events_of}
 use Rattle.race_runs.specs.Stories.{Part, Story, SilentAfter, Timely, Answers, part_events, all_moments, all_events, with_dumps}
 
 abbrev pub no_part : Part
