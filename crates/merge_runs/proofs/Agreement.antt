@@ -17,7 +17,8 @@ use Rattle.merge_runs.proofs.Order.{In, both}
 use Rattle.merge_runs.proofs.Members.{in_from_contains, in_flat}
 use Rattle.merge_runs.proofs.Strict.{actor_of_pass}
 use Rattle.merge_runs.proofs.Restricts.{place_kept}
-use Rattle.merge_runs.proofs.Trails.{all_in, in_all, act_in, owner_of}
+use Rattle.merge_runs.proofs.Trails.{all_in, in_all, owner_of}
+use Rattle.merge_runs.proofs.Acts.{act_in}
 use Rattle.merge_runs.proofs.Places.{one_placed, histories_from_stored}
 use Rattle.merge_runs.proofs.Splits.{from_step}
 use Rattle.merge_runs.proofs.Distinct.{Distinct, same_members, distinct_flat}
@@ -66,8 +67,8 @@ agreement ks ps s d here there =
     (λ e i.
     let w = in_flat entries_of ps e i in
     let a = all_in (λ p. All (IsStoredMoment ks) (moments_of p)) ps there w.0 w.1 in
-    in_from_contains (histories ks) e (histories_from_stored ks e (all_in (IsStoredMoment ks) (moments_of w.0) a (Act e)
-    (act_in (moments_of w.0) e w.2))))
+    let m = act_in (moments_of w.0) e w.2 in
+    in_from_contains (histories ks) e (histories_from_stored ks e (all_in (IsStoredMoment ks) (moments_of w.0) a (Act e m.0) m.1)))
     (λ e i.
     let w = in_flat history_of ks e i in
     let a = all_in (λ k. All (Contains (trails ps)) (history_of k)) ks here w.0 w.1 in
@@ -86,4 +87,5 @@ stored_trails ks ps there =
     (λ e i.
     let w = in_flat entries_of ps e i in
     let a = all_in (λ p. All (IsStoredMoment ks) (moments_of p)) ps there w.0 w.1 in
-    all_in (IsStoredMoment ks) (moments_of w.0) a (Act e) (act_in (moments_of w.0) e w.2))
+    let m = act_in (moments_of w.0) e w.2 in
+    all_in (IsStoredMoment ks) (moments_of w.0) a (Act e m.0) m.1)

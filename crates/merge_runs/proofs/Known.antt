@@ -6,7 +6,7 @@ use Rattle.std.proofs.lemmas.List.Elements.{Contains-get_or}
 use Rattle.place_kit.specs.declared.any.AnyKept.{AnyKept}
 use Rattle.entry_words.specs.declared.entry.Entry.{Entry}
 use Rattle.entry_words.specs.declared.entry.Moment.{Moment}
-use Rattle.entry_words.specs.declared.entry.Moment.TheVariants.{Act}
+use Rattle.entry_words.specs.Moments.{trail_of}
 use Rattle.passes.specs.declared.pass.Pass.{Pass}
 use Rattle.place_kit.specs.Kept.{history_of}
 use Rattle.merge_runs.specs.Merged.{HaveDifferentActors, StandInOrder, moments_of, entries_of, trails, histories, IsStored}
@@ -14,7 +14,7 @@ use Rattle.merge_runs.specs.Splits.{IsApart}
 use Rattle.merge_runs.proofs.Order.{In}
 use Rattle.merge_runs.proofs.Members.{in_from_contains, contains_from_in, flat_in, one_only}
 use Rattle.merge_runs.proofs.Strict.{actor_of_pass}
-use Rattle.merge_runs.proofs.Trails.{all_in, act_in, entry_in, owner_of, in_trails, trails_in}
+use Rattle.merge_runs.proofs.Trails.{all_in, owner_of, in_trails, trails_in}
 use Rattle.merge_runs.proofs.Places.{stored_at, place_stored, stored_from_histories}
 use Rattle.merge_runs.proofs.Search.{not_true, not_less, get_or-default}
 
@@ -24,14 +24,14 @@ one_pass ps p q d i j h = one_only actor_of_pass q.actor ps p q (d q.actor) i j 
 
 -- the pass of the entry's actor has it
 pub known_by : (ps : List Pass) (e : Entry) (p : Pass) (b : Bool) → HaveDifferentActors ps → Contains ps p
-    → p.actor ≡ e.actor → (IsTrue b ↔ Contains (moments_of p) (Act e)) → IsTrue b ↔ Contains (trails ps) e
+    → p.actor ≡ e.actor → (IsTrue b ↔ Contains (entries_of p) e) → IsTrue b ↔ Contains (trails ps) e
 known_by ps e p b d c a f =
     let here : In p ps = in_from_contains ps p c in (
-      λ t. trails_in ps p e here (entry_in (moments_of p) e (in_from_contains (moments_of p) (Act e) (f.0 t))),
+      λ t. trails_in ps p e here (in_from_contains (entries_of p) e (f.0 t)),
       λ k.
           let w = in_trails ps e k in
           let same : w.0 ≡ p = one_pass ps w.0 p d w.1 here (sym (owner_of w.0 e w.2) ∙ sym a) in
-          f.1 (contains_from_in (moments_of p) (Act e) (act_in (moments_of p) e (subst (λ q. In e (entries_of q)) same w.2))),
+          f.1 (contains_from_in (entries_of p) e (subst (λ q. In e (entries_of q)) same w.2)),
     )
 
 -- no pass is of the entry's actor
@@ -72,8 +72,8 @@ apart_unknown ks ps i k es e l h q c =
 
 -- an entry of a trail that the history of its place lacks
 pub apart_missing : (ks : List AnyKept) (ps : List Pass) (i : ℕ) (p : Pass) (ms : List Moment) (e : Entry) → i < length ps
-    → p ≡ get_or ps i p → ms ≡ moments_of p → Contains ms (Act e) × (¬ IsStored ks e) → IsApart ks ps e
+    → p ≡ get_or ps i p → ms ≡ moments_of p → Contains (trail_of ms) e × (¬ IsStored ks e) → IsApart ks ps e
 apart_missing ks ps i p ms e l h q c =
     let at : Contains ps p = subst (λ x. Contains ps x) (sym h) (Contains-get_or ps i p l) in
-    let has : In (Act e) (moments_of p) = in_from_contains (moments_of p) (Act e) (subst (λ xs. Contains xs (Act e)) q c.0) in
-    inl (trails_in ps p e (in_from_contains ps p at) (entry_in (moments_of p) e has), λ w. c.1 (stored_from_histories ks e w))
+    let has : In e (entries_of p) = in_from_contains (entries_of p) e (subst (λ xs. Contains (trail_of xs) e) q c.0) in
+    inl (trails_in ps p e (in_from_contains ps p at) has, λ w. c.1 (stored_from_histories ks e w))

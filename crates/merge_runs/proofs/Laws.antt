@@ -1,6 +1,6 @@
 -- What follows from one gathered history, for the crates above; and how passes are seen to be of different actors.
 use Rattle.std.proofs.Common.{◌≡◌, ◌≢◌, ℕ, ◌≤◌, Bool, true, false, cond, ◌⊎◌, inl, inr, List, [], ◌∷◌, refl, sym, ◌∙◌}
-use Rattle.std.proofs.Common.{arith, map, eqb, length}
+use Rattle.std.proofs.Common.{arith, eqb, length}
 use Rattle.std.specs.List.{flat_map, filter, All}
 use Rattle.std.specs.List.Sorted.{IsPermutation}
 use Rattle.std.proofs.lemmas.List.Elements.{All-head, All-tail}
@@ -10,17 +10,19 @@ use borrow.Author.Tests.{eqb-true}
 use Rattle.place_kit.specs.declared.any.AnyKept.{AnyKept}
 use Rattle.entry_words.specs.declared.entry.Entry.{Entry}
 use Rattle.entry_words.specs.declared.entry.Moment.{Moment}
+use Rattle.program_forms.specs.declared.heard.Heard.{Heard}
 use Rattle.entry_words.specs.declared.entry.Moment.TheVariants.{Act, Local}
 use Rattle.passes.specs.declared.pass.Pass.{Pass}
 use Rattle.place_kit.specs.Kept.{history_of, place_of}
-use Rattle.entry_words.specs.Moments.{actor_of, is_at, is_of}
+use Rattle.entry_words.specs.Moments.{actor_of, is_at, is_of, trail_of}
 use Rattle.merge_runs.specs.Merged.{HaveDifferentActors, StandInOrder, moments_of, trails, IsStored, RestrictsToTrails}
 use Rattle.merge_runs.specs.Merged.{RestrictsToHistories}
 use Rattle.merge_runs.proofs.Order.{In}
 use Rattle.merge_runs.proofs.Members.{in_permutation, in_filter, in_flat, flat_in, in_from_contains, count_of}
 use Rattle.merge_runs.proofs.Restricts.{actor_in}
 use Rattle.merge_runs.proofs.Strict.{actor_of_pass}
-use Rattle.merge_runs.proofs.Trails.{all_in, entry_in, trails_in}
+use Rattle.merge_runs.proofs.Trails.{all_in, trails_in}
+use Rattle.merge_runs.proofs.Acts.{entry_in}
 use Rattle.merge_runs.proofs.Places.{place_stored}
 
 empty_from_none : {X : Type 0} (xs : List X) → ((z : X) → In z xs → ⊥) → xs ≡ []
@@ -34,8 +36,8 @@ of_pass ps ms r p i = all_in (λ p. filter (is_of p.actor) ms ≡ moments_of p) 
 
 -- the transactions at a place are its history
 pub at_place : (ks : List AnyKept) (ms : List Moment) → RestrictsToHistories ks ms → (k : AnyKept) → In k ks
-    → filter (is_at (place_of k)) ms ≡ map Act (history_of k)
-at_place ks ms r k i = all_in (λ k. filter (is_at (place_of k)) ms ≡ map Act (history_of k)) ks r k i
+    → trail_of (filter (is_at (place_of k)) ms) ≡ history_of k
+at_place ks ms r k i = all_in (λ k. trail_of (filter (is_at (place_of k)) ms) ≡ history_of k) ks r k i
 
 module _ (ps : List Pass) (ms : List Moment) (whole : IsPermutation (flat_map moments_of ps) ms) where
   -- each moment is of a pass, and of each pass each moment is there
@@ -57,16 +59,16 @@ module _ (ps : List Pass) (ms : List Moment) (whole : IsPermutation (flat_map mo
 
   module _ (ks : List AnyKept) (stored : All (IsStored ks) (trails ps)) where
     -- each transaction is in the history of its place
-    pub is_stored : (e : Entry) → In (Act e) ms → IsStored ks e
-    is_stored e i =
-        let w = from_pass (Act e) i in
+    pub is_stored : (e : Entry) (heard : Heard) → In (Act e heard) ms → IsStored ks e
+    is_stored e heard i =
+        let w = from_pass (Act e heard) i in
         all_in (IsStored ks) (trails ps) stored e
-        (in_from_contains (trails ps) e (trails_in ps w.0 e w.1 (entry_in (moments_of w.0) e w.2)))
+        (in_from_contains (trails ps) e (trails_in ps w.0 e w.1 (entry_in (moments_of w.0) e heard w.2)))
 
     not_at : (n : ℕ) → StandInOrder 0 ks → length ks ≤ n → (m : Moment) → In m ms → is_at n m ≡ true → ⊥
-    not_at n s l (Act e) i h =
+    not_at n s l (Act e heard) i h =
         let p : e.place.0 ≡ n = eqb-true e.place.0 n h in
-        let q = (place_stored ks e s (is_stored e i)).0 in
+        let q = (place_stored ks e s (is_stored e heard i)).0 in
         omega arith
     not_at n s l (Local stamp actor note) i h = cc
 

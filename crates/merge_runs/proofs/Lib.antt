@@ -1,4 +1,5 @@
 pub mod Order
+pub mod Acts
 pub mod Members
 pub mod Strict
 pub mod Restricts

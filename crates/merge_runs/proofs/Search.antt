@@ -12,10 +12,14 @@ use Rattle.entry_words.specs.declared.entry.Entry.{Entry}
 use Rattle.entry_words.specs.declared.entry.Moment.{Moment}
 use Rattle.place_kit.specs.declared.any.AnyKept.{AnyKept}
 use Rattle.place_kit.specs.declared.any.AnyKept.TheVariants.{Name, File}
-use Rattle.entry_words.specs.Moments.{stamp_of, rises}
+use Rattle.entry_words.specs.Moments.{stamp_of, rises, trail_of}
 use Rattle.place_kit.specs.Kept.{history_of}
 use Rattle.place_kit.specs.Replay.{stamps_rise}
+use Rattle.entry_words.specs.declared.entry.Moment.TheVariants.{Act}
+use Rattle.merge_runs.specs.Splits.{IsActOf}
 use Rattle.merge_runs.proofs.Order.{both}
+use Rattle.merge_runs.proofs.Members.{in_from_contains, contains_from_in}
+use Rattle.merge_runs.proofs.Acts.{act_in, act_of_in}
 
 -- the key rises along the list
 abbrev pub Climbs : {X : Type 0} → (X → ℕ) → List X → Type 0
@@ -148,6 +152,30 @@ module _ {X : Type 0} (key : X → ℕ) (xs : List X) (up : Climbs key xs) where
   pub err_answer : (z : X) (i : ℕ) → (IsNonDecreasingBy (λ y. ordering_index (nat_cmp (key y) (key z))) xs
       → IsPartitionPoint (λ y. nat_cmp (key y) (key z) ≡ Less) (λ y. nat_cmp (key y) (key z) ≡ Greater) xs i) → IsTrue false ↔ Contains xs z
   err_answer z i f = (λ t. absurd (not_true t), λ c. absurd (none_is z i f c))
+
+-- an entry among moments, by the moment that was read where its stamp stands
+module _ (ms : List Moment) (up : Climbs stamp_of ms) (e : Entry) where
+  pub ok_moment : (y : Moment) (i : ℕ) (b : Bool) → i < length ms → HoldsAt (λ w. nat_cmp (stamp_of w) e.stamp ≡ Equal) ms i
+      → y ≡ get_or ms i y → (IsTrue b ↔ IsActOf e y) → IsTrue b ↔ Contains (trail_of ms) e
+  ok_moment y i b l h at f = (
+    λ t. contains_from_in (trail_of ms) e (act_of_in ms e y (f.0 t) (in_from_contains ms y (i, l, sym at))),
+    λ c.
+        let a = act_in ms e (in_from_contains (trail_of ms) e c) in
+        let z : Moment = Act e a.0 in
+        let k : stamp_of y ≡ e.stamp = nat_equal (stamp_of y) e.stamp (subst (λ w. nat_cmp (stamp_of w) e.stamp ≡ Equal) (sym at) (h y)) in
+        let same : y ≡ z = found_is stamp_of ms up z y i l at k (contains_from_in ms z a.1) in
+        f.1 (subst (λ w. IsActOf e w) (sym same) refl),
+  )
+
+  pub err_moment : (i : ℕ) → (IsNonDecreasingBy (λ y. ordering_index (nat_cmp (stamp_of y) e.stamp)) ms
+      → IsPartitionPoint (λ y. nat_cmp (stamp_of y) e.stamp ≡ Less) (λ y. nat_cmp (stamp_of y) e.stamp ≡ Greater) ms i)
+      → IsTrue false ↔ Contains (trail_of ms) e
+  err_moment i f = (
+    λ t. absurd (not_true t),
+    λ c.
+        let a = act_in ms e (in_from_contains (trail_of ms) e c) in
+        absurd (none_is stamp_of ms up (Act e a.0) i f (contains_from_in ms (Act e a.0) a.1)),
+  )
 
 pub climbs_kept : (k : AnyKept) → Climbs (λ e. e.stamp) (history_of k)
 climbs_kept (Name k) = climbs_history 0 k.clock k.history.items k.kept.rising

@@ -7,14 +7,14 @@ use borrow.Author.Tests.{eqb-true}
 use Rattle.place_kit.specs.declared.any.AnyKept.{AnyKept}
 use Rattle.entry_words.specs.declared.entry.Entry.{Entry}
 use Rattle.entry_words.specs.declared.entry.Moment.{Moment}
-use Rattle.entry_words.specs.declared.entry.Moment.TheVariants.{Act}
 use Rattle.passes.specs.declared.pass.Pass.{Pass}
 use Rattle.entry_words.specs.Moments.{steps_count}
 use Rattle.merge_runs.specs.Merged.{HaveDifferentActors, moments_of, entries_of, trails, histories, IsStored}
-use Rattle.merge_runs.specs.Splits.{IsInPass, IsOther, IsInPlace, IsApart}
+use Rattle.merge_runs.specs.Splits.{IsActOf, IsInPass, IsOther, IsInPlace, IsApart}
 use Rattle.merge_runs.proofs.Order.{In, both}
 use Rattle.merge_runs.proofs.Members.{in_from_contains, contains_from_in}
-use Rattle.merge_runs.proofs.Trails.{all_in, in_all, entry_in, owner_of, in_trails, trails_in}
+use Rattle.merge_runs.proofs.Trails.{all_in, in_all, owner_of, in_trails, trails_in}
+use Rattle.merge_runs.proofs.Acts.{act_of_in}
 use Rattle.merge_runs.proofs.Places.{stored_from_histories}
 use Rattle.merge_runs.proofs.Known.{one_pass}
 
@@ -49,11 +49,11 @@ one_step first next (x ∷ xs) e f h (inr i) (inr j) q =
 
 -- what the search in the pass of the actor shows
 pub entry_found : (p : Pass) (i : ℕ) (ms : List Moment) (m : Moment) (e : Entry) → i < length ms → m ≡ get_or ms i m
-    → ms ≡ moments_of p → m ≡ Act e → Contains (entries_of p) e
+    → ms ≡ moments_of p → IsActOf e m → Contains (entries_of p) e
 entry_found p i ms m e l h q a =
     let at : Contains ms m = subst (λ x. Contains ms x) (sym h) (Contains-get_or ms i m l) in
-    let act : Contains (moments_of p) (Act e) = subst (λ x. Contains (moments_of p) x) a (subst (λ xs. Contains xs m) q at) in
-    contains_from_in (entries_of p) e (entry_in (moments_of p) e (in_from_contains (moments_of p) (Act e) act))
+    let act : Contains (moments_of p) m = subst (λ xs. Contains xs m) q at in
+    contains_from_in (entries_of p) e (act_of_in (moments_of p) e m a (in_from_contains (moments_of p) m act))
 
 pub none_in_pass : (ps : List Pass) (p : Pass) (actor step : ℕ) → HaveDifferentActors ps → Contains ps p → p.actor ≡ actor
     → All (λ e. e.step ≢ step) (entries_of p) → IsInPass ps actor step None

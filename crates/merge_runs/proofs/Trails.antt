@@ -9,9 +9,10 @@ use Rattle.entry_words.specs.declared.entry.Moment.TheVariants.{Act, Local}
 use Rattle.passes.specs.declared.pass.Pass.{Pass}
 use Rattle.entry_words.specs.Moments.{trail_of}
 use Rattle.merge_runs.specs.Merged.{moments_of, entries_of, trails, IsStored}
-use Rattle.merge_runs.specs.Splits.{IsStoredMoment}
+use Rattle.merge_runs.specs.Splits.{IsActOf, IsStoredMoment}
 use Rattle.merge_runs.proofs.Order.{In}
 use Rattle.merge_runs.proofs.Members.{in_from_contains, contains_from_in, in_flat, flat_in}
+use Rattle.merge_runs.proofs.Acts.{act_in}
 use Rattle.merge_runs.proofs.Restricts.{actor_in}
 
 module _ {X : Type 0} (P : X → Type 0) where
@@ -21,21 +22,8 @@ module _ {X : Type 0} (P : X → Type 0) where
   pub in_all : (xs : List X) → ((x : X) → In x xs → P x) → All P xs
   in_all xs f k d l = f (get_or xs k d) (in_from_contains xs (get_or xs k d) (Contains-get_or xs k d l))
 
-pub act_in : (ms : List Moment) (e : Entry) → In e (trail_of ms) → In (Act e) ms
-act_in [] e i = absurd i
-act_in (Act x ∷ ms) e (inl h) = inl (ap (λ (y : Entry). Act y) h)
-act_in (Act x ∷ ms) e (inr i) = inr (act_in ms e i)
-act_in (Local s a n ∷ ms) e i = inr (act_in ms e i)
-
-pub entry_in : (ms : List Moment) (e : Entry) → In (Act e) ms → In e (trail_of ms)
-entry_in [] e i = absurd i
-entry_in (Act x ∷ ms) e (inl h) = inl cc
-entry_in (Act x ∷ ms) e (inr i) = inr (entry_in ms e i)
-entry_in (Local s a n ∷ ms) e (inl h) = absurd cc
-entry_in (Local s a n ∷ ms) e (inr i) = entry_in ms e i
-
 pub owner_of : (p : Pass) (e : Entry) → In e (entries_of p) → e.actor ≡ p.actor
-owner_of p e i = actor_in p.actor p.moments.items (Act e) p.known.own (act_in p.moments.items e i)
+owner_of p e i = let a = act_in p.moments.items e i in actor_in p.actor p.moments.items (Act e a.0) p.known.own a.1
 
 -- an entry of the trails is an entry of one pass
 pub in_trails : (ps : List Pass) (e : Entry) → Contains (trails ps) e → (p : Pass) × In p ps × In e (entries_of p)
@@ -45,12 +33,12 @@ pub trails_in : (ps : List Pass) (p : Pass) (e : Entry) → In p ps → In e (en
 trails_in ps p e i j = contains_from_in (trails ps) e (flat_in entries_of ps p e i j)
 
 pub stored_entries : (ks : List AnyKept) (p : Pass) → All (IsStoredMoment ks) (moments_of p) → All (IsStored ks) (entries_of p)
-stored_entries ks p a = in_all (IsStored ks) (entries_of p) (λ e i. all_in (IsStoredMoment ks) (moments_of p) a (Act e)
-    (act_in p.moments.items e i))
+stored_entries ks p a = in_all (IsStored ks) (entries_of p) (λ e i. let m = act_in p.moments.items e i in
+    all_in (IsStoredMoment ks) (moments_of p) a (Act e m.0) m.1)
 
 abbrev pub IsNotAt : ℕ → Moment → Type 0
-IsNotAt step m = (e : Entry) → m ≡ Act e → e.step ≢ step
+IsNotAt step m = (e : Entry) → IsActOf e m → e.step ≢ step
 
 pub not_at : (step : ℕ) (p : Pass) → All (IsNotAt step) (moments_of p) → All (λ e. e.step ≢ step) (entries_of p)
-not_at step p a = in_all (λ e. e.step ≢ step) (entries_of p) (λ e i. all_in (IsNotAt step) (moments_of p) a (Act e)
-    (act_in p.moments.items e i) e refl)
+not_at step p a = in_all (λ e. e.step ≢ step) (entries_of p) (λ e i. let m = act_in p.moments.items e i in
+    all_in (IsNotAt step) (moments_of p) a (Act e m.0) m.1 e refl)

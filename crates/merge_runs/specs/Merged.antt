@@ -1,5 +1,5 @@
 -- One list of all moments, and what it has of each actor and of each place.
-use Rattle.std.specs.Prelude.{◌≡◌, ℕ, ◌+◌, ◌≤◌, List, [], ◌∷◌, map, ◌==◌, IsPermutation}
+use Rattle.std.specs.Prelude.{◌≡◌, ℕ, ◌+◌, ◌≤◌, List, [], ◌∷◌, ◌==◌, IsPermutation}
 use Rattle.std.specs.List.{count_by, Contains, All, filter, flat_map}
 use Rattle.std.specs.Ordering.{nat_cmp, on, then_cmp}
 use Rattle.std.specs.declared.cmp.Ordering.{Ordering}
@@ -7,7 +7,6 @@ use Rattle.std.specs.declared.cmp.Ordering.TheVariants.{Less}
 use Rattle.place_kit.specs.declared.any.AnyKept.{AnyKept}
 use Rattle.entry_words.specs.declared.entry.Entry.{Entry}
 use Rattle.entry_words.specs.declared.entry.Moment.{Moment}
-use Rattle.entry_words.specs.declared.entry.Moment.TheVariants.{Act}
 use Rattle.passes.specs.declared.pass.Pass.{Pass}
 use Rattle.place_kit.specs.Kept.{history_of, place_of}
 use Rattle.entry_words.specs.Moments.{stamp_of, actor_of, place_of_moment, is_at, is_of, trail_of}
@@ -61,7 +60,7 @@ RestrictsToTrails ps ms = All (λ p. filter (is_of p.actor) ms ≡ moments_of p)
 
 -- the transactions at each place are its history
 abbrev pub RestrictsToHistories : List AnyKept → List Moment → Type 0
-RestrictsToHistories ks ms = All (λ k. filter (is_at (place_of k)) ms ≡ map Act (history_of k)) ks
+RestrictsToHistories ks ms = All (λ k. trail_of (filter (is_at (place_of k)) ms) ≡ history_of k) ks
 
 -- the history of its place has the entry
 abbrev pub IsStored : List AnyKept → Entry → Type 0

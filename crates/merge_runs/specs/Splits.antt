@@ -45,6 +45,11 @@ IsFault ks ps (Split actor step in_pass in_place) = IsSplit ks ps actor step in_
 abbrev pub IsApart : List AnyKept → List Pass → Entry → Type 0
 IsApart ks ps e = (Contains (trails ps) e × (¬ Contains (histories ks) e)) ⊎ (Contains (histories ks) e × (¬ Contains (trails ps) e))
 
+-- the moment is the transaction of that entry, however it was heard
+abbrev pub IsActOf : Entry → Moment → Type 0
+IsActOf e (Act x heard) = x ≡ e
+IsActOf e (Local stamp actor note) = ⊥
+
 abbrev pub IsStoredMoment : List AnyKept → Moment → Type 0
-IsStoredMoment ks (Act e) = IsStored ks e
+IsStoredMoment ks (Act e heard) = IsStored ks e
 IsStoredMoment ks (Local stamp actor note) = Unit {0}

@@ -3,7 +3,8 @@ ghost use Rattle.std.specs.Prelude.{◌≡◌, ◌≢◌, ◌↔◌, IsTrue, All
 ghost use Rattle.place_kit.specs.Kept.{history_of};
 ghost use Rattle.entry_words.specs.Moments.{stamp_of};
 ghost use Rattle.merge_runs.specs.Merged.{HaveDifferentActors, StandInOrder, moments_of, entries_of, trails, histories, IsStored};
-ghost use Rattle.merge_runs.specs.Splits.{IsApart, IsStoredMoment};
+ghost use Rattle.entry_words.specs.Moments.{trail_of};
+ghost use Rattle.merge_runs.specs.Splits.{IsActOf, IsApart, IsStoredMoment};
 
 use entry_words::{Entry, Moment};
 use passes::Pass;
@@ -22,17 +23,17 @@ pub fn pass_of(passes: &[Pass], actor: u32) -> Option<&Pass>
 }
 
 fn is_act(moment: &Moment, entry: &Entry) -> bool
-    ensures { IsTrue result ↔ (moment.now ≡ Moment.Act entry.now) }
+    ensures { IsTrue result ↔ IsActOf entry.now moment.now }
 {
     match moment {
-        Moment::Act(other) => other.is_same(entry),
+        Moment::Act { entry: other, .. } => other.is_same(entry),
         Moment::Local { .. } => false,
     }
 }
 
 // Whether the pass has the entry. The stamps rise, so it can stand in one place alone.
 fn pass_has(pass: &Pass, entry: &Entry) -> bool
-    ensures { IsTrue result ↔ Contains (moments_of pass.now) (Moment.Act entry.now) }
+    ensures { IsTrue result ↔ Contains (entries_of pass.now) entry.now }
 {
     let moments = pass.moments();
     match moments.binary_search_by_key(&entry.stamp, Moment::stamp) {
@@ -89,11 +90,11 @@ fn first_unknown<'a>(history: &'a [Entry], passes: &[Pass]) -> Option<&'a Entry>
 // The entry of the moment, if the history of its place lacks it.
 fn missing<'a>(moment: &'a Moment, kepts: &[AnyKept]) -> Option<&'a Entry>
     requires { StandInOrder 0 kepts.now }
-    ensures { MatchOption result (IsStoredMoment kepts.now moment.now) (λ e. (moment.now ≡ Moment.Act e.now)
+    ensures { MatchOption result (IsStoredMoment kepts.now moment.now) (λ e. IsActOf e.now moment.now
         × (¬ IsStored kepts.now e.now)) }
 {
     match moment {
-        Moment::Act(entry) => {
+        Moment::Act { entry, .. } => {
             if is_stored(kepts, entry) {
                 None
             } else {
@@ -107,7 +108,7 @@ fn missing<'a>(moment: &'a Moment, kepts: &[AnyKept]) -> Option<&'a Entry>
 // The first entry of a trail that the history of its place lacks.
 fn first_missing<'a>(moments: &'a [Moment], kepts: &[AnyKept]) -> Option<&'a Entry>
     requires { StandInOrder 0 kepts.now }
-    ensures { MatchOption result (All (IsStoredMoment kepts.now) moments.now) (λ e. Contains moments.now (Moment.Act e.now)
+    ensures { MatchOption result (All (IsStoredMoment kepts.now) moments.now) (λ e. Contains (trail_of moments.now) e.now
         × (¬ IsStored kepts.now e.now)) }
 {
     for moment in moments {

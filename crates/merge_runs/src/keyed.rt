@@ -19,7 +19,7 @@ impl<'a> Keyed<'a> {
         ensures { result.moment.now ≡ moment.now }
     {
         match moment {
-            Moment::Act(entry) => Keyed {
+            Moment::Act { entry, .. } => Keyed {
                 stamp: entry.stamp,
                 place: entry.place.0,
                 actor: entry.actor,

@@ -2,7 +2,7 @@
 ghost use Rattle.std.specs.Prelude.{◌≡◌, ◌≢◌, ◌↔◌, IsTrue, All, Contains, MatchOption, IfOk, Some, None};
 ghost use Rattle.place_kit.specs.Kept.{history_of};
 ghost use Rattle.merge_runs.specs.Merged.{HaveDifferentActors, StandInOrder, entries_of, trails, histories, IsStored};
-ghost use Rattle.merge_runs.specs.Splits.{IsApart, IsFault, IsInPass, IsInPlace, IsOther, IsFirst};
+ghost use Rattle.merge_runs.specs.Splits.{IsActOf, IsApart, IsFault, IsInPass, IsInPlace, IsOther, IsFirst};
 
 use crate::agree::{is_stored, pass_of};
 use crate::fault::GatherFault;
@@ -13,11 +13,11 @@ use tect_ids::NoMemory;
 
 // The entry of the moment, if it is the one of that step.
 fn act_at(moment: &Moment, step: u32) -> Option<&Entry>
-    ensures { MatchOption result ((e : _) → moment.now ≡ Moment.Act e → e.step ≢ step) (λ e. (moment.now ≡ Moment.Act e.now)
+    ensures { MatchOption result ((e : _) → IsActOf e moment.now → e.step ≢ step) (λ e. IsActOf e.now moment.now
         × (e.now.step ≡ step)) }
 {
     match moment {
-        Moment::Act(entry) => {
+        Moment::Act { entry, .. } => {
             if entry.step == step {
                 Some(entry)
             } else {

@@ -86,7 +86,7 @@ fn told(alloc: Global, moments: &[&Moment]) -> Result<String, AllocError> {
     let mut text = String::new(alloc);
     for moment in moments {
         match moment {
-            Moment::Act(entry) => write!(
+            Moment::Act { entry, .. } => write!(
                 text,
                 "{} {} {}, ",
                 entry.stamp, entry.place.0, entry.actor

@@ -4,8 +4,8 @@ ghost use Rattle.place_kit.specs.Committed.{Served};
 ghost use Rattle.place_locks.specs.Commits.{HasCommitted, IsMissOf, IsRefusalFor};
 ghost use Rattle.place_locks.specs.Serving.{IsNext};
 
-use entry_words::{Entry, Label, Refused};
-use passes::Pass;
+use entry_words::{Label, Refused};
+use passes::{Pass, Receipt};
 use place_kit::{Kept, Machine, Prepared};
 use std::hint::spin_loop;
 use std::sync::{Mutex, MutexGuard, Wait};
@@ -60,8 +60,8 @@ fn commit_with_room<M: Machine, R: Wait, G: Gate>(
     };
     let spare = prepared.spare();
     match serve_at(caller, at, want, pass, prepared) {
-        Ok((reply, entry)) => {
-            pass.record(entry);
+        Ok((reply, receipt)) => {
+            pass.record(receipt);
             Ok(reply)
         }
         Err(refused) => {
@@ -71,14 +71,14 @@ fn commit_with_room<M: Machine, R: Wait, G: Gate>(
     }
 }
 
-// What needs the machine behind the lock.
+// What needs the machine behind the lock: the atomic step of the commit. The receipt then brings the same entry into the pass.
 fn serve_at<M: Machine, R: Wait, G: Gate>(
     caller: Caller<'_, R, G>,
     at: &Mutex<Kept<M>>,
     want: Label,
     pass: &Pass,
     prepared: Prepared<M>,
-) -> Result<(M::Reply, Entry), Refused>
+) -> Result<(M::Reply, Receipt), Refused>
     requires ready { prepared.copy ≡ M.wide prepared.req }
     requires early { pass.now.clock < 2 ^ 63 }
     ensures next { IfOk result (λ r. IsNext pass.now want.place (M.wide prepared.req) (M.wide_reply r.0) r.1) }
@@ -106,13 +106,14 @@ fn take_lock<'a, T, R: Wait>(rt: &R, at: &'a Mutex<T>) -> MutexGuard<'a, T> {
     at.lock(rt)
 }
 
-// What needs the machine, which is to have that label. Its history has the entry that is given back, stamped above both clocks.
+// What needs the machine, which is to have that label: the atomic step. Its history has the entry that the receipt is of, stamped
+// above both clocks.
 fn serve_as<M: Machine>(
     kept: &mut Kept<M>,
     want: Label,
     pass: &Pass,
     prepared: Prepared<M>,
-) -> Result<(M::Reply, Entry), Refused>
+) -> Result<(M::Reply, Receipt), Refused>
     requires ready { prepared.copy ≡ M.wide prepared.req }
     requires early { pass.now.clock < 2 ^ 63 }
     ensures next { IfOk result (λ r. IsNext pass.now want.place (M.wide prepared.req) (M.wide_reply r.0) r.1) }

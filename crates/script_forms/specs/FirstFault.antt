@@ -52,15 +52,27 @@ IsMeasuredFault number text fault words =
     ⊎ (((number ≤ 65536) × (70000 < length text) × (fault ≡ too_large limits.Line))
     ⊎ ((number ≤ 65536) × (length text ≤ 70000) × words))
 
+-- an empty part behind the last line feed is no line: the script ends there
+abbrev pub IsEnd : List ℕ → List (List ℕ) → Type 0
+IsEnd text others = (text ≡ []) × (others ≡ [])
+
+-- With no store line before. The script ends there, behind as many lines as it may have at most; or a line stands there that is
+-- none of a store line.
+abbrev pub IsEarlyFault : ℕ → List ℕ → List (List ℕ) → ScriptFault → Type 0
+IsEarlyFault number text others fault = (IsEnd text others × (number ≤ 65537) × (fault ≡ faults.Bad number 1))
+    ⊎ ((¬ IsEnd text others) × IsMeasuredFault number text fault (IsStoreFault number text others fault))
+
+-- Behind a store line and further lines. A line stands there, and is none that may.
+abbrev pub IsLateFault : Counts → Seen → ℕ → List ℕ → List (List ℕ) → ScriptFault → Type 0
+IsLateFault counts seen number text others fault = (¬ IsEnd text others)
+    × IsMeasuredFault number text fault (IsTextFault counts seen number text others fault)
+
 -- The lines before are right; this one is not, or the script ends there without a store line.
 abbrev pub IsFaultBehind : List (List ℕ) → List ℕ → List (List ℕ) → ScriptFault → Type 0
 IsFaultBehind before text others fault =
-    ((filter is_told before ≡ [])
-    × (((text ≡ []) × (others ≡ []) × (fault ≡ faults.Bad (length before + 1) 1))
-    ⊎ IsMeasuredFault (length before + 1) text fault (IsStoreFault (length before + 1) text others fault)))
+    ((filter is_told before ≡ []) × IsEarlyFault (length before + 1) text others fault)
     ⊎ ((counts : Counts) × (ls : List Line) × (filter is_told before ≡ map line_text (lines.Store counts ∷ ls)) × AreCounts counts
-    × AreLines counts [] ls
-    × IsMeasuredFault (length before + 1) text fault (IsTextFault counts (seen_of [] ls) (length before + 1) text others fault))
+    × AreLines counts [] ls × IsLateFault counts (seen_of [] ls) (length before + 1) text others fault)
 
 pub record IsFaultAt (bytes : List ℕ) (fault : ScriptFault) : Type 0 where
   pub size : length bytes ≤ 67108864

@@ -24,6 +24,7 @@ use Rattle.script_forms.specs.Reading.{add_line, seen_behind, lines_read, behind
 use Rattle.script_forms.specs.Spelling.{is_told, AreLines, MayStand, seen_of}
 use Rattle.script_forms.specs.FirstWrong.{IsWrongLine, IsLargeLine}
 use Rattle.script_forms.specs.FirstFault.{column_of, IsTextFault, IsStoreFault, IsMeasuredFault, IsFaultBehind, IsFaultAt}
+use Rattle.script_forms.specs.FirstFault.{IsEnd, IsEarlyFault, IsLateFault}
 use Rattle.script_laws.proofs.LineSteps.{IsLine as IsText, lines_step, store_step}
 use Rattle.script_laws.proofs.ScriptLaws.{right, faulty, measured_right, IsTold, told_by}
 use Rattle.script_laws.proofs.PlanLaws.{IsStore, store_by}
@@ -119,11 +120,19 @@ pub record LinesWrong (counts : Counts) (seen : Seen) (n : ℕ) (ps : List (List
   pub ls : List Line
   pub told : filter is_told before ≡ map line_text ls
   pub are : AreLines counts seen ls
-  pub fault_is : IsMeasuredFault (n + length before) text fault (IsTextFault counts (seen_of seen ls) (n + length before) text others fault)
+  pub fault_is : IsLateFault counts (seen_of seen ls) (n + length before) text others fault
+
+-- a text stands where it has a byte, or others stand behind it
+stands : (b : ℕ) (line : List ℕ) (others : List (List ℕ)) → ¬ IsEnd (b ∷ line) others
+stands b line others end = let e = end.0 in absurd cc
+
+goes_on : (text q : List ℕ) (qs : List (List ℕ)) → ¬ IsEnd text (q ∷ qs)
+goes_on text q qs end = let e = end.1 in absurd cc
 
 here_wrong : (counts : Counts) (seen : Seen) (n : ℕ) (text : List ℕ) (others : List (List ℕ)) (fault : ScriptFault)
-    → IsMeasuredFault n text fault (IsTextFault counts seen n text others fault) → LinesWrong counts seen n (text ∷ others) fault
-here_wrong counts seen n text others fault is =
+    → (¬ IsEnd text others) → IsMeasuredFault n text fault (IsTextFault counts seen n text others fault)
+    → LinesWrong counts seen n (text ∷ others) fault
+here_wrong counts seen n text others fault stands is =
     let at : n ≡ n + 0 = omega arith in
     record {
       before = [];
@@ -134,7 +143,7 @@ here_wrong counts seen n text others fault is =
       ls = [];
       told = refl;
       are = tt;
-      fault_is = subst (λ (k : ℕ). IsMeasuredFault k text fault (IsTextFault counts seen k text others fault)) at is;
+      fault_is = (stands, subst (λ (k : ℕ). IsMeasuredFault k text fault (IsTextFault counts seen k text others fault)) at is);
     }
 
 go_on_wrong : {A B : Type 0} (r : Result A ScriptFault) (go : A → Result B ScriptFault) (fault : ScriptFault) → go_on r go ≡ Err fault
@@ -162,8 +171,7 @@ behind_wrong counts seen n text more fault None short told m =
       ls = m.ls;
       told = rw told m.told;
       are = m.are;
-      fault_is = subst (λ (k : ℕ). IsMeasuredFault k m.text fault (IsTextFault counts (seen_of seen m.ls) k m.text m.others fault)) at
-          m.fault_is;
+      fault_is = subst (λ (k : ℕ). IsLateFault counts (seen_of seen m.ls) k m.text m.others fault) at m.fault_is;
     }
 behind_wrong counts seen n text more fault (Some line) short told m =
     let at : n + 1 + length m.before ≡ n + length (text ∷ m.before) = omega arith in
@@ -176,9 +184,7 @@ behind_wrong counts seen n text more fault (Some line) short told m =
       ls = line ∷ m.ls;
       told = rw told.0 (ap (λ (t : List ℕ). t ∷ filter is_told m.before) told.2 ∙ ap (λ (ts : List (List ℕ)). line_text line ∷ ts) m.told);
       are = (told.1, m.are);
-      fault_is = subst
-          (λ (k : ℕ). IsMeasuredFault k m.text fault (IsTextFault counts (seen_of (seen_after seen line) m.ls) k m.text m.others fault)) at
-          m.fault_is;
+      fault_is = subst (λ (k : ℕ). IsLateFault counts (seen_of (seen_after seen line) m.ls) k m.text m.others fault) at m.fault_is;
     }
 
 abbrev HasGone : Counts → Seen → ℕ → List ℕ → List (List ℕ) → Option Line → Result (List Line × Seen) ScriptFault
@@ -193,11 +199,11 @@ lines_wrong counts are seen n (b ∷ line) [] fault is = by
     by : (text_read counts seen n (b ∷ line) ≡ Err fault)
         ⊎ ((read : Option Line) × (text_read counts seen n (b ∷ line) ≡ Ok read) × (HasGone counts seen n (b ∷ line) [] read ≡ Err fault))
         → LinesWrong counts seen n ((b ∷ line) ∷ []) fault
-    by (inl e) = here_wrong counts seen n (b ∷ line) [] fault
+    by (inl e) = here_wrong counts seen n (b ∷ line) [] fault (stands b line [])
         (measured_wrong n (b ∷ line) _ fault _ e (λ h. text_wrong_words counts are seen n (b ∷ line) [] fault h))
     by (inr (read, ok, e)) =
         let m = measured_right n (b ∷ line) _ read ok in
-        here_wrong counts seen n (b ∷ line) [] fault
+        here_wrong counts seen n (b ∷ line) [] fault (stands b line [])
         (inr (inr (
           m.number,
           m.size,
@@ -220,7 +226,7 @@ lines_wrong counts are seen n p (q ∷ qs) fault is = by
         ⊎ ((read : Option Line) × (text_read counts seen n p ≡ Ok read) × (HasGone counts seen n p (q ∷ qs) read ≡ Err fault))
         → ((after : Seen) → lines_read counts after (n + 1) (q ∷ qs) ≡ Err fault → LinesWrong counts after (n + 1) (q ∷ qs) fault)
         → LinesWrong counts seen n (p ∷ q ∷ qs) fault
-    by (inl e) go = here_wrong counts seen n p (q ∷ qs) fault
+    by (inl e) go = here_wrong counts seen n p (q ∷ qs) fault (goes_on p q qs)
         (measured_wrong n p _ fault _ e (λ h. text_wrong_words counts are seen n p (q ∷ qs) fault h))
     by (inr (read, ok, e)) go =
         let m = measured_right n p _ read ok in
@@ -260,12 +266,10 @@ store_is text (Some counts) told = inr (counts, told.1, told.2)
 -- what stands behind so many texts, from line number n on
 abbrev pub IsBehind : ℕ → List (List ℕ) → List ℕ → List (List ℕ) → ScriptFault → Type 0
 IsBehind n before text others fault =
-    ((filter is_told before ≡ [])
-    × (((text ≡ []) × (others ≡ []) × (fault ≡ faults.Bad (n + length before) 1))
-    ⊎ IsMeasuredFault (n + length before) text fault (IsStoreFault (n + length before) text others fault)))
+    ((filter is_told before ≡ []) × IsEarlyFault (n + length before) text others fault)
     ⊎ ((counts : Counts) × (ls : List Line) × (filter is_told before ≡ map line_text (lines.Store counts ∷ ls)) × AreCounts counts
     × AreLines counts [] ls
-    × IsMeasuredFault (n + length before) text fault (IsTextFault counts (seen_of [] ls) (n + length before) text others fault))
+    × IsLateFault counts (seen_of [] ls) (n + length before) text others fault)
 
 pub record StoreWrong (n : ℕ) (ps : List (List ℕ)) (fault : ScriptFault) : Type 0 where
   pub before : List (List ℕ)
@@ -276,8 +280,7 @@ pub record StoreWrong (n : ℕ) (ps : List (List ℕ)) (fault : ScriptFault) : T
   pub fault_is : IsBehind n before text others fault
 
 here_store : (n : ℕ) (text : List ℕ) (others : List (List ℕ)) (fault : ScriptFault)
-    → ((text ≡ []) × (others ≡ []) × (fault ≡ faults.Bad n 1)) ⊎ IsMeasuredFault n text fault (IsStoreFault n text others fault)
-    → StoreWrong n (text ∷ others) fault
+    → IsEarlyFault n text others fault → StoreWrong n (text ∷ others) fault
 here_store n text others fault is =
     let at : n ≡ n + 0 = omega arith in
     record {
@@ -286,12 +289,7 @@ here_store n text others fault is =
       others = others;
       whole = refl;
       short = tt;
-      fault_is = inl (
-        refl,
-        subst
-            (λ (k : ℕ). ((text ≡ []) × (others ≡ []) × (fault ≡ faults.Bad k 1))
-            ⊎ IsMeasuredFault k text fault (IsStoreFault k text others fault)) at is,
-      );
+      fault_is = inl (refl, subst (λ (k : ℕ). IsEarlyFault k text others fault) at is);
     }
 
 -- a comment before
@@ -301,9 +299,7 @@ comment_before n t before text others fault hit (inl (none, is)) =
     let at : n + 1 + length before ≡ n + length (t ∷ before) = omega arith in
     inl (
       rw hit none,
-      subst
-          (λ (k : ℕ). ((text ≡ []) × (others ≡ []) × (fault ≡ faults.Bad k 1))
-          ⊎ IsMeasuredFault k text fault (IsStoreFault k text others fault)) at is,
+      subst (λ (k : ℕ). IsEarlyFault k text others fault) at is,
     )
 comment_before n t before text others fault hit (inr (counts, ls, told, are, may, is)) =
     let at : n + 1 + length before ≡ n + length (t ∷ before) = omega arith in
@@ -313,8 +309,7 @@ comment_before n t before text others fault hit (inr (counts, ls, told, are, may
       rw hit told,
       are,
       may,
-      subst
-          (λ (k : ℕ). IsMeasuredFault k text fault (IsTextFault counts (seen_of [] ls) k text others fault)) at is,
+      subst (λ (k : ℕ). IsLateFault counts (seen_of [] ls) k text others fault) at is,
     )
 
 plan_wrong : (counts : Counts) (r : Result (List Line × Seen) ScriptFault) (fault : ScriptFault) → plan_of counts r ≡ Err fault
@@ -352,7 +347,7 @@ found_wrong n t q qs (Some counts) fault short told is later =
             (λ (ts : List (List ℕ)). line_text (lines.Store counts) ∷ ts) m.told),
         told.1,
         m.are,
-        subst (λ (k : ℕ). IsMeasuredFault k m.text fault (IsTextFault counts (seen_of [] m.ls) k m.text m.others fault)) at m.fault_is,
+        subst (λ (k : ℕ). IsLateFault counts (seen_of [] m.ls) k m.text m.others fault) at m.fault_is,
       );
     }
 
@@ -360,25 +355,25 @@ abbrev StoreGone : ℕ → List ℕ → List (List ℕ) → Option Counts → Re
 StoreGone n p more found = ended_by n p more
     (behind_store found (store_read (n + 1) more) (λ counts. plan_of counts (lines_read counts [] (n + 1) more)))
 
-pub store_wrong_at : (n : ℕ) (p : List ℕ) (ps : List (List ℕ)) (fault : ScriptFault) → store_read n (p ∷ ps) ≡ Err fault
+pub store_wrong_at : (n : ℕ) (p : List ℕ) (ps : List (List ℕ)) (fault : ScriptFault) → n ≤ 65537 → store_read n (p ∷ ps) ≡ Err fault
     → StoreWrong n (p ∷ ps) fault
-store_wrong_at n [] [] fault is = here_store n [] [] fault (inl (refl, refl, sym (fault_same Plan (faults.Bad n 1) fault is)))
-store_wrong_at n (b ∷ line) [] fault is = by
+store_wrong_at n [] [] fault few is = here_store n [] [] fault (inl ((refl, refl), few, sym (fault_same Plan (faults.Bad n 1) fault is)))
+store_wrong_at n (b ∷ line) [] fault few is = by
     (go_on_wrong (store_text_read n (b ∷ line)) (λ found. StoreGone n (b ∷ line) [] found) fault is)
   where
     by : (store_text_read n (b ∷ line) ≡ Err fault)
         ⊎ ((found : Option Counts) × (store_text_read n (b ∷ line) ≡ Ok found) × (StoreGone n (b ∷ line) [] found ≡ Err fault))
         → StoreWrong n ((b ∷ line) ∷ []) fault
     by (inl e) = here_store n (b ∷ line) [] fault
-        (inr (measured_wrong n (b ∷ line) _ fault _ e (λ h. store_words_wrong n (b ∷ line) [] fault h)))
+        (inr (stands b line [], measured_wrong n (b ∷ line) _ fault _ e (λ h. store_words_wrong n (b ∷ line) [] fault h)))
     by (inr (found, ok, e)) =
         let m = measured_right n (b ∷ line) _ found ok in
         here_store n (b ∷ line) [] fault
-        (inr (inr (inr
+        (inr (stands b line [], inr (inr
         (m.number, m.size, inl (store_is (b ∷ line) found (store_by n (b ∷ line) found m.is), refl, sym (fault_same Plan _ fault e))))))
-store_wrong_at n p (q ∷ qs) fault is = by
+store_wrong_at n p (q ∷ qs) fault few is = by
     (go_on_wrong (store_text_read n p) (λ found. StoreGone n p (q ∷ qs) found) fault (sym (store_step n p (q ∷ qs) (text_before p)) ∙ is))
-    (λ h. store_wrong_at (n + 1) q qs fault h)
+    (λ next h. store_wrong_at (n + 1) q qs fault next h)
   where
     text_before : (p : List ℕ) → IsText p (q ∷ qs)
     text_before [] = tt
@@ -386,11 +381,12 @@ store_wrong_at n p (q ∷ qs) fault is = by
 
     by : (store_text_read n p ≡ Err fault)
         ⊎ ((found : Option Counts) × (store_text_read n p ≡ Ok found) × (StoreGone n p (q ∷ qs) found ≡ Err fault))
-        → (store_read (n + 1) (q ∷ qs) ≡ Err fault → StoreWrong (n + 1) (q ∷ qs) fault) → StoreWrong n (p ∷ q ∷ qs) fault
-    by (inl e) go = here_store n p (q ∷ qs) fault (inr (measured_wrong n p _ fault _ e (λ h. store_words_wrong n p (q ∷ qs) fault h)))
+        → (n + 1 ≤ 65537 → store_read (n + 1) (q ∷ qs) ≡ Err fault → StoreWrong (n + 1) (q ∷ qs) fault) → StoreWrong n (p ∷ q ∷ qs) fault
+    by (inl e) go = here_store n p (q ∷ qs) fault
+        (inr (goes_on p q qs, measured_wrong n p _ fault _ e (λ h. store_words_wrong n p (q ∷ qs) fault h)))
     by (inr (found, ok, e)) go =
         let m = measured_right n p _ found ok in
-        found_wrong n p q qs found fault m.size (store_by n p found m.is) e go
+        found_wrong n p q qs found fault m.size (store_by n p found m.is) e (go (let h = m.number in omega (arith, h)))
 
 -- ---- the whole
 
@@ -400,7 +396,7 @@ script_wrong bytes fault is = elim (cases_Bool (nat_lt 67108864 (length bytes)))
   | inl large ↦ inl (ltb-true 67108864 (length bytes) large, sym (fault_same Plan (too_large limits.Script) fault (rw large at is)))
   | inr small ↦
       let some = parts_some 10 bytes in
-      let m = store_wrong_at 1 some.0 some.1 fault (ap (λ (ps : List (List ℕ)). store_read 1 ps) (sym some.2) ∙ (rw small at is)) in
+      let m = store_wrong_at 1 some.0 some.1 fault (omega arith) (ap (λ (ps : List (List ℕ)). store_read 1 ps) (sym some.2) ∙ (rw small at is)) in
       let at : 1 + length m.before ≡ length m.before + 1 = omega arith in
       inr (record {
         size = ltb-false 67108864 (length bytes) small;
@@ -422,9 +418,7 @@ script_wrong bytes fault is = elim (cases_Bool (nat_lt 67108864 (length bytes)))
         by : 1 + length before ≡ length before + 1 → IsBehind 1 before text others fault → IsFaultBehind before text others fault
         by at (inl (none, x)) = inl (
           none,
-          subst
-              (λ (k : ℕ). ((text ≡ []) × (others ≡ []) × (fault ≡ faults.Bad k 1))
-              ⊎ IsMeasuredFault k text fault (IsStoreFault k text others fault)) at x,
+          subst (λ (k : ℕ). IsEarlyFault k text others fault) at x,
         )
         by at (inr (counts, ls, told, are, may, x)) = inr (
           counts,
@@ -432,6 +426,5 @@ script_wrong bytes fault is = elim (cases_Bool (nat_lt 67108864 (length bytes)))
           told,
           are,
           may,
-          subst
-              (λ (k : ℕ). IsMeasuredFault k text fault (IsTextFault counts (seen_of [] ls) k text others fault)) at x,
+          subst (λ (k : ℕ). IsLateFault counts (seen_of [] ls) k text others fault) at x,
         )

@@ -21,7 +21,7 @@ invariant_of-self-2 g c = record {
       let m = g.M.Machine in
       let bounded = k.kept.bounded in
       let max = c.max-stamp.ensures in
-      let w = c.own-our_req.ensures in
+      let w = c.own.ensures in
       let r = c.in_ok-our_reply.ensures.same ∙ c.in_ok-reply.ensures.ok in
       let s = c.in-Ok-change.ensures.ok in
       let p = c.args.pass.now in
@@ -32,10 +32,10 @@ invariant_of-self-2 g c = record {
         number =
             op_number p.running;
         step = p.steps;
-        req = c.own-our_req.result;
+        req = c.own.result;
         reply = c.in_ok-our_reply.our_reply;
       } in
-      rw (c.push.ensures, c.in-Ok.ensures.items, c.entry-ours.ensures)
+      rw (c.enter-receipt.ensures.history, c.in-Ok.ensures.items, c.enter-receipt.ensures.entry)
       (IsKept-push m.after m.answer m.opening k.label k.machine c.change.new.machine k.base.value k.history.items
       k.clock k.count e k.kept
       (s ∙ ap (λ q. m.after k.machine q) (sym w)) (r ∙ ap (λ q. m.answer k.machine q) (sym w)) refl (omega (arith, max))
