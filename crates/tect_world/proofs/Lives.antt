@@ -1,15 +1,20 @@
 -- the fields of the world tell a run of it, and stay so with more events of one actor
 use Rattle.std.proofs.Common.{◌≡◌, ◌≢◌, ℕ, ◌+◌, ◌-◌, ◌<◌, ◌≤◌, ◌^◌, Bool, true, false, eqb, if◌then◌else◌, List, [], ◌∷◌, ◌++◌, length, set}
 use Rattle.std.proofs.Common.{refl, sym, ap, subst, ◌∙◌, inl, inr, ◌⊎◌, arith, length-append}
+use Rattle.std.specs.Prelude.{vec_len, vec_capacity, count_by}
 use Rattle.std.proofs.lemmas.List.{get_or-set_same, get_or-set_other, length-map, get_or_past, length-set, append-nil}
+use Rattle.std.proofs.lemmas.List.Sums.{count_by-le-length}
 use Rattle.std.proofs.lemmas.Bool.{cases_lt}
 use Rattle.tect_ids.specs.declared.ids.Counts.{Counts}
 use Rattle.tect_ids.proofs.KeyTests.{num_eq_cases}
 use Rattle.store_rules.specs.Store.{Store, opening_store}
 use Rattle.world_runs.specs.declared.event.Event.{Event}
 use Rattle.world_runs.specs.declared.event.Event.TheVariants.{Dumped}
-use Rattle.world_runs.specs.Moments.{idle_actor, opening, after_all, IsWorldRun}
+use Rattle.world_runs.specs.Actors.{idle_actor}
+use Rattle.world_runs.specs.Moments.{opening, after_all, IsWorldRun}
 use Rattle.entry_words.specs.declared.entry.Moment.{Moment as Noted}
+use Rattle.entry_words.specs.Moments.{rises}
+use Rattle.program_forms.specs.Kinds.{Programs}
 use Rattle.world_runs.specs.Events.{own, event_of, events_of}
 use Rattle.world_runs.specs.OwnRuns.{OwnRun, own_state, RepliesAre, stored_after}
 use Rattle.world_runs.specs.Limits.{KeepsLimits, OwnLimits}
@@ -21,11 +26,11 @@ use Rattle.kept_shards.specs.KeptStore.{clock_at}
 use Rattle.tect_world.specs.declared.marks.Mark.{Mark}
 use Rattle.tect_world.specs.declared.marks.Mark.TheVariants as marks
 use Rattle.tect_world.specs.declared.world.World.TheInside.{Inside}
-use Rattle.tect_world.specs.Clients.{client_at, events_by, IsClientOf}
+use Rattle.tect_world.specs.Clients.{client_at, events_by, going, is_going, IsClientOf}
 use Rattle.tect_world.specs.Life.{Life, present, grown}
 use Rattle.tect_world.specs.Order.{in_order, marks_of, moments_in_order}
 use Rattle.tect_world.specs.Inside.{life_of, noted_in, IsWorld}
-use Rattle.tect_world.specs.Noted.{moments_by, AreNoted}
+use Rattle.tect_world.specs.Noted.{moments_by}
 use Rattle.tect_world.proofs.MomentOrders.{HaveMarks, MayGrow, moments-grow, moments-dump}
 use Rattle.tect_world.proofs.Orders.{AreMarked, marks-append, in_order-grow}
 use Rattle.tect_world.proofs.Owning.{own_behind, own_none}
@@ -34,55 +39,55 @@ pub same_or_not : (a b : ℕ) → (b ≡ a) ⊎ (b ≢ a)
 same_or_not a b = grind (arith, num_eq_cases b a)
 
 -- the moment after more events
-pub present-grown : (w : Life) (es : List Event) → present (grown w es) ≡ after_all (present w) es
-present-grown w es = after_all-append (opening w.counts) w.history es
+pub present-grown : {S : Type 0} (P : Programs S) (w : Life) (es : List Event) → present P (grown w es) ≡ after_all P (present P w) es
+present-grown P w es = after_all-append P (opening w.counts) w.history es
 
 pub up_to : (a : ℕ) → (a ≤ 65) ⊎ (65 < a)
 up_to a = elim (cases_lt 65 a) [ inl h ↦ inr h | inr h ↦ inl h ]
 
 -- ---- what the world tells
 
-module _ (w : Inside) (is : IsWorld w) where
+module _ {S : Type 0} (P : Programs S) (w : Inside S) (is : IsWorld P w) where
   abbrev history : List Event
   history = (life_of w).history
 
   -- what is so of no event, and of each client's, is so of each actor's own
-  own_all : (P : List Event → Type 0) → P [] → ((a : ℕ) → 1 ≤ a → a ≤ 65 → P (events_in (client_at w.shards.counts w.clients.items a)))
-      → (a : ℕ) → P (own a history)
-  own_all P none each a = subst P (sym (is.owns a)) (by_number a)
+  own_all : (Q : List Event → Type 0) → Q [] → ((a : ℕ) → 1 ≤ a → a ≤ 65 → Q (events_in (client_at w.shards.counts w.clients.items a)))
+      → (a : ℕ) → Q (own a history)
+  own_all Q none each a = subst Q (sym (is.owns a)) (by_number a)
     where
-      beyond : (a : ℕ) → 65 < a → P (events_in (client_at w.shards.counts w.clients.items a))
+      beyond : (a : ℕ) → 65 < a → Q (events_in (client_at w.shards.counts w.clients.items a))
       beyond a far =
           let past : client_at w.shards.counts w.clients.items a ≡ idle_life 0 w.shards.counts = get_or_past w.clients.items (a - 1)
           (idle_life 0 w.shards.counts) (omega (arith, far, is.number)) in
-          subst (λ (l : ClientLife). P (events_in l)) (sym past) none
+          subst (λ (l : ClientLife). Q (events_in l)) (sym past) none
 
-      in_range : (a : ℕ) → (a ≤ 65) ⊎ (65 < a) → 1 ≤ a → P (events_in (client_at w.shards.counts w.clients.items a))
+      in_range : (a : ℕ) → (a ≤ 65) ⊎ (65 < a) → 1 ≤ a → Q (events_in (client_at w.shards.counts w.clients.items a))
       in_range a (inl le) low = each a low le
       in_range a (inr lt) low = beyond a lt
 
-      by_number : (a : ℕ) → P (events_by w.shards.counts w.clients.items a)
-      by_number a = elim (eqb a 0) as (λ t. eqb a 0 ≡ t → P (if t then [] else events_in (client_at w.shards.counts w.clients.items a))) [
+      by_number : (a : ℕ) → Q (events_by w.shards.counts w.clients.items a)
+      by_number a = elim (eqb a 0) as (λ t. eqb a 0 ≡ t → Q (if t then [] else events_in (client_at w.shards.counts w.clients.items a))) [
         | true ↦ λ e. none
         | false ↦ λ e. in_range a (up_to a) (let some : a ≢ 0 = λ z. grind (arith, num_eq_cases a 0, z, e) in omega (arith, some))
       ] refl
 
-  pub world_run : IsWorldRun w.shards.counts history
-  world_run = own_runs_make_run w.shards.counts history
-      (own_all (OwnRun w.shards.counts idle_actor) tt (λ a low high.
+  pub world_run : IsWorldRun P w.shards.counts history
+  world_run = own_runs_make_run P w.shards.counts history
+      (own_all (OwnRun P w.shards.counts idle_actor) tt (λ a low high.
       let own = is.each a low high in
-      subst (λ (c : Counts). OwnRun c idle_actor (events_in (client_at w.shards.counts w.clients.items a))) own.counts own.life.run))
+      subst (λ (c : Counts). OwnRun P c idle_actor (events_in (client_at w.shards.counts w.clients.items a))) own.counts own.life.run))
       is.replies
 
-  pub world_limits : KeepsLimits w.shards.counts history
-  world_limits = own_limits_make_limits w.shards.counts history
-      (own_all (OwnLimits w.shards.counts [] idle_actor) tt (λ a low high.
+  pub world_limits : KeepsLimits P w.shards.counts history
+  world_limits = own_limits_make_limits P w.shards.counts history
+      (own_all (OwnLimits P w.shards.counts [] idle_actor) tt (λ a low high.
       let own = is.each a low high in
-      subst (λ (c : Counts). OwnLimits c [] idle_actor (events_in (client_at w.shards.counts w.clients.items a))) own.counts
+      subst (λ (c : Counts). OwnLimits P c [] idle_actor (events_in (client_at w.shards.counts w.clients.items a))) own.counts
       (own.life.limits (omega (arith, own.early, is.early, is.few)))))
 
-  pub world_store : w.shards.store ≡ (present (life_of w)).store
-  world_store = is.store ∙ sym ((states_are_their_own w.shards.counts history).1)
+  pub world_store : w.shards.store ≡ (present P (life_of w)).store
+  world_store = is.store ∙ sym ((states_are_their_own P w.shards.counts history).1)
 
   module _ (a : ℕ) (low : 1 ≤ a) (high : a ≤ 65) where
     abbrev client : ClientLife
@@ -96,10 +101,15 @@ module _ (w : Inside) (is : IsWorld w) where
     pub world_owns : own a history ≡ events_in client
     world_owns = is.owns a ∙ own_events
 
-    pub world_state : (present (life_of w)).actors a ≡ state_in client
+    pub world_state : (present P (life_of w)).actors a ≡ state_in P client
     world_state =
-        (states_are_their_own w.shards.counts history).0 a ∙ ap (own_state w.shards.counts idle_actor) world_owns
-        ∙ ap (λ (c : Counts). own_state c idle_actor (events_in client)) (sym (is.each a low high).counts)
+        (states_are_their_own P w.shards.counts history).0 a ∙ ap (own_state P w.shards.counts idle_actor) world_owns
+        ∙ ap (λ (c : Counts). own_state P c idle_actor (events_in client)) (sym (is.each a low high).counts)
+
+-- ---- how many commands go on
+
+pub few_going : {S : Type 0} (P : Programs S) (w : Inside S) → IsWorld P w → going P w.clients.items ≤ 65
+few_going P w is = let few = count_by-le-length (is_going P) w.clients.items in omega (arith, few, is.number)
 
 -- ---- the moments of all passes
 
@@ -114,8 +124,8 @@ fewer_moments c ls b = by_zero (eqb b 0)
     by_zero true = omega arith
     by_zero false = more_events (client_at c ls b)
 
-pub have_marks : (w : Inside) → IsWorld w → HaveMarks w.order.items (moments_by w.shards.counts w.clients.items)
-have_marks w is b = let fewer = fewer_moments w.shards.counts w.clients.items b in omega (arith, fewer, is.marked b)
+pub have_marks : {S : Type 0} (P : Programs S) (w : Inside S) → IsWorld P w → HaveMarks w.order.items (moments_by w.shards.counts w.clients.items)
+have_marks P w is b = let fewer = fewer_moments w.shards.counts w.clients.items b in omega (arith, fewer, is.marked b)
 
 -- these moments of one actor, and none of the others
 abbrev pub moments_of_one : ℕ → List Noted → ℕ → List Noted
@@ -127,14 +137,14 @@ moments_of_one a ms b = if eqb b a then ms else []
 abbrev pub of_one : ℕ → List Event → ℕ → List Event
 of_one a es b = if eqb b a then es else []
 
-pub record Grows (old new : Inside) (a : ℕ) (s : ClientLife) (es : List Event) (ms : List Mark) : Type 0 where
+pub record Grows {S : Type 0} (P : Programs S) (old new : Inside S) (a : ℕ) (s : ClientLife) (es : List Event) (ms : List Mark) : Type 0 where
   pub items : new.clients.items ≡ set old.clients.items (a - 1) s
   pub counts : new.shards.counts ≡ old.shards.counts
   pub events : events_in s ≡ events_in (client_at old.shards.counts old.clients.items a) ++ es
   pub order : new.order.items ≡ old.order.items ++ ms
   pub told : in_order ms (of_one a es) ≡ es
   pub marked : AreMarked ms (of_one a es)
-  pub mine : IsClientOf old.shards.counts new.clock a s
+  pub mine : IsClientOf P old.shards.counts new.clock a s
   pub later : old.clock ≤ new.clock
   pub places : (p : ℕ) → clock_at new.shards p ≤ new.clock
   pub early : new.clock ≤ length new.order.items
@@ -145,11 +155,11 @@ pub record Grows (old new : Inside) (a : ℕ) (s : ClientLife) (es : List Event)
   pub moments : s.moments ≡ (client_at old.shards.counts old.clients.items a).moments ++ kept
   pub in_turn : moments_in_order ms (moments_of_one a kept) ≡ kept
   pub fresh : (kept ≡ []) ⊎ ((client_at old.shards.counts old.clients.items a).silent ≡ [])
-  pub held : length new.shards.entries ≡ length old.shards.entries
-  pub noted : AreNoted new.clock new.shards.entries (noted_in old ++ kept)
+  pub rising : rises 0 new.clock (noted_in old ++ kept) ≡ true
+  pub room : vec_len new.order + going P new.clients.items ≤ vec_capacity new.order
 
-module _ (old new : Inside) (a : ℕ) (s : ClientLife) (es : List Event) (ms : List Mark) (is : IsWorld old) (low : 1 ≤ a) (high : a ≤ 65)
-    (g : Grows old new a s es ms) where
+module _ {S : Type 0} (P : Programs S) (old new : Inside S) (a : ℕ) (s : ClientLife) (es : List Event) (ms : List Mark)
+    (is : IsWorld P old) (low : 1 ≤ a) (high : a ≤ 65) (g : Grows P old new a s es ms) where
   abbrev c : Counts
   c = old.shards.counts
 
@@ -255,7 +265,7 @@ module _ (old new : Inside) (a : ℕ) (s : ClientLife) (es : List Event) (ms : L
       ap (λ (k : Counts). moments_in_order new.order.items (moments_by k new.clients.items)) g.counts
       ∙ ap (λ (o : List Mark). moments_in_order o (moments_by c new.clients.items)) g.order
       ∙ ap (moments_in_order (old.order.items ++ ms)) (λ i b. moments_more b i)
-      ∙ moments-grow old.order.items ms (moments_by c old.clients.items) (moments_of_one a g.kept) (have_marks old is) may_grow
+      ∙ moments-grow old.order.items ms (moments_by c old.clients.items) (moments_of_one a g.kept) (have_marks P old is) may_grow
       ∙ ap (λ (x : List Noted). noted_in old ++ x) g.in_turn
 
   pub grows : life_of new ≡ grown (life_of old) es
@@ -279,13 +289,13 @@ module _ (old new : Inside) (a : ℕ) (s : ClientLife) (es : List Event) (ms : L
         own_none a b es (λ e. d (sym e)) mine_own ∙ ap (λ (t : Bool). if t then es else []) (sym there)
   ]
 
-  each_client : (b : ℕ) → 1 ≤ b → b ≤ 65 → IsClientOf c new.clock b (client_at c new.clients.items b)
+  each_client : (b : ℕ) → 1 ≤ b → b ≤ 65 → IsClientOf P c new.clock b (client_at c new.clients.items b)
   each_client b low' high' = elim (same_or_not a b) [
-    | inl e ↦ subst (λ (x : ℕ). IsClientOf c new.clock x (client_at c new.clients.items x)) (sym e)
-        (subst (IsClientOf c new.clock a) (sym at_own) g.mine)
+    | inl e ↦ subst (λ (x : ℕ). IsClientOf P c new.clock x (client_at c new.clients.items x)) (sym e)
+        (subst (IsClientOf P c new.clock a) (sym at_own) g.mine)
     | inr d ↦
         let own = is.each b low' high' in
-        subst (IsClientOf c new.clock b) (sym (at_other b low' d))
+        subst (IsClientOf P c new.clock b) (sym (at_other b low' d))
         (record { actor = own.actor; counts = own.counts; life = own.life; early = omega (arith, own.early, g.later) })
   ]
 
@@ -300,10 +310,10 @@ module _ (old new : Inside) (a : ℕ) (s : ClientLife) (es : List Event) (ms : L
       omega (arith, both, is.marked b, g.marked b, length-append (events_by c old.clients.items b) (of_one a es b)) in
       ap (marks_of b) g.order ∙ sum ∙ ap length (sym (events_more b))
 
-  pub stays : IsWorld new
+  pub stays : IsWorld P new
   stays = record {
     number = ap length g.items ∙ length-set old.clients.items (a - 1) s ∙ is.number;
-    each = subst (λ (k : Counts). (b : ℕ) → 1 ≤ b → b ≤ 65 → IsClientOf k new.clock b (client_at k new.clients.items b)) (sym g.counts)
+    each = subst (λ (k : Counts). (b : ℕ) → 1 ≤ b → b ≤ 65 → IsClientOf P k new.clock b (client_at k new.clients.items b)) (sym g.counts)
         each_client;
     places = g.places;
     early = g.early;
@@ -315,8 +325,8 @@ module _ (old new : Inside) (a : ℕ) (s : ClientLife) (es : List Event) (ms : L
         (replies-append opening_store (life_of old).history es is.replies (subst (λ (x : Store). RepliesAre x es) is.store g.replies));
     store = g.store ∙ ap (λ (x : Store). stored_after x es) is.store ∙ sym (stored_after-append opening_store (life_of old).history es) ∙ ap
         (stored_after opening_store) (sym history_more);
-    held = subst (λ (k : Counts). length new.shards.entries ≡ k.names + k.files) (sym g.counts) (g.held ∙ is.held);
-    noted = subst (λ (ns : List Noted). AreNoted new.clock new.shards.entries ns) (sym noted_more) g.noted;
+    rising = subst (λ (ns : List Noted). rises 0 new.clock ns ≡ true) (sym noted_more) g.rising;
+    room = g.room;
   }
 
 -- ---- a dump
@@ -324,9 +334,9 @@ module _ (old new : Inside) (a : ℕ) (s : ClientLife) (es : List Event) (ms : L
 pub few_more : (os ps ns : List Mark) (m : Mark) → length ps < 2 ^ 61 → ns ≡ ps ++ m ∷ [] → length ns < 2 ^ 62
 few_more os ps ns m few is = omega (arith, few, ap length is, length-append ps (m ∷ []))
 
-module _ (old new : Inside) (is : IsWorld old) (order : new.order.items ≡ old.order.items ++ marks.Dump ∷ [])
-    (few : length new.order.items < 2 ^ 62) where
-  abbrev dumped : Inside
+module _ {S : Type 0} (P : Programs S) (old new : Inside S) (is : IsWorld P old) (order : new.order.items ≡ old.order.items ++ marks.Dump ∷ [])
+    (few : length new.order.items < 2 ^ 62) (room : vec_len new.order + 65 ≤ vec_capacity new.order) where
+  abbrev dumped : Inside S
   dumped = record old { order = new.order }
 
   abbrev by_old : ℕ → List Event
@@ -352,7 +362,7 @@ module _ (old new : Inside) (is : IsWorld old) (order : new.order.items ≡ old.
       let same : marks_of b (old.order.items ++ marks.Dump ∷ []) ≡ length (by_old b) = omega (arith, both, is.marked b) in
       ap (marks_of b) order ∙ same
 
-  pub dump_stays : IsWorld dumped
+  pub dump_stays : IsWorld P dumped
   dump_stays = record {
     number = is.number;
     each = is.each;
@@ -366,6 +376,6 @@ module _ (old new : Inside) (is : IsWorld old) (order : new.order.items ≡ old.
         (replies-append opening_store (life_of old).history (Dumped ∷ []) is.replies tt);
     store = is.store ∙ sym (stored_after-append opening_store (life_of old).history (Dumped ∷ [])) ∙ ap (stored_after opening_store)
         (sym dumped_history);
-    held = is.held;
-    noted = subst (λ (ns : List Noted). AreNoted old.clock old.shards.entries ns) (sym dumped_noted) is.noted;
+    rising = subst (λ (ns : List Noted). rises 0 old.clock ns ≡ true) (sym dumped_noted) is.rising;
+    room = (let few_go = few_going P old is in omega (arith, room, few_go));
   }

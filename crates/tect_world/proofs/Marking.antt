@@ -57,7 +57,7 @@ marks_length a (e ∷ es) = let rest = marks_length a es in omega (arith, rest)
 
 abbrev pub has_act : Tried → Bool
 has_act Unasked = false
-has_act (Did q x) = true
+has_act (Did q x h) = true
 has_act (Denied q e) = false
 
 -- the marks of a step, as the code has them
@@ -70,7 +70,7 @@ ends_marked a (e ∷ es) op (Some y) = refl
 pub step_marked : (a : ℕ) (silent : List Event) (op : OpId) (t : Tried) (x : Option Answer)
     → act_marks a (has_act t) ++ end_marks a (turned_by x) ≡ marks_for a (tried_events op t ++ end_events silent op x)
 step_marked a silent op Unasked x = ends_marked a silent op x
-step_marked a silent op (Did q y) x = ap (λ (ms : List Mark). marks.Actor a ∷ ms) (ends_marked a silent op x)
+step_marked a silent op (Did q y h) x = ap (λ (ms : List Mark). marks.Actor a ∷ ms) (ends_marked a silent op x)
 step_marked a silent op (Denied q e) x = ends_marked a silent op x
 
 -- at most two events
@@ -81,5 +81,5 @@ end_few (e ∷ es) op (Some a) = omega arith
 
 pub step_few : (silent : List Event) (op : OpId) (t : Tried) (x : Option Answer) → length (tried_events op t ++ end_events silent op x) ≤ 2
 step_few silent op Unasked x = let few = end_few silent op x in omega (arith, few)
-step_few silent op (Did q y) x = let few = end_few silent op x in omega (arith, few)
+step_few silent op (Did q y h) x = let few = end_few silent op x in omega (arith, few)
 step_few silent op (Denied q e) x = let few = end_few silent op x in omega (arith, few)

@@ -10,9 +10,12 @@ use Rattle.store_rules.specs.declared.any.AnyReq.{AnyReq}
 use Rattle.store_rules.specs.declared.any.AnyReply.{AnyReply}
 use Rattle.store_rules.specs.Store.{Store, store_step}
 use Rattle.entry_words.specs.declared.entry.Refused.TheVariants as refusals
-use Rattle.world_runs.specs.declared.event.Event.{Event}
-use Rattle.world_runs.specs.declared.event.Event.TheVariants.{Ended, Failed}
+use Rattle.program_forms.specs.declared.heard.Heard.{Heard}
+use Rattle.program_forms.specs.Kinds.{Programs}
 use Rattle.program_forms.specs.Lacks.{IsLack}
+use Rattle.world_runs.specs.declared.event.Event.{Event}
+use Rattle.world_runs.specs.declared.event.Event.TheVariants.{Own}
+use Rattle.world_runs.specs.declared.event.Happening.TheVariants.{Ended, Failed}
 use Rattle.world_runs.specs.Events.{end_event}
 use Rattle.world_runs.specs.OwnRuns.{RepliesAre, stored_after}
 use Rattle.clients.specs.Lives.{ClientLife}
@@ -24,117 +27,120 @@ use Rattle.tect_world.proofs.Marking.{has_act}
 
 -- ---- the client after the step
 
-pub same_actor : (l : ClientLife) (stamp : ℕ) (t : Tried) (op : OpId) (x : Option Answer)
-    → (ended_life (tried_life l stamp t) op x).actor ≡ l.actor
-same_actor l stamp t op x = at_end (tried_life l stamp t) x ∙ tried t
-  where
-    tried : (t : Tried) → (tried_life l stamp t).actor ≡ l.actor
-    tried Unasked = refl
-    tried (Did q y) = refl
-    tried (Denied q e) = refl
+module _ {S : Type 0} (P : Programs S) (l : ClientLife) (stamp : ℕ) where
+  tried_actor : (t : Tried) → (tried_life P l stamp t).actor ≡ l.actor
+  tried_actor Unasked = refl
+  tried_actor (Did q y h) = refl
+  tried_actor (Denied q e) = refl
 
-    by_silent : (l : ClientLife) (silent : List Event) (a : Answer) → (ended_with l silent op a).actor ≡ l.actor
-    by_silent l [] a = refl
-    by_silent l (e ∷ es) a = refl
+  tried_counts : (t : Tried) → (tried_life P l stamp t).counts ≡ l.counts
+  tried_counts Unasked = refl
+  tried_counts (Did q y h) = refl
+  tried_counts (Denied q e) = refl
 
-    at_end : (l : ClientLife) (x : Option Answer) → (ended_life l op x).actor ≡ l.actor
-    at_end l None = refl
-    at_end l (Some a) = by_silent l l.silent a
+actor_with : (l : ClientLife) (silent : List Event) (op : OpId) (a : Answer) → (ended_with l silent op a).actor ≡ l.actor
+actor_with l [] op a = refl
+actor_with l (e ∷ es) op a = refl
 
-pub same_counts : (l : ClientLife) (stamp : ℕ) (t : Tried) (op : OpId) (x : Option Answer)
-    → (ended_life (tried_life l stamp t) op x).counts ≡ l.counts
-same_counts l stamp t op x = at_end (tried_life l stamp t) x ∙ tried t
-  where
-    tried : (t : Tried) → (tried_life l stamp t).counts ≡ l.counts
-    tried Unasked = refl
-    tried (Did q y) = refl
-    tried (Denied q e) = refl
+actor_ended : (l : ClientLife) (op : OpId) (x : Option Answer) → (ended_life l op x).actor ≡ l.actor
+actor_ended l op None = refl
+actor_ended l op (Some a) = actor_with l l.silent op a
 
-    by_silent : (l : ClientLife) (silent : List Event) (a : Answer) → (ended_with l silent op a).counts ≡ l.counts
-    by_silent l [] a = refl
-    by_silent l (e ∷ es) a = refl
+counts_with : (l : ClientLife) (silent : List Event) (op : OpId) (a : Answer) → (ended_with l silent op a).counts ≡ l.counts
+counts_with l [] op a = refl
+counts_with l (e ∷ es) op a = refl
 
-    at_end : (l : ClientLife) (x : Option Answer) → (ended_life l op x).counts ≡ l.counts
-    at_end l None = refl
-    at_end l (Some a) = by_silent l l.silent a
+counts_ended : (l : ClientLife) (op : OpId) (x : Option Answer) → (ended_life l op x).counts ≡ l.counts
+counts_ended l op None = refl
+counts_ended l op (Some a) = counts_with l l.silent op a
+
+pub same_actor : {S : Type 0} (P : Programs S) (l : ClientLife) (stamp : ℕ) (t : Tried) (op : OpId) (x : Option Answer)
+    → (ended_life (tried_life P l stamp t) op x).actor ≡ l.actor
+same_actor P l stamp t op x = actor_ended (tried_life P l stamp t) op x ∙ tried_actor P l stamp t
+
+pub same_counts : {S : Type 0} (P : Programs S) (l : ClientLife) (stamp : ℕ) (t : Tried) (op : OpId) (x : Option Answer)
+    → (ended_life (tried_life P l stamp t) op x).counts ≡ l.counts
+same_counts P l stamp t op x = counts_ended (tried_life P l stamp t) op x ∙ tried_counts P l stamp t
 
 -- its clock goes on by at most as much as it has events
 abbrev pub IsNext : ℕ → ℕ → Tried → Type 0
 IsNext clock stamp Unasked = Unit {0}
-IsNext clock stamp (Did q x) = stamp ≡ clock + 1
+IsNext clock stamp (Did q x h) = stamp ≡ clock + 1
 IsNext clock stamp (Denied q e) = Unit {0}
 
-module _ (l : ClientLife) (stamp : ℕ) (op : OpId) where
-  ended_clock : (m : ClientLife) (silent : List Event) (x : Option Answer) → m.silent ≡ silent
-      → (m.clock ≤ (ended_life m op x).clock) × ((ended_life m op x).clock ≤ m.clock + length (end_events silent op x))
-  ended_clock m silent None is = (omega arith, omega arith)
-  ended_clock m [] (Some a) is =
-      let after : (ended_life m op (Some a)).clock ≡ m.clock + 1 = ap (λ (s : List Event). (ended_with m s op a).clock) is in
-      (omega (arith, after), omega (arith, after))
-  ended_clock m (e ∷ es) (Some a) is =
-      let after : (ended_life m op (Some a)).clock ≡ m.clock = ap (λ (s : List Event). (ended_with m s op a).clock) is in
-      (omega (arith, after), omega (arith, after))
+ended_clock : (m : ClientLife) (op : OpId) (silent : List Event) (x : Option Answer) → m.silent ≡ silent
+    → (m.clock ≤ (ended_life m op x).clock) × ((ended_life m op x).clock ≤ m.clock + length (end_events silent op x))
+ended_clock m op silent None is = (omega arith, omega arith)
+ended_clock m op [] (Some a) is =
+    let after : (ended_life m op (Some a)).clock ≡ m.clock + 1 = ap (λ (s : List Event). (ended_with m s op a).clock) is in
+    (omega (arith, after), omega (arith, after))
+ended_clock m op (e ∷ es) (Some a) is =
+    let after : (ended_life m op (Some a)).clock ≡ m.clock = ap (λ (s : List Event). (ended_with m s op a).clock) is in
+    (omega (arith, after), omega (arith, after))
 
-  pub clock_rises : (t : Tried) (x : Option Answer) → IsNext l.clock stamp t → l.clock ≤ (ended_life (tried_life l stamp t) op x).clock
-  clock_rises Unasked x next = (ended_clock l l.silent x refl).0
-  clock_rises (Did q y) x next = let h = ended_clock (tried_life l stamp (Did q y)) l.silent x refl in omega (arith, h.0, next)
-  clock_rises (Denied q e) x next = (ended_clock l l.silent x refl).0
+module _ {S : Type 0} (P : Programs S) (l : ClientLife) (stamp : ℕ) (op : OpId) where
+  pub clock_rises : (t : Tried) (x : Option Answer) → IsNext l.clock stamp t → l.clock ≤ (ended_life (tried_life P l stamp t) op x).clock
+  clock_rises Unasked x next = (ended_clock l op l.silent x refl).0
+  clock_rises (Did q y h) x next = let k = ended_clock (tried_life P l stamp (Did q y h)) op l.silent x refl in omega (arith, k.0, next)
+  clock_rises (Denied q e) x next = (ended_clock l op l.silent x refl).0
 
-  pub stamp_early : (q : AnyReq) (y : AnyReply) (x : Option Answer) → stamp ≤ (ended_life (tried_life l stamp (Did q y)) op x).clock
-  stamp_early q y x = (ended_clock (tried_life l stamp (Did q y)) l.silent x refl).0
+  pub stamp_early : (q : AnyReq) (y : AnyReply) (h : Heard) (x : Option Answer)
+      → stamp ≤ (ended_life (tried_life P l stamp (Did q y h)) op x).clock
+  stamp_early q y h x = (ended_clock (tried_life P l stamp (Did q y h)) op l.silent x refl).0
 
   pub clock_early : (t : Tried) (x : Option Answer) → IsNext l.clock stamp t
-      → (ended_life (tried_life l stamp t) op x).clock ≤ l.clock + length (tried_events op t ++ end_events l.silent op x)
-  clock_early Unasked x next = (ended_clock l l.silent x refl).1
-  clock_early (Did q y) x next = let h = ended_clock (tried_life l stamp (Did q y)) l.silent x refl in omega (arith, h.1, next)
-  clock_early (Denied q e) x next = (ended_clock l l.silent x refl).1
+      → (ended_life (tried_life P l stamp t) op x).clock ≤ l.clock + length (tried_events op t ++ end_events l.silent op x)
+  clock_early Unasked x next = (ended_clock l op l.silent x refl).1
+  clock_early (Did q y h) x next = let k = ended_clock (tried_life P l stamp (Did q y h)) op l.silent x refl in omega (arith, k.1, next)
+  clock_early (Denied q e) x next = (ended_clock l op l.silent x refl).1
 
 -- ---- ends
 
-pub end_cases : (op : OpId) (a : Answer) → (end_event op a ≡ Ended op a) ⊎ (IsLack a × (end_event op a ≡ Failed op a))
+pub end_cases : (op : OpId) (a : Answer) → (end_event op a ≡ Own op (Ended a)) ⊎ (IsLack a × (end_event op a ≡ Own op (Failed a)))
 end_cases op answers.NoMemory = inr (tt, refl)
 end_cases op (answers.HistoryFull p) = inr (tt, refl)
 end_cases op _ = inl refl
 
 one_end : (s : Store) (op : OpId) (a : Answer) → RepliesAre s (end_event op a ∷ []) × (stored_after s (end_event op a ∷ []) ≡ s)
-one_end s op a = elim (end_cases op a) [ inl e ↦ rw e (tt, refl) | inr e ↦ rw e.1 (tt, refl) ]
+one_end s op a = elim (end_cases op a) [ inl e ↦ rw e ((tt, tt), refl) | inr e ↦ rw e.1 ((tt, tt), refl) ]
 
 pub end_replies : (s : Store) (silent : List Event) (op : OpId) (x : Option Answer) → RepliesAre s (end_events silent op x)
     × (stored_after s (end_events silent op x) ≡ s)
 end_replies s silent op None = (tt, refl)
 end_replies s [] op (Some a) = one_end s op a
-end_replies s (e ∷ es) op (Some a) = (tt, refl)
+end_replies s (e ∷ es) op (Some a) = ((tt, tt), refl)
 
 -- ---- the shards after the step
 
-module _ (w v : KeptStore) (l : ClientLife) (stamp : ℕ) (op : OpId) (silent : List Event) (x : Option Answer) where
+no_act : (op : OpId) (t : Tried) → has_act t ≡ false → tried_events op t ≡ []
+no_act op Unasked is = refl
+no_act op (Did q y h) is = absurd cc
+no_act op (Denied q e) is = refl
+
+module _ {S : Type 0} (P : Programs S) (w v : KeptStore) (l : ClientLife) (stamp : ℕ) where
   -- nothing was done there, or one transaction
-  pub there_is : (t : Tried) → DidThere kept.Did w v l.clock (entry_in l stamp) t
+  pub there_is : (t : Tried) → DidThere kept.Did w v l.clock (entry_in P l stamp) t
       → ((has_act t ≡ false) × (v ≡ w))
-      ⊎ ((q : AnyReq) × (y : AnyReply) × (t ≡ Did q y) × kept.DidHere w v l.clock q (entry_in l stamp q y))
+      ⊎ ((q : AnyReq) × (y : AnyReply) × (h : Heard) × (t ≡ Did q y h) × kept.DidHere w v l.clock q (entry_in P l stamp q y))
   there_is Unasked there = inl (refl, there)
-  there_is (Did q y) there = inr (q, y, refl, there)
+  there_is (Did q y h) there = inr (q, y, h, refl, there)
   there_is (Denied q refusals.NoMemory) there = inl (refl, there)
   there_is (Denied q (refusals.HistoryFull place)) there = inl (refl, there)
   there_is (Denied q (refusals.Astray want found)) there = absurd there
 
-  no_act : (t : Tried) → has_act t ≡ false → tried_events op t ≡ []
-  no_act Unasked is = refl
-  no_act (Did q y) is = absurd cc
-  no_act (Denied q e) is = refl
-
-  pub step_replies : (t : Tried) → DidThere kept.Did w v l.clock (entry_in l stamp) t
+  pub step_replies : (op : OpId) (silent : List Event) (x : Option Answer) (t : Tried)
+      → DidThere kept.Did w v l.clock (entry_in P l stamp) t
       → RepliesAre w.store (tried_events op t ++ end_events silent op x)
       × (v.store ≡ stored_after w.store (tried_events op t ++ end_events silent op x))
-  step_replies t there = elim (there_is t there) [
+  step_replies op silent x t there = elim (there_is t there) [
     | inl h ↦
         let ends = end_replies w.store silent op x in
-        rw (no_act t h.0) (ends.0, ap (λ (k : KeptStore). k.store) h.1 ∙ sym ends.1)
+        rw (no_act op t h.0) (ends.0, ap (λ (k : KeptStore). k.store) h.1 ∙ sym ends.1)
     | inr h ↦
         let q : AnyReq = h.0 in
-        let here = h.3 in
+        let here = h.4 in
         let ends = end_replies (store_step w.store q) silent op x in
-        rw h.2 ((here.reply, ends.0), ap (λ (k : KeptStore). k.store) here.state ∙ sym ends.1)
+        rw h.3 ((here.reply, ends.0), ap (λ (k : KeptStore). k.store) here.state ∙ sym ends.1)
   ]
 
 -- ---- the clocks of the places
@@ -156,23 +162,23 @@ committed_clock w e p = elim (set_cases w.entries e.place.0 p (entries_at w e.pl
   | inr h ↦ inr (ap (clock_after 0) h)
 ]
 
-module _ (w v : KeptStore) (l : ClientLife) (stamp : ℕ) (places : (p : ℕ) → clock_at w p ≤ l.clock) where
-  pub next_is : (t : Tried) → DidThere kept.Did w v l.clock (entry_in l stamp) t → IsNext l.clock stamp t
+module _ {S : Type 0} (P : Programs S) (w v : KeptStore) (l : ClientLife) (stamp : ℕ) (places : (p : ℕ) → clock_at w p ≤ l.clock) where
+  pub next_is : (t : Tried) → DidThere kept.Did w v l.clock (entry_in P l stamp) t → IsNext l.clock stamp t
   next_is Unasked there = tt
-  next_is (Did q y) there = let low = places (request_place w.counts q).0 in omega (arith, there.stamp, low)
+  next_is (Did q y h) there = let low = places (request_place w.counts q).0 in omega (arith, there.stamp, low)
   next_is (Denied q e) there = tt
 
-  pub places_then : (op : OpId) (x : Option Answer) (t : Tried) → DidThere kept.Did w v l.clock (entry_in l stamp) t
-      → (p : ℕ) → clock_at v p ≤ (ended_life (tried_life l stamp t) op x).clock
+  pub places_then : (op : OpId) (x : Option Answer) (t : Tried) → DidThere kept.Did w v l.clock (entry_in P l stamp) t
+      → (p : ℕ) → clock_at v p ≤ (ended_life (tried_life P l stamp t) op x).clock
   places_then op x t there p =
-      let rises = clock_rises l stamp op t x (next_is t there) in
-      elim (there_is w v l stamp op l.silent x t there) [
+      let rises = clock_rises P l stamp op t x (next_is t there) in
+      elim (there_is P w v l stamp t there) [
         | inl h ↦ let before = places p in let same : clock_at v p ≡ clock_at w p = ap (λ (k : KeptStore). clock_at k p) h.1
             in omega (arith, before, same, rises)
         | inr h ↦
-            let e : Entry = entry_in l stamp h.0 h.1 in
-            let after : clock_at v p ≡ clock_at (committed w e) p = ap (λ (k : KeptStore). clock_at k p) h.3.state in
-            let early : stamp ≤ (ended_life (tried_life l stamp t) op x).clock = rw h.2 (stamp_early l stamp op h.0 h.1 x) in
+            let e : Entry = entry_in P l stamp h.0 h.1 in
+            let after : clock_at v p ≡ clock_at (committed w e) p = ap (λ (k : KeptStore). clock_at k p) h.4.state in
+            let early : stamp ≤ (ended_life (tried_life P l stamp t) op x).clock = rw h.3 (stamp_early P l stamp op h.0 h.1 h.2 x) in
             elim (committed_clock w e p) [
               | inl k ↦ omega (arith, after, k, early)
               | inr k ↦ let before = places p in omega (arith, after, k, before, rises)

@@ -1,7 +1,8 @@
 -- the world before anything was done
-use Rattle.std.proofs.Common.{◌≡◌, ◌≢◌, ℕ, ◌+◌, ◌-◌, ◌<◌, ◌≤◌, true, false, eqb, if◌then◌else◌, List, [], length, get_or, replicate, refl}
+use Rattle.std.proofs.Common.{◌≡◌, ◌≢◌, ℕ, suc, ◌+◌, ◌-◌, ◌<◌, ◌≤◌, Bool, true, false, eqb, if◌then◌else◌, List, [], ◌∷◌, length}
+use Rattle.std.proofs.Common.{get_or, replicate, refl}
 use Rattle.std.proofs.Common.{sym, ap, subst, ◌∙◌, inl, inr, ◌⊎◌, arith}
-use Rattle.std.specs.List.{Contains}
+use Rattle.std.specs.Prelude.{vec_len, count_by, cond}
 use Rattle.std.proofs.lemmas.List.{get_or-replicate, length-replicate, get_or_past}
 use Rattle.std.proofs.lemmas.Bool.{cases_lt}
 use Rattle.tect_ids.specs.declared.ids.Counts.{Counts}
@@ -9,23 +10,32 @@ use Rattle.tect_ids.proofs.KeyTests.{num_eq_cases}
 use Rattle.store_rules.specs.Store.{opening_store}
 use Rattle.entry_words.specs.declared.entry.Entry.{Entry}
 use Rattle.entry_words.specs.declared.entry.Moment.{Moment as Noted}
+use Rattle.entry_words.specs.Moments.{rises}
+use Rattle.program_forms.specs.Kinds.{Programs}
 use Rattle.world_runs.specs.Events.{own}
 use Rattle.world_runs.specs.OwnRuns.{RepliesAre, stored_after}
 use Rattle.clients.specs.Lives.{ClientLife, events_in, idle_life}
 use Rattle.kept_shards.specs.KeptStore.{KeptStore, clock_after}
 use Rattle.tect_world.specs.declared.marks.Mark.{Mark}
 use Rattle.tect_world.specs.declared.world.World.TheInside.{Inside}
-use Rattle.tect_world.specs.Clients.{client_at, events_by, IsClientOf, AreIdle}
+use Rattle.tect_world.specs.Clients.{client_at, events_by, is_going, IsClientOf, AreIdle}
 use Rattle.tect_world.specs.Order.{in_order, marks_of, moments_in_order}
 use Rattle.tect_world.specs.Inside.{life_of, noted_in, IsWorld}
-use Rattle.tect_world.specs.Noted.{moments_by, AreNoted}
+use Rattle.tect_world.specs.Noted.{moments_by}
 use Rattle.tect_world.proofs.Lives.{up_to}
 
 abbrev opening_kept : Counts → KeptStore
 opening_kept c = record { counts = c; store = opening_store; entries = replicate (c.names + c.files) [] }
 
-module _ (new : Inside) (c : Counts) (shards : new.shards ≡ opening_kept c) (idle : AreIdle c new.clients.items 65) (clock : new.clock ≡ 0)
-    (order : new.order.items ≡ []) where
+none_counted : {X : Type 0} (p : X → Bool) (xs : List X) (d : X) → ((i : ℕ) → i < length xs → p (get_or xs i d) ≡ false) → count_by p xs ≡ 0
+none_counted p [] d none = refl
+none_counted p (x ∷ xs) d none =
+    let rest = none_counted p xs d (λ i lt. none (suc i) (omega (arith, lt))) in
+    let first = none 0 (omega arith) in
+    ap (λ (t : Bool). (cond t 1 0) + count_by p xs) first ∙ omega (arith, rest)
+
+module _ {S : Type 0} (P : Programs S) (new : Inside S) (c : Counts) (shards : new.shards ≡ opening_kept c) (idle : AreIdle P c new.clients.items 65) (clock : new.clock ≡ 0)
+    (order : new.order.items ≡ []) (len : vec_len new.order ≡ 0) where
   first_at : (a : ℕ) → 1 ≤ a → a ≤ 65 → client_at c new.clients.items a ≡ idle_life a c
   first_at a low high =
       let number : a - 1 + 1 ≡ a = omega (arith, low) in
@@ -58,7 +68,7 @@ module _ (new : Inside) (c : Counts) (shards : new.shards ≡ opening_kept c) (i
           let past : length (replicate n (let none : List Entry = [] in none)) ≤ p = rw length-replicate le in
           ap (clock_after 0) (get_or_past (replicate n []) p [] past)
 
-  first_each : (a : ℕ) → 1 ≤ a → a ≤ 65 → IsClientOf c new.clock a (client_at c new.clients.items a)
+  first_each : (a : ℕ) → 1 ≤ a → a ≤ 65 → IsClientOf P c new.clock a (client_at c new.clients.items a)
   first_each a low high =
       let at = first_at a low high in
       record {
@@ -71,31 +81,16 @@ module _ (new : Inside) (c : Counts) (shards : new.shards ≡ opening_kept c) (i
   no_notes : noted_in new ≡ []
   no_notes = ap (λ (o : List Mark). moments_in_order o (moments_by new.shards.counts new.clients.items)) order
 
-  none_at : (n p : ℕ) → get_or (replicate n (let none : List Entry = [] in none)) p [] ≡ []
-  none_at n p = elim (cases_lt p n) [
-    | inl lt ↦ get_or-replicate n p [] [] lt
-    | inr le ↦
-        let past : length (replicate n (let none : List Entry = [] in none)) ≤ p = rw length-replicate le in
-        get_or_past (replicate n []) p [] past
-  ]
-
-  none_in : (e : Entry) → Contains [] e → ⊥
-  none_in e h = omega (arith, h.1)
-
-  none_noted : (n : ℕ) → AreNoted 0 (replicate n []) []
-  none_noted n = record {
-    rising = refl;
-    stored = λ e h. absurd (omega (arith, h.1));
-    known = λ p e h. absurd (none_in e (subst (λ (es : List Entry). Contains es e) (none_at n p) h));
-  }
+  none_goes : (i : ℕ) → i < length new.clients.items → is_going P (get_or new.clients.items i (idle_life 0 c)) ≡ false
+  none_goes i lt = ap (is_going P) (idle.each i (omega (arith, lt, idle.number)))
 
   pub start_is : life_of new ≡ record { counts = c; history = [] }
   start_is i = record { counts = counts_are i; history = no_history i }
 
-  pub start_world : IsWorld new
+  pub start_world : IsWorld P new
   start_world = record {
     number = idle.number;
-    each = subst (λ (k : Counts). (a : ℕ) → 1 ≤ a → a ≤ 65 → IsClientOf k new.clock a (client_at k new.clients.items a)) (sym counts_are)
+    each = subst (λ (k : Counts). (a : ℕ) → 1 ≤ a → a ≤ 65 → IsClientOf P k new.clock a (client_at k new.clients.items a)) (sym counts_are)
         first_each;
     places = λ p. rw (shards, clock)
         (let zero : clock_after 0 (get_or (replicate (c.names + c.files) []) p []) ≡ 0 = no_clock (c.names + c.files) p
@@ -108,9 +103,7 @@ module _ (new : Inside) (c : Counts) (shards : new.shards ≡ opening_kept c) (i
         (λ b. ap (own b) no_history ∙ sym (none_by b));
     replies = subst (RepliesAre opening_store) (sym no_history) tt;
     store = ap (λ (w : KeptStore). w.store) shards ∙ ap (stored_after opening_store) (sym no_history);
-    held = subst (λ (k : Counts). length new.shards.entries ≡ k.names + k.files) (sym counts_are)
-        (ap (λ (w : KeptStore). length w.entries) shards ∙ length-replicate (c.names + c.files) []);
-    noted = subst (λ (ns : List Noted). AreNoted new.clock new.shards.entries ns) (sym no_notes)
-        (subst (λ (k : ℕ). AreNoted k new.shards.entries []) (sym clock)
-        (subst (λ (w : KeptStore). AreNoted 0 w.entries []) (sym shards) (none_noted (c.names + c.files))));
+    rising = subst (λ (ns : List Noted). rises 0 new.clock ns ≡ true) (sym no_notes)
+        (subst (λ (k : ℕ). rises 0 k [] ≡ true) (sym clock) refl);
+    room = (let none = none_counted (is_going P) new.clients.items (idle_life 0 c) none_goes in omega (arith, none, len));
   }

@@ -2,6 +2,7 @@
 use Rattle.std.specs.Prelude.{◌≡◌, ℕ, Bool, if◌then◌else◌, List, [], ◌∷◌, ◌++◌, Option}
 use Rattle.tect_ids.specs.declared.answer.Answer.{Answer}
 use Rattle.tect_ids.specs.declared.command.Command.{Command}
+use Rattle.program_forms.specs.Kinds.{Programs}
 use Rattle.clients.specs.Lives.{ClientLife, Begins, stopped_life, op_in}
 use Rattle.clients.specs.Steps.{Tried, OwnStep, tried_events, end_events}
 use Rattle.clients.specs.declared.turned.Turned.{Turned}
@@ -27,23 +28,25 @@ end_marks a turns.Going = []
 end_marks a (turns.Done x) = Actor a ∷ []
 
 -- the events of a step
-abbrev pub stepped_events : ClientLife → Tried → Option Answer → List Event
-stepped_events l tried answer = tried_events (op_in l) tried ++ end_events l.silent (op_in l) answer
+abbrev pub stepped_events : {S : Type 0} → Programs S → ClientLife → Tried → Option Answer → List Event
+stepped_events P l tried answer = tried_events (op_in P l) tried ++ end_events l.silent (op_in P l) answer
 
 -- one step of the client, at the clock of the run
-pub record StepsOnce (w v : KeptStore) (old new : ClientLife) (from to : ℕ) (before after : List Mark) (turned : Turned) : Type 0 where
-  pub step : OwnStep kept.Did w v (raised old from) new turned
+pub record StepsOnce {S : Type 0} (P : Programs S) (w v : KeptStore) (old new : ClientLife) (from to : ℕ) (before after : List Mark)
+    (turned : Turned) : Type 0 where
+  pub step : OwnStep P kept.Did w v (raised old from) new turned
   pub clock : to ≡ new.clock
-  pub order : after ≡ before ++ marks_for old.actor (stepped_events (raised old from) step.tried step.answer)
+  pub order : after ≡ before ++ marks_for old.actor (stepped_events P (raised old from) step.tried step.answer)
 
 -- the client began a command, or stopped
-pub record BeginsOnce (old new : ClientLife) (command : Command) (from to : ℕ) (before after : List Mark) : Type 0 where
-  pub begins : Begins (raised old from) new command
+pub record BeginsOnce {S : Type 0} (P : Programs S) (old new : ClientLife) (command : Command) (from to : ℕ) (before after : List Mark)
+    : Type 0 where
+  pub begins : Begins P (raised old from) new command
   pub clock : to ≡ new.clock
   pub order : after ≡ before ++ Actor old.actor ∷ []
 
-pub record StopsOnce (old new : ClientLife) (from to : ℕ) (before after : List Mark) : Type 0 where
-  pub stops : new ≡ stopped_life (raised old from)
+pub record StopsOnce {S : Type 0} (P : Programs S) (old new : ClientLife) (from to : ℕ) (before after : List Mark) : Type 0 where
+  pub stops : new ≡ stopped_life P (raised old from)
   pub clock : to ≡ new.clock
   pub order : after ≡ before ++ Actor old.actor ∷ []
 

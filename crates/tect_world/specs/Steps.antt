@@ -1,16 +1,19 @@
--- What the calls on one op make of the world.
-use Rattle.std.specs.Prelude.{◌≡◌, ℕ, List, [], ◌∷◌, ◌++◌, ◌⊎◌}
+-- What the calls on one op make of the world. What each event tells is told by the run that the history is.
+use Rattle.std.specs.Prelude.{◌≡◌, ℕ, ◌+◌, ◌≤◌, false, List, [], ◌∷◌, ◌++◌}
 use Rattle.tect_ids.specs.declared.ids.OpId.{OpId}
 use Rattle.tect_ids.specs.declared.answer.Answer.{Answer}
 use Rattle.tect_ids.specs.declared.command.Command.{Command}
+use Rattle.program_forms.specs.Kinds.{Programs}
 use Rattle.world_runs.specs.declared.event.Event.{Event}
-use Rattle.world_runs.specs.declared.event.Event.TheVariants.{Began, NotBegun, Acted, Ended, Stopped, Failed, Dumped}
-use Rattle.world_runs.specs.Follows.{Acts, IsBeginOf}
-use Rattle.program_forms.specs.Lacks.{IsLack}
+use Rattle.world_runs.specs.declared.event.Event.TheVariants.{Own, Dumped}
+use Rattle.world_runs.specs.declared.event.Happening.{Happening}
+use Rattle.world_runs.specs.declared.event.Happening.TheVariants.{Began, NotBegun, Acted, Ended, Stopped, Failed}
+use Rattle.world_runs.specs.Actors.{has_ended}
+use Rattle.world_runs.specs.Follows.{Acts, IsActOf, IsBeginOf, tries}
+use Rattle.world_runs.specs.Moments.{running}
 use Rattle.clients.specs.declared.turned.Turned.{Turned}
-use Rattle.clients.specs.declared.turned.Turned.TheVariants.{Done}
-use Rattle.clients.specs.Turns.{turned_by}
-use Rattle.tect_world.specs.Life.{Life, present, grown, actor_asks, transaction, step_answer, step_events}
+use Rattle.clients.specs.declared.turned.Turned.TheVariants as turns
+use Rattle.tect_world.specs.Life.{Life, present, grown}
 
 -- The op begins the command, or is refused.
 pub record HasBegun (old new : Life) (op : OpId) (command : Command) : Type 0 where
@@ -18,14 +21,17 @@ pub record HasBegun (old new : Life) (op : OpId) (command : Command) : Type 0 wh
   pub begins : IsBeginOf op command begin
   pub history : new ≡ grown old (begin ∷ [])
 
--- the op's end with that answer: it came to it, or memory was wanting
+-- an end with that answer: the op came to it, or memory or room was wanting
+abbrev pub EndsBy : Happening → Answer → Type 0
+EndsBy (Ended a) x = a ≡ x
+EndsBy (Failed a) x = a ≡ x
+EndsBy (Began c) x = ⊥
+EndsBy (NotBegun c) x = ⊥
+EndsBy (Acted q r h) x = ⊥
+EndsBy Stopped x = ⊥
+
 abbrev pub EndsWith : OpId → Event → Answer → Type 0
-EndsWith op (Ended other a) x = (other ≡ op) × (a ≡ x)
-EndsWith op (Failed other a) x = (other ≡ op) × (a ≡ x)
-EndsWith op (Began other c) x = ⊥
-EndsWith op (NotBegun other c) x = ⊥
-EndsWith op (Acted other q r) x = ⊥
-EndsWith op (Stopped other) x = ⊥
+EndsWith op (Own other h) x = (other ≡ op) × EndsBy h x
 EndsWith op Dumped x = ⊥
 
 -- The op goes on by transactions to its end with that answer.
@@ -44,14 +50,14 @@ pub record GoesOn (old new : Life) (op : OpId) : Type 0 where
   pub are_acts : Acts op count acts
   pub history : new ≡ grown old acts
 
--- its end for want of memory or room, also behind its transaction
-abbrev pub FailsWith : Life → Life → OpId → Answer → Type 0
-FailsWith old new op a =
-    (new ≡ grown old (Failed op a ∷ []))
-    ⊎ (new ≡ grown old (transaction (present old).store op (actor_asks ((present old).actors op.actor) op) ++ Failed op a ∷ []))
+-- It goes on by one transaction, whose reply did not end it.
+pub record WentOn {S : Type 0} (P : Programs S) (old new : Life) (op : OpId) : Type 0 where
+  pub act : Event
+  pub is_act : IsActOf op act
+  pub goes : has_ended P (present P new).counts ((present P new).actors op.actor).memory (running (present P new) op) ≡ false
+  pub history : new ≡ grown old (act ∷ [])
 
--- A step of the op, or its end for want of memory or room.
-abbrev pub Stepped : Life → Life → OpId → Turned → Type 0
-Stepped old new op turned =
-    ((new ≡ grown old (step_events (present old) op)) × (turned ≡ turned_by (step_answer (present old) op)))
-    ⊎ ((a : Answer) × IsLack a × FailsWith old new op a × (turned ≡ Done a))
+-- A step of the op. It goes on; or it ends behind one transaction at most, and for want of room behind none.
+abbrev pub Stepped : {S : Type 0} → Programs S → Life → Life → OpId → Turned → Type 0
+Stepped P old new op turns.Going = WentOn P old new op
+Stepped P old new op (turns.Done a) = (ran : RanToEnd old new op a) × (ran.count + tries ran.end ≤ 1)

@@ -1,6 +1,5 @@
-ghost use Rattle.std.specs.Prelude.{◌≡◌, ◌+◌, ◌^◌, ◌<◌, ◌≤◌, ◌++◌, IfOk, IsNone, IsSome, MatchResult, false, vec_len, vec_capacity};
+ghost use Rattle.std.specs.Prelude.{◌≡◌, ◌+◌, ◌^◌, ◌<◌, ◌≤◌, ◌++◌, IfOk, IsNone, IsSome, MatchResult, false, true, vec_len, vec_capacity};
 ghost use Rattle.tect_ids.specs.Places.{HasPlaces};
-ghost use Rattle.world_runs.specs.Served.{IsServed};
 ghost use Rattle.clients.specs.Lives.{IsLife, state_in};
 ghost use Rattle.tect_world.specs.Clients.{AreIdle};
 ghost use Rattle.tect_world.specs.ClientSteps.{StepsOnce, BeginsOnce, StopsOnce, StaysSo, act_marks, end_marks};
@@ -8,6 +7,7 @@ ghost use Rattle.tect_world.specs.ClientSteps.{StepsOnce, BeginsOnce, StopsOnce,
 use crate::marks::{Mark, push_mark};
 use clients::{Client, Turned};
 use kept_shards::KeptShards;
+use program_calls::Programs;
 use std::alloc::Global;
 use tect_ids::{Command, Counts, NoMemory};
 
@@ -15,9 +15,12 @@ use tect_ids::{Command, Counts, NoMemory};
 const ACTORS: u32 = 65;
 
 /// All actors, before anything was done, where each layer has that many shards.
-pub fn idle_clients(alloc: Global, counts: Counts) -> Result<Vec<Client>, NoMemory>
+pub fn idle_clients<P: Programs + Drop>(
+    alloc: Global,
+    counts: Counts,
+) -> Result<Vec<Client<P>>, NoMemory>
     requires { HasPlaces counts }
-    ensures { IfOk result (λ clients. AreIdle counts clients.items 65) }
+    ensures { IfOk result (λ clients. AreIdle P.rules counts clients.items 65) }
 {
     let mut clients = Vec::new(alloc);
     'each: for made in 0..ACTORS {
@@ -29,21 +32,23 @@ pub fn idle_clients(alloc: Global, counts: Counts) -> Result<Vec<Client>, NoMemo
 }
 
 /// The client's next command begins, or is refused, at the clock of the run. For want of memory nothing is done.
-pub fn begin_client(
-    client: &mut Client,
+pub fn begin_client<P: Programs + Drop>(
+    client: &mut Client<P>,
     clock: &mut u64,
     order: &mut Vec<Mark>,
     command: Command,
 ) -> Result<(), NoMemory>
     requires room { vec_len order.old < vec_capacity order.old }
     requires early { clock.old < 2 ^ 63 }
-    requires idle { IsNone (state_in client.old).running }
-    requires goes_on { (state_in client.old).stopped ≡ false }
-    requires few { (state_in client.old).number + 1 < 2 ^ 31 }
-    requires served { IsServed command }
-    ensures begins { MatchResult result (λ u. BeginsOnce client.old client.new command clock.old clock.new order.old.items order.new.items)
+    requires idle { IsNone (state_in P.rules client.old).running }
+    requires goes_on { (state_in P.rules client.old).stopped ≡ false }
+    requires few { (state_in P.rules client.old).number + 1 < 2 ^ 31 }
+    requires served { P.rules.serves command ≡ true }
+    ensures begins { MatchResult result
+        (λ u. BeginsOnce P.rules client.old client.new command clock.old clock.new order.old.items order.new.items)
         (λ e. StaysSo client.old client.new clock.old clock.new order.old.items order.new.items) }
-    ensures life { IsLife client.new }
+    ensures life { IsLife P.rules client.new }
+    ensures space { (vec_len order.new ≤ vec_len order.old + 1) × (vec_capacity order.old ≤ vec_capacity order.new) }
 {
     let actor = client.actor();
     client.raise(*clock);
@@ -56,7 +61,8 @@ pub fn begin_client(
 // Marks the transaction of a step, if one was done, and the end of the command, if it came.
 fn mark_step(order: &mut Vec<Mark>, actor: u32, acted: bool, turned: &Turned)
     requires { vec_len order.old + 2 ≤ vec_capacity order.old }
-    ensures { order.new.items ≡ order.old.items ++ (act_marks actor acted ++ end_marks actor turned.now) }
+    ensures items { order.new.items ≡ order.old.items ++ (act_marks actor acted ++ end_marks actor turned.now) }
+    ensures space { (vec_len order.new ≤ vec_len order.old + 2) × (vec_capacity order.old ≤ vec_capacity order.new) }
 {
     if acted {
         push_mark(order, Mark::Actor(actor));
@@ -67,19 +73,21 @@ fn mark_step(order: &mut Vec<Mark>, actor: u32, acted: bool, turned: &Turned)
 }
 
 /// One step of the client's command at the shards, at the clock of the run.
-pub fn step_client(
+pub fn step_client<P: Programs + Drop>(
     shards: &mut KeptShards,
-    client: &mut Client,
+    client: &mut Client<P>,
     clock: &mut u64,
     order: &mut Vec<Mark>,
 ) -> Turned
     requires same { shards.old.counts ≡ client.old.counts }
     requires room { vec_len order.old + 2 ≤ vec_capacity order.old }
     requires early { clock.old < 2 ^ 63 }
-    requires running { IsSome (state_in client.old).running }
-    ensures step { StepsOnce shards.old shards.new client.old client.new clock.old clock.new order.old.items order.new.items result }
+    requires running { IsSome (state_in P.rules client.old).running }
+    ensures step { StepsOnce P.rules shards.old shards.new client.old client.new clock.old clock.new order.old.items order.new.items
+        result }
     ensures counts { shards.new.counts ≡ shards.old.counts }
-    ensures life { IsLife client.new }
+    ensures life { IsLife P.rules client.new }
+    ensures space { (vec_len order.new ≤ vec_len order.old + 2) × (vec_capacity order.old ≤ vec_capacity order.new) }
 {
     let actor = client.actor();
     let last = *clock;
@@ -96,12 +104,13 @@ pub fn step_client(
 }
 
 /// The client stops for good, with its command unfinished. It takes no memory.
-pub fn stop_client(client: &mut Client, clock: &mut u64, order: &mut Vec<Mark>)
+pub fn stop_client(client: &mut Client<P>, clock: &mut u64, order: &mut Vec<Mark>)
     requires room { vec_len order.old < vec_capacity order.old }
     requires early { clock.old < 2 ^ 63 }
-    requires running { IsSome (state_in client.old).running }
-    ensures stops { StopsOnce client.old client.new clock.old clock.new order.old.items order.new.items }
-    ensures life { IsLife client.new }
+    requires running { IsSome (state_in P.rules client.old).running }
+    ensures stops { StopsOnce P.rules client.old client.new clock.old clock.new order.old.items order.new.items }
+    ensures life { IsLife P.rules client.new }
+    ensures space { (vec_len order.new ≡ vec_len order.old + 1) × (vec_capacity order.old ≤ vec_capacity order.new) }
 {
     let actor = client.actor();
     client.raise(*clock);

@@ -1,95 +1,80 @@
-//! All that the world did, taken out of its places and its passes.
-ghost use Rattle.std.specs.Prelude.{◌≡◌, IfOk, IsPermutation, map};
-ghost use Rattle.std.specs.List.{AllZip, flat_map};
-ghost use Rattle.merge_runs.specs.Merged.{Agree, HaveDifferentActors, IsInOrder, RestrictsToHistories, RestrictsToTrails, StandInOrder};
-ghost use Rattle.merge_runs.specs.Merged.{moments_of};
-ghost use Rattle.tect_world.specs.Told.{IsPassOf, IsOneList};
+//! All that the world did, in the order in which it was done.
+ghost use Rattle.std.specs.Prelude.{◌≡◌, ℕ, ◌-◌, ◌<◌, ◌≤◌, ◌≢◌, ◌++◌, ◌∷◌, List, IfOk, OnOk, Some, map, drop, length, replicate, slice_index_or};
+ghost use Rattle.std.specs.List.{slice_get};
+ghost use Rattle.tect_ids.specs.declared.ids.Counts.{Counts};
+ghost use Rattle.clients.specs.Lives.{ClientLife};
+ghost use Rattle.tect_world.specs.declared.marks.Mark.{Mark as AnyMark};
+ghost use Rattle.tect_world.specs.Noted.{moments_by};
+ghost use Rattle.tect_world.specs.Order.{first_moment, later_moments, moments_in_order};
+ghost use Rattle.tect_world.specs.Telling.{left_by, IsMarkOf};
 
+use crate::marks::Mark;
 use clients::Client;
 use entry_words::Moment;
-use merge_runs::{GatherFault, gather};
-use passes::Pass;
-use place_kit::AnyKept;
+use program_calls::Programs;
 use std::alloc::Global;
 use tect_ids::NoMemory;
 
-/// One history of all that was done, with the places and the passes of which it was made.
-#[derive(Drop)]
-pub struct WorldHistory {
-    /// All entries and notes, by stamp, then by place, then by actor. A note's place counts as 256.
-    pub entries: Vec<Moment>,
-    /// All places with what they keep, by their numbers from 0 on.
-    pub places: Vec<AnyKept>,
-    /// The passes of all actors, one of each.
-    pub passes: Vec<Pass>,
-}
-
-/// The clients' passes, in their order.
-pub fn take_passes(alloc: Global, clients: Vec<Client>) -> Result<Vec<Pass>, NoMemory>
-    ensures { IfOk result (λ passes. AllZip IsPassOf clients.items passes.items) }
+/// That many zeros.
+fn zeros(alloc: Global, count: usize) -> Result<Vec<usize>, NoMemory>
+    ensures { IfOk result (λ v. v.items ≡ replicate count 0) }
 {
-    let mut passes = Vec::new(alloc);
-    'each: for client in clients {
-        passes.push(take_pass(client))?;
-    }
-    Ok(passes)
+    Ok(vec![in alloc; 0; count]?)
 }
 
-fn take_pass(client: Client) -> Pass
-    ensures { IsPassOf client result }
-{
-    let (pass, _refused) = client.into_pass();
-    pass
-}
-
-/// One list of all that these places and passes keep, which have the same entries.
-pub fn gather_all(
+/// The moments of all clients in the order of the marks, each client's own in their order.
+pub fn moments_by_marks<'a, P: Programs + Drop>(
     alloc: Global,
-    kepts: Vec<AnyKept>,
-    passes: Vec<Pass>,
-) -> Result<WorldHistory, NoMemory>
-    requires places { StandInOrder 0 kepts.items }
-    requires actors { HaveDifferentActors passes.items }
-    requires agree { Agree kepts.items passes.items }
-    ensures { IfOk result (IsOneList kepts.items passes.items) }
+    clients: &'a [Client<P>],
+    order: &[Mark],
+) -> Result<Vec<&'a Moment>, NoMemory>
+    requires { (n : ℕ) (mark : AnyMark) → slice_get order.now n ≡ Some mark → IsMarkOf (length clients.now) mark }
+    ensures { (counts : Counts)
+        → IfOk result (λ v. map (λ m. m.now) v.items ≡ moments_in_order order.now (moments_by counts clients.now)) }
 {
-    let entries = gathered(alloc, kepts.as_slice(), passes.as_slice())?;
-    Ok(WorldHistory {
-        entries,
-        places: kepts,
-        passes,
-    })
+    let mut told = Vec::new(alloc);
+    let mut counts = zeros(alloc, clients.len())?;
+    'each: for mark in order {
+        tell_mark(&mut told, &mut counts, clients, *mark)?;
+    }
+    Ok(told)
 }
 
-fn gathered(alloc: Global, kepts: &[AnyKept], passes: &[Pass]) -> Result<Vec<Moment>, NoMemory>
-    requires places { StandInOrder 0 kepts.now }
-    requires actors { HaveDifferentActors passes.now }
-    requires agree { Agree kepts.now passes.now }
-    ensures whole { IfOk result (λ v. IsPermutation (flat_map moments_of passes.now) v.items) }
-    ensures order { IfOk result (λ v. IsInOrder v.items) }
-    ensures trails { IfOk result (λ v. RestrictsToTrails passes.now v.items) }
-    ensures histories { IfOk result (λ v. RestrictsToHistories kepts.now v.items) }
+// Tells the moment of a mark, if there is one. The counts say how many moments of each client were told.
+fn tell_mark<'a, P: Programs + Drop>(
+    told: &mut Vec<&'a Moment>,
+    counts: &mut Vec<usize>,
+    clients: &'a [Client<P>],
+    mark: Mark,
+) -> Result<(), NoMemory>
+    requires mark { IsMarkOf (length clients.now) mark }
+    requires counts { length counts.old.items ≡ length clients.now }
+    ensures told { (k : Counts) (ms : List AnyMark)
+        → OnOk result
+        (map (λ m. m.now) told.new.items ++ moments_in_order ms (left_by k clients.now counts.new.items) ≡
+        map (λ m. m.now) told.old.items ++ moments_in_order (mark ∷ ms) (left_by k clients.now counts.old.items)) }
+    ensures counts { length counts.new.items ≡ length clients.now }
 {
-    match gather(alloc, kepts, passes) {
-        Ok(moments) => copies(alloc, moments.as_slice()),
-        Err(GatherFault::NoMemory) => Err(NoMemory),
-        Err(GatherFault::Split { .. }) => unreachable!(),
+    match mark {
+        Mark::Actor(actor) => tell_next(told, &mut counts[actor as usize - 1], &clients[actor as usize - 1]),
+        Mark::Dump => Ok(()),
     }
 }
 
-fn copies(alloc: Global, moments: &[&Moment]) -> Result<Vec<Moment>, NoMemory>
-    ensures { IfOk result (λ v. v.items ≡ map (λ m. m.now) moments.now) }
+// Tells the client's next moment, if it has one more than that count.
+fn tell_next<'a, P: Programs + Drop>(
+    told: &mut Vec<&'a Moment>,
+    count: &mut usize,
+    client: &'a Client<P>,
+) -> Result<(), NoMemory>
+    ensures told { OnOk result
+        (map (λ m. m.now) told.new.items ≡ map (λ m. m.now) told.old.items ++ first_moment (drop count.old client.now.moments)) }
+    ensures left { OnOk result (drop count.new client.now.moments ≡ later_moments (drop count.old client.now.moments)) }
 {
-    let mut copies = Vec::with_capacity(alloc, moments.len())?;
-    'each: for moment in moments {
-        copies.push(copied(moment)?)?;
+    let moments = client.pass().moments();
+    if *count < moments.len() {
+        told.push(&moments[*count])?;
+        *count += 1;
     }
-    Ok(copies)
-}
-
-#[tactic(auto, using(entry_words::proofs::Clones::same_moment))]
-fn copied(moment: &Moment) -> Result<Moment, NoMemory>
-    ensures { IfOk result (λ same. same ≡ moment.now) }
-{
-    Ok(moment.clone()?)
+    Ok(())
 }

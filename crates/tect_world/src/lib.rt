@@ -8,7 +8,6 @@ mod marks;
 mod world;
 
 pub use clients::Turned;
-pub use history::WorldHistory;
 pub use world::World;
 
 #[cfg(test)]

@@ -11,11 +11,10 @@ pub enum Mark {
 pub fn push_mark(order: &mut Vec<Mark>, mark: Mark)
     requires { vec_len order.old < vec_capacity order.old }
     ensures items { order.new.items ≡ order.old.items ++ mark ∷ [] }
+    ensures len { vec_len order.new ≡ vec_len order.old + 1 }
     ensures room { vec_capacity order.old ≤ vec_capacity order.new }
 {
-    if order.push(mark).is_err() {
-        unreachable!()
-    }
+    order.push_reserved(mark);
 }
 
 // An order is short, since its marks take room.

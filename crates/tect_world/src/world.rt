@@ -1,24 +1,29 @@
-ghost use Rattle.std.specs.Prelude.{◌≡◌, ℕ, ◌+◌, ◌^◌, ◌<◌, ◌≤◌, [], ◌∷◌, ◌++◌, List, OnOk, OnErr, IfOk, IsSome, IsNone, IsTrue, is_some};
-ghost use Rattle.std.specs.Prelude.{false};
+ghost use Rattle.std.specs.Prelude.{◌≡◌, ℕ, ◌+◌, ◌^◌, ◌<◌, ◌≤◌, [], ◌∷◌, OnOk, OnErr, IfOk, IsSome, IsNone, IsTrue, is_some};
+ghost use Rattle.std.specs.Prelude.{true, false, map};
 ghost use Rattle.tect_ids.specs.Places.{HasPlaces};
 ghost use Rattle.store_rules.specs.Dumps.{store_dump};
 ghost use Rattle.world_runs.specs.Limits.{KeepsLimits};
 ghost use Rattle.world_runs.specs.declared.event.Event.TheVariants as events;
+ghost use Rattle.world_runs.specs.declared.event.Happening.TheVariants as happenings;
 ghost use Rattle.world_runs.specs.Moments.{IsWorldRun};
 ghost use Rattle.world_runs.specs.Report.{transactions};
-ghost use Rattle.world_runs.specs.Served.{IsServed};
 ghost use Rattle.tect_world.specs.Life.{Life, present, grown, last_op, next_op};
 ghost use Rattle.tect_world.specs.Steps.{HasBegun, Stepped, RanToEnd, GoesOn};
-ghost use Rattle.tect_world.specs.Told.{IsGathered};
+ghost use Rattle.tect_world.specs.Told.{IsTold};
 
 use crate::acting::{begin_client, idle_clients, step_client, stop_client};
-use crate::history::{WorldHistory, gather_all, take_passes};
+use crate::history::moments_by_marks;
 use crate::marks::{Mark, is_short, push_mark};
 use clients::{Client, Turned};
+use entry_words::Moment;
 use kept_shards::KeptShards;
+use program_calls::Programs;
 use std::alloc::Global;
 use std::marker::Model;
 use tect_ids::{Answer, Command, Counts, DumpLine, NoMemory, OpId};
+
+/// For how many marks there is room at least behind each call but a stop: one for the stop of each actor.
+const SPARE: usize = 65;
 
 /// All shards with their histories, and all actors with their passes, on one thread. Contracts see its counts and its
 /// history: the events of all actors and the dumps, in the order in which they were done.
@@ -26,14 +31,15 @@ use tect_ids::{Answer, Command, Counts, DumpLine, NoMemory, OpId};
 /// Before each transaction and each note the clock of the acting pass is raised to the last stamp of the run, so that the
 /// stamps rise in that order too.
 #[derive(Drop)]
-pub struct World {
+pub struct World<P: Programs> {
+    alloc: Global,
     shards: KeptShards,
-    clients: Vec<Client>,
+    clients: Vec<Client<P>>,
     clock: u64,
     order: Vec<Mark>,
 }
 
-impl Model for World {
+impl<P: Programs> Model for World<P> {
     ghost use Rattle.tect_world.specs.Life.{Life};
 
     ghost Value = { Life };
@@ -42,18 +48,19 @@ impl Model for World {
 
     ghost view = { life_of };
 
-    ghost invariant = { IsWorld };
+    ghost invariant = { IsWorld P.rules };
 }
 
-impl World {
+impl<P: Programs + Drop> World<P> {
     /// The world before anything was done: the root alone, and idle actors.
-    pub fn start(alloc: Global, counts: Counts) -> Result<World, NoMemory>
+    pub fn start(alloc: Global, counts: Counts) -> Result<World<P>, NoMemory>
         requires places { HasPlaces counts }
         ensures { IfOk result (λ world. world ≡ record { counts = counts; history = [] }) }
     {
         let shards = KeptShards::start(alloc, counts)?;
         let clients = idle_clients(alloc, counts)?;
         Ok(World {
+            alloc,
             shards,
             clients,
             clock: 0,
@@ -63,8 +70,8 @@ impl World {
 
     // What is so of each world.
     fn known(&self)
-        ensures run { IsWorldRun self.now.counts self.now.history }
-        ensures limits { KeepsLimits self.now.counts self.now.history }
+        ensures run { IsWorldRun P.rules self.now.counts self.now.history }
+        ensures limits { KeepsLimits P.rules self.now.counts self.now.history }
     {
         let _shards = &self.shards;
     }
@@ -73,13 +80,13 @@ impl World {
     /// It takes no memory.
     pub fn can_begin(&self, actor: u32) -> bool
         requires { (1 ≤ actor) × (actor ≤ 65) }
-        ensures idle { IsTrue result → IsNone ((present self.now).actors actor).running }
-        ensures goes_on { IsTrue result → ((present self.now).actors actor).stopped ≡ false }
-        ensures few { IsTrue result → ((present self.now).actors actor).number + 1 < 2 ^ 31 }
-        ensures may { IsNone ((present self.now).actors actor).running → ((present self.now).actors actor).stopped ≡ false
-            → ((present self.now).actors actor).number + 1 < 2 ^ 31 → IsTrue result }
-        ensures run { IsWorldRun self.now.counts self.now.history }
-        ensures limits { KeepsLimits self.now.counts self.now.history }
+        ensures idle { IsTrue result → IsNone ((present P.rules self.now).actors actor).running }
+        ensures goes_on { IsTrue result → ((present P.rules self.now).actors actor).stopped ≡ false }
+        ensures few { IsTrue result → ((present P.rules self.now).actors actor).number + 1 < 2 ^ 31 }
+        ensures may { IsNone ((present P.rules self.now).actors actor).running → ((present P.rules self.now).actors actor).stopped ≡ false
+            → ((present P.rules self.now).actors actor).number + 1 < 2 ^ 31 → IsTrue result }
+        ensures run { IsWorldRun P.rules self.now.counts self.now.history }
+        ensures limits { KeepsLimits P.rules self.now.counts self.now.history }
     {
         self.known();
         self.clients[actor as usize - 1].can_begin()
@@ -89,17 +96,17 @@ impl World {
     /// the op is refused: it has its answer, `HistoryFull`, which the next step gives. For want of memory nothing is changed.
     pub fn begin(&mut self, actor: u32, command: Command) -> Result<(), NoMemory>
         requires actor { (1 ≤ actor) × (actor ≤ 65) }
-        requires idle { IsNone ((present self.old).actors actor).running }
-        requires goes_on { ((present self.old).actors actor).stopped ≡ false }
-        requires few { ((present self.old).actors actor).number + 1 < 2 ^ 31 }
-        requires served { IsServed command }
-        ensures ok { OnOk result (HasBegun self.old self.new (next_op (present self.old) actor) command) }
+        requires idle { IsNone ((present P.rules self.old).actors actor).running }
+        requires goes_on { ((present P.rules self.old).actors actor).stopped ≡ false }
+        requires few { ((present P.rules self.old).actors actor).number + 1 < 2 ^ 31 }
+        requires served { P.rules.serves command ≡ true }
+        ensures ok { OnOk result (HasBegun self.old self.new (next_op (present P.rules self.old) actor) command) }
         ensures err { OnErr result (self.new ≡ self.old) }
-        ensures run { IsWorldRun self.new.counts self.new.history }
-        ensures limits { KeepsLimits self.new.counts self.new.history }
+        ensures run { IsWorldRun P.rules self.new.counts self.new.history }
+        ensures limits { KeepsLimits P.rules self.new.counts self.new.history }
     {
         self.known();
-        self.order.reserve(1)?;
+        self.order.reserve(SPARE + 1)?;
         is_short(self.order.as_slice());
         let client = &mut self.clients[actor as usize - 1];
         let begun = begin_client(client, &mut self.clock, &mut self.order, command);
@@ -112,14 +119,14 @@ impl World {
     /// that was done only where memory is wanting to go on. Where memory is wanting even to note that, nothing is changed.
     pub fn step(&mut self, actor: u32) -> Result<Turned, NoMemory>
         requires actor { (1 ≤ actor) × (actor ≤ 65) }
-        requires running { IsSome ((present self.old).actors actor).running }
-        ensures ok { IfOk result (Stepped self.old self.new (last_op (present self.old) actor)) }
+        requires running { IsSome ((present P.rules self.old).actors actor).running }
+        ensures ok { IfOk result (Stepped P.rules self.old self.new (last_op (present P.rules self.old) actor)) }
         ensures err { OnErr result (self.new ≡ self.old) }
-        ensures run { IsWorldRun self.new.counts self.new.history }
-        ensures limits { KeepsLimits self.new.counts self.new.history }
+        ensures run { IsWorldRun P.rules self.new.counts self.new.history }
+        ensures limits { KeepsLimits P.rules self.new.counts self.new.history }
     {
         self.known();
-        self.order.reserve(2)?;
+        self.order.reserve(SPARE + 2)?;
         is_short(self.order.as_slice());
         let client = &mut self.clients[actor as usize - 1];
         let (shards, clock) = (&mut self.shards, &mut self.clock);
@@ -132,11 +139,11 @@ impl World {
     /// came to.
     pub fn run(&mut self, actor: u32) -> Result<Answer, NoMemory>
         requires actor { (1 ≤ actor) × (actor ≤ 65) }
-        requires running { IsSome ((present self.old).actors actor).running }
-        ensures ok { IfOk result (RanToEnd self.old self.new (last_op (present self.old) actor)) }
-        ensures err { OnErr result (GoesOn self.old self.new (last_op (present self.old) actor)) }
-        ensures run { IsWorldRun self.new.counts self.new.history }
-        ensures limits { KeepsLimits self.new.counts self.new.history }
+        requires running { IsSome ((present P.rules self.old).actors actor).running }
+        ensures ok { IfOk result (RanToEnd self.old self.new (last_op (present P.rules self.old) actor)) }
+        ensures err { OnErr result (GoesOn self.old self.new (last_op (present P.rules self.old) actor)) }
+        ensures run { IsWorldRun P.rules self.new.counts self.new.history }
+        ensures limits { KeepsLimits P.rules self.new.counts self.new.history }
     {
         self.known();
         'steps: loop {
@@ -147,35 +154,47 @@ impl World {
         }
     }
 
-    /// The actor stops for good, with its command unfinished. For want of memory nothing is changed.
-    pub fn stop(&mut self, actor: u32) -> Result<(), NoMemory>
+    /// The actor stops for good, with its command unfinished. Where its command has ended nothing is changed. It takes no memory.
+    pub fn stop(&mut self, actor: u32)
         requires actor { (1 ≤ actor) × (actor ≤ 65) }
-        requires running { IsSome ((present self.old).actors actor).running }
-        ensures ok { OnOk result (self.new ≡ grown self.old (events.Stopped (last_op (present self.old) actor) ∷ [])) }
-        ensures err { OnErr result (self.new ≡ self.old) }
-        ensures run { IsWorldRun self.new.counts self.new.history }
-        ensures limits { KeepsLimits self.new.counts self.new.history }
+        ensures stops { IsSome ((present P.rules self.old).actors actor).running
+            → self.new ≡ grown self.old (events.Own (last_op (present P.rules self.old) actor) happenings.Stopped ∷ []) }
+        ensures same { IsNone ((present P.rules self.old).actors actor).running → self.new ≡ self.old }
+        ensures run { IsWorldRun P.rules self.new.counts self.new.history }
+        ensures limits { KeepsLimits P.rules self.new.counts self.new.history }
+    {
+        if !self.is_running(actor) {
+            return;
+        }
+        self.stop_running(actor);
+    }
+
+    // Stops an actor whose command goes on.
+    fn stop_running(&mut self, actor: u32)
+        requires actor { (1 ≤ actor) × (actor ≤ 65) }
+        requires running { IsSome ((present P.rules self.old).actors actor).running }
+        ensures stops { self.new ≡ grown self.old (events.Own (last_op (present P.rules self.old) actor) happenings.Stopped ∷ []) }
+        ensures run { IsWorldRun P.rules self.new.counts self.new.history }
+        ensures limits { KeepsLimits P.rules self.new.counts self.new.history }
     {
         self.known();
-        self.order.reserve(1)?;
         is_short(self.order.as_slice());
         let client = &mut self.clients[actor as usize - 1];
         stop_client(client, &mut self.clock, &mut self.order);
         self.known();
-        Ok(())
     }
 
     /// Dumps the whole store: the lines of its directories, each followed by its entries, and of its files. For want of
     /// memory nothing is changed.
     pub fn dump(&mut self) -> Result<Vec<DumpLine>, NoMemory>
         ensures ok { OnOk result (self.new ≡ grown self.old (events.Dumped ∷ [])) }
-        ensures lines { IfOk result (λ lines. lines.items ≡ store_dump (present self.old).store) }
+        ensures lines { IfOk result (λ lines. lines.items ≡ store_dump (present P.rules self.old).store) }
         ensures err { OnErr result (self.new ≡ self.old) }
-        ensures run { IsWorldRun self.new.counts self.new.history }
-        ensures limits { KeepsLimits self.new.counts self.new.history }
+        ensures run { IsWorldRun P.rules self.new.counts self.new.history }
+        ensures limits { KeepsLimits P.rules self.new.counts self.new.history }
     {
         self.known();
-        self.order.reserve(1)?;
+        self.order.reserve(SPARE + 1)?;
         is_short(self.order.as_slice());
         let lines = self.shards.dump()?;
         push_mark(&mut self.order, Mark::Dump);
@@ -186,9 +205,9 @@ impl World {
     /// Whether the actor's last command goes on.
     pub fn is_running(&self, actor: u32) -> bool
         requires { (1 ≤ actor) × (actor ≤ 65) }
-        ensures running { result ≡ is_some ((present self.now).actors actor).running }
-        ensures run { IsWorldRun self.now.counts self.now.history }
-        ensures limits { KeepsLimits self.now.counts self.now.history }
+        ensures running { result ≡ is_some ((present P.rules self.now).actors actor).running }
+        ensures run { IsWorldRun P.rules self.now.counts self.now.history }
+        ensures limits { KeepsLimits P.rules self.now.counts self.now.history }
     {
         self.known();
         self.clients[actor as usize - 1].is_running()
@@ -197,9 +216,9 @@ impl World {
     /// The op of the actor's last command.
     pub fn last_op(&self, actor: u32) -> OpId
         requires { (1 ≤ actor) × (actor ≤ 65) }
-        ensures op { result ≡ last_op (present self.now) actor }
-        ensures run { IsWorldRun self.now.counts self.now.history }
-        ensures limits { KeepsLimits self.now.counts self.now.history }
+        ensures op { result ≡ last_op (present P.rules self.now) actor }
+        ensures run { IsWorldRun P.rules self.now.counts self.now.history }
+        ensures limits { KeepsLimits P.rules self.now.counts self.now.history }
     {
         self.known();
         self.clients[actor as usize - 1].op()
@@ -209,26 +228,19 @@ impl World {
     pub fn transactions(&self, actor: u32) -> u64
         requires { (1 ≤ actor) × (actor ≤ 65) }
         ensures few { result ≤ 65536 }
-        ensures count { result ≡ transactions self.now.history (last_op (present self.now) actor) }
-        ensures run { IsWorldRun self.now.counts self.now.history }
-        ensures limits { KeepsLimits self.now.counts self.now.history }
+        ensures count { result ≡ transactions self.now.history (last_op (present P.rules self.now) actor) }
+        ensures run { IsWorldRun P.rules self.now.counts self.now.history }
+        ensures limits { KeepsLimits P.rules self.now.counts self.now.history }
     {
         self.known();
         self.clients[actor as usize - 1].transactions()
     }
 
-    /// One history of all that was done, taken out of the places and the passes: the entries of all places and the notes of all
-    /// passes, by their stamps, which is the order in which they came. For want of memory all is lost.
-    pub fn history(self, alloc: Global) -> Result<WorldHistory, NoMemory>
-        ensures { IfOk result (IsGathered self) }
+    /// All that was done, as the passes of all actors keep it, in the order in which it was done. For want of memory there is no
+    /// list, and the world is as before.
+    pub fn history(&self) -> Result<Vec<&Moment>, NoMemory>
+        ensures { IfOk result (λ moments. IsTold self.now (map (λ m. m.now) moments.items)) }
     {
-        let World {
-            shards,
-            clients,
-            ..
-        } = self;
-        let kepts = shards.into_kepts()?;
-        let passes = take_passes(alloc, clients)?;
-        gather_all(alloc, kepts, passes)
+        moments_by_marks(self.alloc, self.clients.as_slice(), self.order.as_slice())
     }
 }
