@@ -163,7 +163,7 @@ module _ {S : Type 0} (P : Programs S) (old new : Inside S) (a : ℕ) (s : Clien
   abbrev c : Counts
   c = old.shards.counts
 
-  at_own : client_at c new.clients.items a ≡ s
+  pub at_own : client_at c new.clients.items a ≡ s
   at_own = ap (λ (cs : List ClientLife). client_at c cs a) g.items ∙ get_or-set_same old.clients.items (a - 1) s (idle_life 0 c)
       (omega (arith, low, high, is.number))
 

@@ -92,13 +92,13 @@ goes_as P c m (Some r) op is = by_test P c m r (op_eq r.op op) is
 
 pub step_ends : {S : Type 0} (P : Programs S) (old new : Life) (op : OpId) (c : Counts) (s : Actor S) (silent : List Event) (t : Tried)
     (x : Option Answer) → EndsSo P c s t x → new ≡ grown old (tried_events op t ++ end_events silent op x)
-    → (has_ended P c s.memory s.running ≡ false
+    → (x ≡ None → has_ended P c s.memory s.running ≡ false
     → has_ended P (present P new).counts ((present P new).actors op.actor).memory (running (present P new) op) ≡ false)
     → Stepped P old new op (turned_by x)
 step_ends P old new op c s silent Unasked None ends grew goes = absurd ends
 step_ends P old new op c s silent (Denied q e) None ends grew goes = absurd ends
 step_ends P old new op c s silent (Did q y h) None ends grew goes =
-    record { act = Own op (Acted q y h); is_act = (refl, tt); goes = goes ends; history = grew }
+    record { act = Own op (Acted q y h); is_act = (refl, tt); goes = goes refl ends; history = grew }
 step_ends P old new op c s silent Unasked (Some a) ends grew goes =
     let few = small a in ran_by P old new op a 0 [] silent refl (omega (arith, few)) grew
 step_ends P old new op c s silent (Denied q e) (Some a) ends grew goes =
