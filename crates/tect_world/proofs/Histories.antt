@@ -9,7 +9,6 @@ use Rattle.tect_ids.specs.declared.ids.Counts.{Counts}
 use Rattle.tect_ids.proofs.KeyTests.{num_eq_cases}
 use Rattle.entry_words.specs.declared.entry.Moment.{Moment}
 use Rattle.program_forms.specs.Kinds.{Programs}
-use Rattle.merge_runs.proofs.Order.{order_rises}
 use Rattle.world_runs.specs.declared.event.Event.{Event}
 use Rattle.world_runs.specs.Events.{events_of}
 use Rattle.world_runs.specs.Refusals.{AreOfRefused}
@@ -109,7 +108,7 @@ module _ {S : Type 0} (P : Programs S) (w : Inside S) (is : IsWorld P w) where
 
   told : (ms : List Moment) → ms ≡ noted_in w → IsTold (life_of w) ms
   told ms same = subst (IsTold (life_of w)) (sym same)
-      (record { told = noted_history; order = order_rises 0 w.clock (noted_in w) is.rising })
+      (record { told = noted_history; last = w.clock; rising = is.rising })
 
   pub told_ok : {A E : Type 0} (of : A → List Moment) (result : Result A E) → IfOk result (λ v. of v ≡ noted_in w)
       → IfOk result (λ v. IsTold (life_of w) (of v))

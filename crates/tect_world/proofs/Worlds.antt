@@ -80,6 +80,13 @@ module _ {S : Type 0} (P : Programs S) (old : Inside S) (a : ℕ) (before : Clie
   pub own_state_is : (present P (life_of old)).actors a ≡ state_in P before
   own_state_is = world_state P old is a low high ∙ ap (state_in P) (sym same_client)
 
+  -- what is so of the actor is so of the client, and the other way
+  pub to_client : (Q : Actor S → Type 0) → Q ((present P (life_of old)).actors a) → Q (state_in P before)
+  to_client Q = subst Q own_state_is
+
+  pub from_client : (Q : Actor S → Type 0) → Q (state_in P before) → Q ((present P (life_of old)).actors a)
+  from_client Q = subst Q (sym own_state_is)
+
   pub own_op : op_in P before ≡ last_op (present P (life_of old)) a
   own_op i = record { actor = mine.actor i; number = ap (λ (x : Actor S). x.number) (sym own_state_is) i }
 

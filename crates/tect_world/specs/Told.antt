@@ -1,11 +1,11 @@
 -- One list of all that the passes keep.
-use Rattle.std.specs.Prelude.{◌≡◌, List, [], ◌∷◌, ◌++◌, ◌⊎◌}
+use Rattle.std.specs.Prelude.{◌≡◌, ℕ, true, List, [], ◌∷◌, ◌++◌, ◌⊎◌}
 use Rattle.entry_words.specs.declared.entry.Moment.{Moment}
+use Rattle.entry_words.specs.Moments.{rises}
 use Rattle.world_runs.specs.declared.event.Event.{Event}
 use Rattle.world_runs.specs.declared.event.Event.TheVariants.{Dumped}
 use Rattle.world_runs.specs.Events.{event_of}
 use Rattle.world_runs.specs.Refusals.{IsOfRefused}
-use Rattle.merge_runs.specs.Merged.{IsInOrder}
 use Rattle.tect_world.specs.Life.{Life}
 
 -- no moment notes it: a dump, or an event of an op that was refused, as those before tell
@@ -28,4 +28,5 @@ Notes es ms = NotesAfter [] es ms
 -- those before it.
 pub record IsTold (w : Life) (ms : List Moment) : Type 0 where
   pub told : Notes w.history ms
-  pub order : IsInOrder ms
+  pub last : ℕ
+  pub rising : rises 0 last ms ≡ true

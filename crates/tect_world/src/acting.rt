@@ -104,7 +104,11 @@ pub fn step_client<P: Programs + Drop>(
 }
 
 /// The client stops for good, with its command unfinished. It takes no memory.
-pub fn stop_client(client: &mut Client<P>, clock: &mut u64, order: &mut Vec<Mark>)
+pub fn stop_client<P: Programs + Drop>(
+    client: &mut Client<P>,
+    clock: &mut u64,
+    order: &mut Vec<Mark>,
+)
     requires room { vec_len order.old < vec_capacity order.old }
     requires early { clock.old < 2 ^ 63 }
     requires running { IsSome (state_in P.rules client.old).running }

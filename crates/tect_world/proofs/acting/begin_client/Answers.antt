@@ -4,8 +4,9 @@ use Rattle.tect_world.specs.declared.marks.Mark.TheVariants.{Actor}
 use Rattle.tect_world.proofs.acting.begin_client.Goals as goal
 
 pub returns-clause-begins : goal.returns-clause-begins
-returns-clause-begins c = record {
-  begins = subst (λ (l : ClientLife). Begins l c.begin.new.self c.args.command) c.raise.ensures.raised c.in_ok-begin.ensures.ok;
+returns-clause-begins g c = record {
+  begins = subst (λ (l : ClientLife). Begins g.P.Programs.rules l c.begin.new.self c.args.command) c.raise.ensures.raised
+      c.in_ok-begin.ensures.ok;
   clock = c.clock.ensures;
   order = c.push_mark.ensures.items ∙ ap (λ (n : ℕ). c.args.order.now.items ++ Actor n ∷ []) c.actor-actor.ensures;
 }

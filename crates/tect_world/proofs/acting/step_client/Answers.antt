@@ -12,21 +12,22 @@ use Rattle.tect_world.proofs.Outcomes.{acted_is}
 use Rattle.tect_world.proofs.acting.step_client.Goals as goal
 
 pub returns-clause-step : goal.returns-clause-step
-returns-clause-step c =
+returns-clause-step g c =
+    let P = g.P.Programs.rules in
     let old = c.args.client.now in
     let r : ClientLife = raised old c.args.clock.now in
-    let o = subst (λ (l : ClientLife). OwnStep kept.Did c.args.shards.now c.step.new.at l c.step.new.self c.in-Ok.turned)
+    let o = subst (λ (l : ClientLife). OwnStep P kept.Did c.args.shards.now c.step.new.at l c.step.new.self c.in-Ok.turned)
     c.raise.ensures.raised c.in-Ok.ensures.step in
-    let actor = ap (λ (l : ClientLife). l.actor) o.life ∙ same_actor r o.stamp o.tried (op_in r) o.answer in
-    let counts = ap (λ (l : ClientLife). l.counts) o.life ∙ same_counts r o.stamp o.tried (op_in r) o.answer in
-    let acted = acted_is r c.step.new.self o.tried o.answer c.transactions-before.result c.transactions.result actor counts o.events
-    (subst (λ (l : ClientLife). c.transactions-before.result ≡ transactions (events_in l) (op_in l)) c.raise.ensures.raised
+    let actor = ap (λ (l : ClientLife). l.actor) o.life ∙ same_actor P r o.stamp o.tried (op_in P r) o.answer in
+    let counts = ap (λ (l : ClientLife). l.counts) o.life ∙ same_counts P r o.stamp o.tried (op_in P r) o.answer in
+    let acted = acted_is P r c.step.new.self o.tried o.answer c.transactions-before.result c.transactions.result actor counts o.events
+    (subst (λ (l : ClientLife). c.transactions-before.result ≡ transactions (events_in l) (op_in P l)) c.raise.ensures.raised
     c.transactions-before.ensures.count) c.transactions.ensures.count in
     record {
       step = o;
       clock = c.clock.ensures;
-      order = c.mark_step.ensures
+      order = c.mark_step.ensures.items
           ∙ (λ i. c.args.order.now.items ++
           (act_marks (c.actor-actor.ensures i) (acted i) ++ end_marks (c.actor-actor.ensures i) (o.told i)))
-          ∙ ap (λ (ms : List Mark). c.args.order.now.items ++ ms) (step_marked old.actor r.silent (op_in r) o.tried o.answer);
+          ∙ ap (λ (ms : List Mark). c.args.order.now.items ++ ms) (step_marked old.actor r.silent (op_in P r) o.tried o.answer);
     }

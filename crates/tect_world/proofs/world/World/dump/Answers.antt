@@ -1,4 +1,4 @@
-use Rattle.std.proofs.Common.{List, [], ◌∷◌, ◌++◌, ap, ◌∙◌}
+use Rattle.std.proofs.Common.{List, [], ◌∷◌, ◌++◌, ap, ◌∙◌, arith}
 use Rattle.store_rules.specs.Dumps.{store_dump}
 use Rattle.tect_world.specs.declared.marks.Mark.{Mark}
 use Rattle.tect_world.specs.declared.marks.Mark.TheVariants.{Dump}
@@ -6,9 +6,10 @@ use Rattle.tect_world.proofs.Lives.{dump_stays, dump_grows, few_more, world_stor
 use Rattle.tect_world.proofs.world.World.dump.Goals as goal
 
 pub invariant_of-self-2 : goal.invariant_of-self-2
-invariant_of-self-2 c =
-    dump_stays c.self.inside
+invariant_of-self-2 g c =
+    dump_stays g.P.Programs.rules c.self.inside
     (record {
+      alloc = c.self.inside.alloc;
       shards = c.self.inside.shards;
       clients = c.self.inside.clients;
       clock = c.self.inside.clock;
@@ -17,12 +18,14 @@ invariant_of-self-2 c =
     (c.push_mark.ensures.items ∙ ap (λ (ms : List Mark). ms ++ Dump ∷ []) c.in_ok-reserve.ensures.items)
     (few_more c.self.inside.order.items c.reserve.new.self.items c.push_mark.new.order.items Dump
     (rw c.as_slice.ensures.value at c.is_short.ensures) c.push_mark.ensures.items)
+    (omega (arith, c.in_ok-reserve.ensures.ok, c.push_mark.ensures.len, c.push_mark.ensures.room))
 
 pub returns-clause-ok : goal.returns-clause-ok
-returns-clause-ok c =
+returns-clause-ok g c =
     rw (← c.self.view_is)
-    (dump_grows c.self.inside
+    (dump_grows g.P.Programs.rules c.self.inside
     (record {
+      alloc = c.self.inside.alloc;
       shards = c.self.inside.shards;
       clients = c.self.inside.clients;
       clock = c.self.inside.clock;
@@ -30,8 +33,9 @@ returns-clause-ok c =
     }) c.self.invariant
     (c.push_mark.ensures.items ∙ ap (λ (ms : List Mark). ms ++ Dump ∷ []) c.in_ok-reserve.ensures.items)
     (few_more c.self.inside.order.items c.reserve.new.self.items c.push_mark.new.order.items Dump
-    (rw c.as_slice.ensures.value at c.is_short.ensures) c.push_mark.ensures.items))
+    (rw c.as_slice.ensures.value at c.is_short.ensures) c.push_mark.ensures.items)
+    (omega (arith, c.in_ok-reserve.ensures.ok, c.push_mark.ensures.len, c.push_mark.ensures.room)))
 
 pub returns-clause-lines : goal.returns-clause-lines
-returns-clause-lines c =
-    rw (← c.self.view_is) (c.in_ok-lines.ensures ∙ ap store_dump (world_store c.self.inside c.self.invariant))
+returns-clause-lines g c =
+    rw (← c.self.view_is) (c.in_ok-lines.ensures ∙ ap store_dump (world_store g.P.Programs.rules c.self.inside c.self.invariant))
