@@ -1,6 +1,7 @@
 ghost use Rattle.std.specs.Prelude.{◌≡◌, ◌+◌, ◌^◌, ◌<◌, IfOk, OnOk, OnErr, IsSome, IsNone, true, false, is_some};
 ghost use Rattle.std.specs.Option.{ForSome, option_copied};
 ghost use Rattle.store_rules.specs.declared.any.AnyReq.{AnyReq};
+ghost use Rattle.tect_ids.specs.Places.{HasPlaces};
 ghost use Rattle.tect_calls.specs.Knowing.{IsActor};
 ghost use Rattle.world_runs.specs.Actors.{idle_actor, begun, not_begun, program_ask};
 ghost use Rattle.clients.specs.ActorState.{op_of, next_op_of};
@@ -43,7 +44,8 @@ impl<P: Programs> Model for Actor<P> {
 impl<P: Programs + Drop> Actor<P> {
     /// The actor with that number, from 1 to 65, before it did anything, where each layer has that many shards.
     pub fn start(alloc: Global, actor: u32, counts: Counts) -> Result<Actor<P>, NoMemory>
-        requires { IsActor actor }
+        requires actor { IsActor actor }
+        requires places { HasPlaces counts }
         ensures { IfOk result (λ started. started ≡ record { actor = actor; counts = counts; state = idle_actor }) }
     {
         let memory = Memory::start(alloc, actor, counts)?;

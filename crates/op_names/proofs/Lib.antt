@@ -1,2 +1,4 @@
 pub mod LastNames
 pub mod Tokens
+pub mod Others
+pub mod Hearings

@@ -33,12 +33,12 @@ use Rattle.program_rules.specs.Programs.{then_release, refusal}
 use Rattle.tect_calls.specs.declared.tokens.Fact.{Fact}
 use Rattle.tect_calls.specs.declared.tokens.Fact.TheVariants.{Spent}
 use Rattle.tect_calls.specs.Teaching as teach
-use Rattle.tect_calls.specs.Teaching.{taught, exists_facts, made_facts, granted_facts, replaced_facts, bound_facts, swapped_facts}
+use Rattle.tect_calls.specs.Teaching.{exists_facts, made_facts, granted_facts, replaced_facts, bound_facts, swapped_facts}
 use Rattle.tect_calls.specs.Teaching.{unbound_facts}
 use Rattle.op_names.specs.declared.held.HeldTokens.{HeldTokens}
 use Rattle.op_names.specs.declared.held.HeldTokens.TheVariants.{Upper, Own, Lost}
 use Rattle.op_names.specs.Needs.{needed, old_hold}
-use Rattle.op_names.specs.Carrying.{first, second, carried}
+use Rattle.op_names.specs.Carrying.{first, second, useful, carried}
 
 -- the next phase has what it needs, of what was held and of what was taught
 
@@ -100,12 +100,12 @@ module _ (op : OpId) (place : Place) (x : AnyReply) where
 
   grant_carries : (k : Key) (n : Node) (to : List ℕ)
       → Carries op (if is_granted x then Swap k n else End (refusal place k x)) (Upper (nodes.Dir k.dir))
-      (taught (grant_ask n (own_hold op) (key_in k.dir to)) x)
+      (useful (grant_ask n (own_hold op) (key_in k.dir to)) x)
   grant_carries k (nodes.Dir d) to = granted_carries op place x (Upper (nodes.Dir k.dir)) k (nodes.Dir d) (is_granted x)
   grant_carries k (nodes.File f) to = granted_carries op place x (Upper (nodes.Dir k.dir)) k (nodes.File f) (is_granted x)
 
   release_carries : (n : Node) (h : Hold) (old : Option Replaced) (a : Answer)
-      → Carries op (then_release old a) (Lost h (old_hold old)) (taught (release_ask n h) x)
+      → Carries op (then_release old a) (Lost h (old_hold old)) (useful (release_ask n h) x)
   release_carries (nodes.Dir d) h old a = released_carries h old a
   release_carries (nodes.File f) h old a = released_carries h old a
 
@@ -120,7 +120,7 @@ module _ (op : OpId) (place : Place) (x : AnyReply) where
   source_carries k to (Some n) = same_name k n (name_eq k.name to)
 
   first_carries : (number : ℕ) (d : DirId) (c : Command)
-      → IfSome (first_ask op number d c) (λ q. Carries op (first_hear place number d c x) (Upper (nodes.Dir d)) (taught q x))
+      → IfSome (first_ask op number d c) (λ q. Carries op (first_hear place number d c x) (Upper (nodes.Dir d)) (useful q x))
   first_carries number d (commands.Look []) = checked_carries op place x (Upper (nodes.Dir d)) d (is_some (as_parent x))
   first_carries number d (commands.Look (n ∷ p)) = looked_carries op place x (Upper (nodes.Dir d)) (key_in d (last_name (n ∷ p)))
       (as_found x)
@@ -140,18 +140,18 @@ module _ (op : OpId) (place : Place) (x : AnyReply) where
 
   grants_carry : (l : List (List ℕ)) (k : Key) (n : Node)
       → IfSome (at_last l (λ to. grant_ask n (own_hold op) (key_in k.dir to)))
-      (λ q. Carries op (if is_granted x then Swap k n else End (refusal place k x)) (Upper (nodes.Dir k.dir)) (taught q x))
+      (λ q. Carries op (if is_granted x then Swap k n else End (refusal place k x)) (Upper (nodes.Dir k.dir)) (useful q x))
   grants_carry [] k n = tt
   grants_carry (t ∷ l) k n = grant_carries k n (last_name (t ∷ l))
 
   swaps_carry : (l : List (List ℕ)) (k : Key) (n : Node)
       → IfSome (at_last l (λ to. any.Name (names.Swap k.dir k.name to n (own_hold op))))
-      (λ q. Carries op (swapped_heard place op k n x (as_swapped x)) (Own (own_hold op)) (taught q x))
+      (λ q. Carries op (swapped_heard place op k n x (as_swapped x)) (Own (own_hold op)) (useful q x))
   swaps_carry [] k n = tt
   swaps_carry (t ∷ l) k n = swapped_carries k n (as_swapped x)
 
   phase_carries : (number : ℕ) (c : Command) (p : Phase)
-      → IfSome (phase_ask op number c p) (λ q. Carries op (phase_hear place op number c p x) (needed op p) (taught q x))
+      → IfSome (phase_ask op number c p) (λ q. Carries op (phase_hear place op number c p x) (needed op p) (useful q x))
   phase_carries number c (Walk d []) = first_carries number d c
   phase_carries number c (Walk d (n ∷ ns)) = walked_carries op place x (Upper (nodes.Dir d)) (key_in d n) ns (as_found x)
   phase_carries number c (Bind k n o) = bound_carries k n (as_bound x)
@@ -161,21 +161,21 @@ module _ (op : OpId) (place : Place) (x : AnyReply) where
   phase_carries number c (End a) = tt
 
   pub carries : (number : ℕ) (c : Command) (p : Phase) (q : AnyReq) → phase_ask op number c p ≡ Some q
-      → carried (phase_hear place op number c p x) (needed op p) (first (taught q x)) (second (taught q x)) ≡ needed op
+      → carried (phase_hear place op number c p x) (needed op p) (first (useful q x)) (second (useful q x)) ≡ needed op
       (phase_hear place op number c p x)
   carries number c p q asks =
-      let P : Option AnyReq → Type 0 = λ o. IfSome o (λ q. Carries op (phase_hear place op number c p x) (needed op p) (taught q x)) in
+      let P : Option AnyReq → Type 0 = λ o. IfSome o (λ q. Carries op (phase_hear place op number c p x) (needed op p) (useful q x)) in
       subst P asks (phase_carries number c p)
 
 -- the same of the values that the code has
 pub carries_on :
-    (place : Place) (x : AnyReply) (number : ℕ) (q : AnyReq) (program : Program) (one two : Option Fact) (had : HeldTokens) (next : Program)
-    (shown : HeldTokens)
-    → phase_ask program.op number program.command program.phase ≡ Some q
-    → one ≡ first (taught q x) → two ≡ second (taught q x)
-    → had ≡ needed program.op program.phase
-    → next ≡ record program { phase = phase_hear place program.op number program.command program.phase x }
+    (op : OpId) (place : Place) (x : AnyReply) (number : ℕ) (q : AnyReq) (program : Program) (one two : Option Fact) (had : HeldTokens)
+    (next : Program) (shown : HeldTokens)
+    → phase_ask op number program.command program.phase ≡ Some q
+    → one ≡ first (useful q x) → two ≡ second (useful q x)
+    → had ≡ needed op program.phase
+    → next ≡ record program { phase = phase_hear place op number program.command program.phase x }
     → shown ≡ carried next.phase had one two
-    → shown ≡ needed next.op next.phase
-carries_on place x number q program one two had next shown asks first_is second_is held goes is =
-    is ∙ rw (first_is, second_is, held, goes) (carries program.op place x number program.command program.phase q asks)
+    → shown ≡ needed op next.phase
+carries_on op place x number q program one two had next shown asks first_is second_is held goes is =
+    is ∙ rw (first_is, second_is, held, goes) (carries op place x number program.command program.phase q asks)

@@ -3,15 +3,25 @@
 use Rattle.std.specs.Prelude.{Option, Some, None, List, [], ◌∷◌}
 use Rattle.tect_ids.specs.declared.ids.Hold.{Hold}
 use Rattle.tect_ids.specs.declared.ids.Node.TheVariants as nodes
+use Rattle.store_rules.specs.declared.names.NameReq.TheVariants as names
+use Rattle.store_rules.specs.declared.any.AnyReq.{AnyReq}
+use Rattle.store_rules.specs.declared.any.AnyReq.TheVariants as any
+use Rattle.store_rules.specs.declared.any.AnyReply.{AnyReply}
 use Rattle.program_rules.specs.declared.program.Phase.{Phase}
 use Rattle.program_rules.specs.declared.program.Phase.TheVariants.{Walk, Bind, Grant, Swap, Release, End}
 use Rattle.program_rules.specs.Programs.{root}
 use Rattle.tect_calls.specs.declared.tokens.Fact.{Fact}
 use Rattle.tect_calls.specs.declared.tokens.Fact.TheVariants.{Made, Granted, Spent}
+use Rattle.tect_calls.specs.Teaching.{taught}
 use Rattle.op_names.specs.declared.held.HeldTokens.{HeldTokens}
 use Rattle.op_names.specs.declared.held.HeldTokens.TheVariants.{Upper, Own, Lost, Nothing}
 
--- a reply teaches at most two tokens
+-- What a reply teaches and a command can use: a listing ends its command, so that none of the many tokens is needed that it teaches.
+abbrev pub useful : AnyReq → AnyReply → List Fact
+useful (any.Name (names.List d)) x = []
+useful q x = taught q x
+
+-- that is at most two tokens
 abbrev pub first : List Fact → Option Fact
 first [] = None
 first (x ∷ xs) = Some x

@@ -1,4 +1,6 @@
 pub mod Walking
 pub mod Carrying
 pub mod Needs
-pub mod Serials
+pub mod RunningInside
+pub mod Looking
+pub mod Going

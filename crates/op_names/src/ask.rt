@@ -157,10 +157,10 @@ fn ask_of(
     }
 }
 
-/// The request that the program makes next, where `number` is the one of the next object that its actor makes. None where it
-/// has its answer.
-pub fn ask(program: &Program, number: u64) -> Result<Option<AnyReq>, NoMemory>
-    ensures { IfOk result (λ req. req ≡ phase_ask program.now.op number program.now.command program.now.phase) }
+/// The request that the program makes next as that op, where `number` is the one of the next object that its actor makes. None
+/// where it has its answer.
+pub fn ask(op: OpId, program: &Program, number: u64) -> Result<Option<AnyReq>, NoMemory>
+    ensures { IfOk result (λ req. req ≡ phase_ask op number program.now.command program.now.phase) }
 {
-    ask_of(program.op, number, &program.command, &program.phase)
+    ask_of(op, number, &program.command, &program.phase)
 }

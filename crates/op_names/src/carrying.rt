@@ -1,11 +1,10 @@
 ghost use Rattle.std.specs.Prelude.{◌≡◌, IfOk};
-ghost use Rattle.tect_calls.specs.Teaching.{taught};
-ghost use Rattle.op_names.specs.Carrying.{first, second, opening, upper_from, own_from, spent_in, given_up, lost_from, carried};
+ghost use Rattle.op_names.specs.Carrying.{first, second, useful, opening, upper_from, own_from, spent_in, given_up, lost_from, carried};
 
 use crate::held::HeldTokens;
 use program_rules::Phase;
 use std::alloc::Global;
-use store_rules::{AnyReply, AnyReq};
+use store_rules::{AnyReply, AnyReq, NameReq};
 use tect_calls::{Fact, Learned, Made, Spent, learn};
 use tect_ids::NoMemory;
 
@@ -20,15 +19,18 @@ fn both(tokens: Vec<Fact>) -> (Option<Fact>, Option<Fact>)
     (first, second)
 }
 
-// The tokens that a reply teaches: never more than two.
+// The tokens that a reply teaches and that a command can use: never more than two, and none of a listing, which ends its command.
 pub(crate) fn facts_of(
     alloc: Global,
     req: &AnyReq,
     reply: &AnyReply,
 ) -> Result<(Option<Fact>, Option<Fact>), NoMemory>
-    ensures first { IfOk result (λ facts. facts.0 ≡ first (taught req.now reply.now)) }
-    ensures second { IfOk result (λ facts. facts.1 ≡ second (taught req.now reply.now)) }
+    ensures first { IfOk result (λ facts. facts.0 ≡ first (useful req.now reply.now)) }
+    ensures second { IfOk result (λ facts. facts.1 ≡ second (useful req.now reply.now)) }
 {
+    if let AnyReq::Name(NameReq::List { .. }) = req {
+        return Ok((None, None));
+    }
     let Learned { tokens } = learn(alloc, req, reply)?;
     Ok(both(tokens))
 }

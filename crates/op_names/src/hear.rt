@@ -292,19 +292,18 @@ fn walk_heard_of(
     }
 }
 
-/// The program goes on at the reply to its request. For want of memory it stays as it was.
-pub fn hear(program: &mut Program, alloc: Global, heard: &Heard) -> Result<(), NoMemory>
+/// The program goes on as that op at the reply to its request. For want of memory it stays as it was.
+pub fn hear(
+    program: &mut Program,
+    alloc: Global,
+    op: OpId,
+    heard: &Heard,
+) -> Result<(), NoMemory>
     ensures ok { OnOk result (program.new ≡ record program.old {
-      phase = phase_hear heard.now.place program.old.op heard.now.number program.old.command program.old.phase heard.now.reply.now;
+      phase = phase_hear heard.now.place op heard.now.number program.old.command program.old.phase heard.now.reply.now;
     }) }
     ensures err { OnErr result (program.new ≡ program.old) }
 {
-    program.phase = next_phase(
-        alloc,
-        heard,
-        program.op,
-        &program.command,
-        &mut program.phase,
-    )?;
+    program.phase = next_phase(alloc, heard, op, &program.command, &mut program.phase)?;
     Ok(())
 }

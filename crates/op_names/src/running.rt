@@ -1,8 +1,10 @@
-ghost use Rattle.std.specs.Prelude.{◌≡◌, ◌+◌, ◌^◌, ◌<◌, IsSome, IfOk, OnOk, OnErr};
-ghost use Rattle.std.specs.Option.{option_copied};
-ghost use Rattle.program_rules.specs.Programs.{started, phase_ask, phase_hear, phase_answer};
-ghost use Rattle.tect_calls.specs.Knowing.{next_number};
-ghost use Rattle.op_names.specs.Serials.{after_reply};
+ghost use Rattle.std.specs.Prelude.{◌≡◌, IsSome, Some, IfOk, OnOk, OnErr};
+ghost use Rattle.store_rules.specs.declared.any.AnyReq.{AnyReq};
+ghost use Rattle.program_rules.specs.Programs.{phase_ask, phase_answer};
+ghost use Rattle.program_rules.specs.Asking.{IsSmooth};
+ghost use Rattle.program_calls.specs.Hearing.{IsPlain, GoesOn};
+ghost use Rattle.tect_calls.specs.Knowing.{number_for};
+ghost use Rattle.op_names.specs.Going.{program_after};
 
 use crate::ask::ask;
 use crate::carrying::{carry, facts_of, opening_of};
@@ -10,117 +12,147 @@ use crate::hear::{Heard, hear};
 use crate::held::HeldTokens;
 use crate::showing::show;
 use crate::start::start;
+use program_calls::Programs;
 use program_rules::{Phase, Program};
 use std::alloc::Global;
 use std::marker::Model;
 use std::mem;
 use store_rules::AnyReply;
-use tect_calls::{Asked, Memory};
-use tect_ids::{Answer, Command, NoMemory, OpId, Place};
+use tect_calls::{Asked, Memory, place};
+use tect_ids::{Answer, Command, NoMemory, OpId};
 
-/// A running command with the tokens that its next request needs. Contracts see the program alone.
+/// A running command with the tokens that its next request needs, which are those of the op as which it began. Contracts see the
+/// program alone.
 #[derive(Drop)]
 pub struct Running {
     alloc: Global,
+    op: OpId,
     program: Program,
     shown: HeldTokens,
 }
 
 impl Model for Running {
-    ghost use Rattle.std.specs.Prelude.{◌≡◌};
     ghost use Rattle.program_rules.specs.declared.program.Program.{Program};
-    ghost use Rattle.op_names.specs.Needs.{needed};
+    ghost use Rattle.op_names.specs.RunningInside.{IsRunning};
 
     ghost Value = { Program };
 
     ghost view = { λ running. running.program };
 
-    ghost invariant = { λ running. running.shown ≡ needed (running.program).op (running.program).phase };
+    ghost invariant = { IsRunning };
 }
 
 impl Running {
-    /// The command begins as that op.
-    pub fn start(alloc: Global, op: OpId, command: Command) -> Result<Running, NoMemory>
-        ensures { IfOk result (λ running. running ≡ started op command) }
+    // What is so of each running command.
+    fn known(&self)
+        ensures { IsSmooth self.now.command self.now.phase }
     {
-        let program = start(op, command)?;
-        let shown = opening_of(&program.phase);
-        Ok(Running {
-            alloc,
-            program,
-            shown,
-        })
+        let _op = self.op;
     }
 
-    /// The command as that op, with its answer from the first: its actor had no room to note that it begins. It asks
-    /// nothing. It takes no memory.
-    pub fn refused(alloc: Global, op: OpId, command: Command) -> Running
-        ensures { result ≡ record { op = op; command = command; phase = Phase.End (Answer.HistoryFull (record { 0 = 256 })) } }
+    // The request that the command makes next, with the tokens that it needs. As another op than its own it has none, which counts
+    // as a want of memory.
+    fn ask_as(&self, memory: &Memory, op: OpId) -> Result<Option<Asked>, NoMemory>
+        ensures { IfOk result (λ asked. asked ≡ phase_ask op (number_for memory.now op) self.now.command self.now.phase) }
     {
-        let phase = Phase::End {
-            answer: Answer::HistoryFull { place: Place(256) },
-        };
-        Running {
-            alloc,
-            program: Program { op, command, phase },
-            shown: HeldTokens::Nothing,
+        if op != self.op {
+            return Err(NoMemory);
         }
-    }
-
-    /// The request that the command makes next, with the tokens that it needs. None where it has its answer. Nothing is
-    /// changed.
-    pub fn next(&mut self, memory: &mut Memory) -> Result<Option<Asked>, NoMemory>
-        ensures asks { IfOk result (λ asked. asked ≡ phase_ask self.old.op (next_number memory.old) self.old.command self.old.phase) }
-        ensures same { self.new ≡ self.old }
-        ensures memory { memory.new ≡ memory.old }
-    {
-        let req = ask(&self.program, memory.number_of_next())?;
-        match req {
+        match ask(op, &self.program, memory.number_for(op))? {
             Some(req) => Ok(Some(show(&self.shown, req))),
             None => Ok(None),
         }
     }
 
-    /// The answer that the command has come to, if it has. It takes no memory.
-    pub fn answer(&self) -> Option<&Answer>
-        ensures { option_copied result ≡ phase_answer self.now.phase }
+    // Goes on at the reply to its request. For want of memory nothing is changed.
+    fn go_on(&mut self, memory: &Memory, op: OpId, reply: &AnyReply) -> Result<(), NoMemory>
+        requires asked { IsSome (phase_ask op (number_for memory.now op) self.old.command self.old.phase) }
+        ensures ok { OnOk result ((req : AnyReq)
+            → phase_ask op (number_for memory.now op) self.old.command self.old.phase ≡ Some req
+            → self.new ≡ program_after memory.now op self.old req reply.now) }
+        ensures err { OnErr result (self.new ≡ self.old) }
     {
-        self.program.answer()
-    }
-
-    /// Goes on at the reply to the request that `next` gave, which was made at that place. The actor's serial is taken where
-    /// the reply says that an object was made. For want of memory nothing is changed, the serial neither.
-    pub fn hear(
-        &mut self,
-        memory: &mut Memory,
-        place: Place,
-        reply: &AnyReply,
-    ) -> Result<(), NoMemory>
-        requires asked { IsSome (phase_ask self.old.op (next_number memory.old) self.old.command self.old.phase) }
-        requires serial { memory.old.serial + 1 < 2 ^ 32 }
-        ensures goes_on { OnOk result (self.new ≡ record self.old {
-          phase = phase_hear place self.old.op (next_number memory.old) self.old.command self.old.phase reply.now;
-        }) }
-        ensures memory { OnOk result (memory.new ≡ after_reply memory.old reply.now) }
-        ensures err { OnErr result ((self.new ≡ self.old) × (memory.new ≡ memory.old)) }
-    {
+        if op != self.op {
+            return Err(NoMemory);
+        }
         let alloc = self.alloc;
-        let number = memory.number_of_next();
-        let Some(req) = ask(&self.program, number)? else {
+        let number = memory.number_for(op);
+        let Some(req) = ask(op, &self.program, number)? else {
             unreachable!()
         };
         let (first, second) = facts_of(alloc, &req, reply)?;
         let heard = Heard {
             reply,
-            place,
+            place: place(&req, &memory.counts()),
             number,
         };
-        hear(&mut self.program, alloc, &heard)?;
-        if reply.is_made() {
-            memory.take_serial();
-        }
+        hear(&mut self.program, alloc, op, &heard)?;
         let had = mem::replace(&mut self.shown, HeldTokens::Nothing);
         self.shown = carry(&self.program.phase, had, first, second);
         Ok(())
+    }
+
+    // Gives the answer away, where the command has one.
+    fn take_answer(&mut self) -> Option<Answer>
+        ensures answer { result ≡ phase_answer self.old.phase }
+        ensures plain { IsPlain result }
+        ensures goes { GoesOn self.old self.new result }
+    {
+        self.known();
+        match &mut self.program.phase {
+            Phase::End { answer } => Some(mem::replace(answer, Answer::Done)),
+            _ => None,
+        }
+    }
+}
+
+impl Programs for Running {
+    ghost use Rattle.program_rules.specs.Served.{programs};
+    ghost use Rattle.op_names.specs.Looking.{no_serial};
+
+    ghost rules = { programs };
+
+    ghost keeps_serial = { no_serial };
+
+    fn start(
+        alloc: Global,
+        _memory: &Memory,
+        op: OpId,
+        command: Command,
+    ) -> Result<Running, NoMemory> {
+        let program = start(command)?;
+        let shown = opening_of(&program.phase);
+        Ok(Running {
+            alloc,
+            op,
+            program,
+            shown,
+        })
+    }
+
+    fn next(&mut self, memory: &mut Memory, op: OpId) -> Result<Option<Asked>, NoMemory> {
+        self.ask_as(memory, op)
+    }
+
+    fn answer(&self) -> Option<&Answer> {
+        self.known();
+        self.program.answer()
+    }
+
+    fn hear(
+        &mut self,
+        memory: &mut Memory,
+        op: OpId,
+        reply: &AnyReply,
+    ) -> Result<Option<Answer>, NoMemory> {
+        let heard = self.go_on(memory, op, reply);
+        self.known();
+        if reply.is_made() {
+            memory.take_serial();
+        }
+        match heard {
+            Ok(()) => Ok(self.take_answer()),
+            Err(NoMemory) => Err(NoMemory),
+        }
     }
 }

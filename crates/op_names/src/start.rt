@@ -4,14 +4,14 @@ ghost use Rattle.program_rules.specs.Programs.{first_phase, from_root, started};
 
 use crate::paths::way_of;
 use program_rules::{Phase, Program};
-use tect_ids::{Answer, Command, NoMemory, OpId, Path, ROOT};
+use tect_ids::{Answer, Command, NoMemory, Path, ROOT};
 
-/// The program of a command that begins as that op.
-pub fn start(op: OpId, command: Command) -> Result<Program, NoMemory>
-    ensures { IfOk result (λ program. program ≡ started op command) }
+/// The program of a command that begins.
+pub fn start(command: Command) -> Result<Program, NoMemory>
+    ensures { IfOk result (λ program. program ≡ started command) }
 {
     let phase = first_phase_of(&command)?;
-    Ok(Program { op, command, phase })
+    Ok(Program { command, phase })
 }
 
 /// Where a command begins: one that needs a last name has its answer at once without it.

@@ -1,6 +1,7 @@
 -- What an actor knows between commands.
 use Rattle.std.specs.Prelude.{ℕ, ◌+◌, ◌*◌, ◌^◌, ◌≤◌}
 use Rattle.tect_ids.specs.declared.ids.Counts.{Counts}
+use Rattle.tect_ids.specs.declared.ids.OpId.{OpId}
 use Rattle.program_forms.specs.Memories.{Memory}
 
 pub record Known : Type 0 where
@@ -8,9 +9,9 @@ pub record Known : Type 0 where
   pub counts : Counts
   pub memory : Memory
 
--- the number of the next object that it makes
-abbrev pub next_number : Known → ℕ
-next_number m = m.actor * 2 ^ 32 + m.memory.serial
+-- the number of the next object that it makes as that op
+abbrev pub number_for : Known → OpId → ℕ
+number_for m op = op.actor * 2 ^ 32 + m.memory.serial
 
 -- the clients, and the house
 abbrev pub IsActor : ℕ → Type 0

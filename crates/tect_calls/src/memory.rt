@@ -1,11 +1,11 @@
 ghost use Rattle.std.specs.Prelude.{◌≡◌, ◌+◌, ◌^◌, ◌<◌, IfOk};
 ghost use Rattle.tect_ids.specs.Places.{HasPlaces};
 ghost use Rattle.program_forms.specs.Memories.{opening_memory};
-ghost use Rattle.tect_calls.specs.Knowing.{IsActor, next_number};
+ghost use Rattle.tect_calls.specs.Knowing.{IsActor, number_for};
 
 use std::alloc::Global;
 use std::marker::Model;
-use tect_ids::{Counts, NoMemory};
+use tect_ids::{Counts, NoMemory, OpId};
 
 /// What an actor knows between its commands: so far its number, the serial of the next object that it makes, and how many
 /// shards there are.
@@ -17,19 +17,22 @@ pub struct Memory {
 }
 
 impl Model for Memory {
+    ghost use Rattle.tect_ids.specs.Places.{HasPlaces};
     ghost use Rattle.tect_calls.specs.Knowing.{Known, IsActor};
 
     ghost Value = { Known };
 
     ghost view = { λ m. record { actor = m.actor; counts = m.counts; memory = record { serial = m.serial } } };
 
-    ghost invariant = { λ m. IsActor m.actor };
+    ghost invariant = { λ m. IsActor m.actor × HasPlaces m.counts };
 }
 
 impl Memory {
-    /// What an actor knows at the start: it has made nothing, and that takes no memory. Actors are numbered from 1 to 65.
+    /// What an actor knows at the start: it has made nothing, and that takes no memory. Actors are numbered from 1 to 65, and each
+    /// layer has 1 to 64 shards.
     pub fn start(_alloc: Global, actor: u32, counts: Counts) -> Result<Memory, NoMemory>
-        requires { IsActor actor }
+        requires actor { IsActor actor }
+        requires places { HasPlaces counts }
         ensures { IfOk result (λ memory. memory ≡ record { actor = actor; counts = counts; memory = opening_memory }) }
     {
         Ok(Memory {
@@ -46,11 +49,11 @@ impl Memory {
         self.actor
     }
 
-    /// The number of the next object that the actor makes. It takes no memory.
-    pub fn number_of_next(&self) -> u64
-        ensures { result ≡ next_number self.now }
+    /// The number of the next object that the actor makes as that op, which is its own. It takes no memory.
+    pub fn number_for(&self, op: OpId) -> u64
+        ensures { result ≡ number_for self.now op }
     {
-        u64::from(self.actor) * (1 << 32) + u64::from(self.serial)
+        u64::from(op.actor) * (1 << 32) + u64::from(self.serial)
     }
 
     /// The next object was made: the one after it has the next serial. It takes no memory.
@@ -63,7 +66,8 @@ impl Memory {
 
     /// How many shards each layer has. It takes no memory.
     pub fn counts(&self) -> Counts
-        ensures { result ≡ self.now.counts }
+        ensures counts { result ≡ self.now.counts }
+        ensures places { HasPlaces result }
     {
         self.counts
     }
