@@ -1,104 +1,106 @@
 -- a running command of one actor that goes on to its end, as the tree plays it
-use Rattle.std.proofs.Common.{◌≡◌, ◌+◌, ℕ, eqb, Bool, true, is_some, if◌then◌else◌, Option, Some, None, List, [], ◌∷◌, ◌++◌, refl, sym, ap}
+use Rattle.std.proofs.Common.{◌≡◌, ◌+◌, ℕ, is_some, if◌then◌else◌, Option, Some, None, List, [], ◌∷◌, ◌++◌, refl, sym, ap}
 use Rattle.std.proofs.Common.{subst, ◌∙◌, arith}
-use Rattle.std.specs.Option.{option_map}
-use Rattle.std.specs.FinMap.{get}
-use Rattle.tect_ids.specs.declared.ids.DirId.{DirId}
-use Rattle.tect_ids.specs.declared.ids.FileId.{FileId}
 use Rattle.tect_ids.specs.declared.ids.Hold.{Hold}
 use Rattle.tect_ids.specs.declared.ids.OpId.{OpId}
-use Rattle.tect_ids.specs.declared.ids.Place.{Place}
 use Rattle.tect_ids.specs.declared.ids.Node.{Node}
 use Rattle.tect_ids.specs.declared.ids.Node.TheVariants as nodes
-use Rattle.tect_ids.specs.declared.key.Key.{Key}
-use Rattle.tect_ids.specs.declared.values.Over.TheVariants as over
 use Rattle.tect_ids.specs.declared.command.Command.{Command}
-use Rattle.tect_ids.specs.declared.command.Command.TheVariants as commands
 use Rattle.tect_ids.specs.declared.answer.Answer.{Answer}
-use Rattle.tect_ids.specs.declared.answer.Answer.TheVariants as answers
-use Rattle.tect_ids.specs.Keys.{op_eq}
-use Rattle.tect_ids.proofs.KeyTests.{op_eq_cases, num_eq_cases}
 use Rattle.store_rules.specs.declared.names.Replaced.{Replaced}
-use Rattle.store_rules.specs.declared.names.DirectoryEntry.{DirectoryEntry}
-use Rattle.store_rules.specs.declared.names.NameReq.TheVariants as names
-use Rattle.store_rules.specs.declared.files.FileReq.TheVariants as files
 use Rattle.store_rules.specs.declared.any.AnyReq.{AnyReq}
-use Rattle.store_rules.specs.declared.any.AnyReq.TheVariants as any
 use Rattle.store_rules.specs.declared.any.AnyReply.{AnyReply}
-use Rattle.store_rules.specs.Names.{key_in}
 use Rattle.store_rules.specs.Places.{request_place}
-use Rattle.store_rules.specs.Views.{is_made, as_found, as_bound}
-use Rattle.store_rules.specs.Store.{store_reply}
+use Rattle.store_rules.specs.Store.{store_reply, store_step}
 use Rattle.tree_model.specs.declared.step.TreeStep.{TreeStep}
-use Rattle.tree_model.specs.declared.step.TreeStep.TheVariants as step
-use Rattle.tree_model.specs.declared.step.StepValue.TheVariants as shown
-use Rattle.tree_model.specs.declared.step.Refusal.{Refusal}
-use Rattle.tree_model.specs.declared.step.TreeReply.{TreeReply}
-use Rattle.tree_model.specs.declared.step.TreeReply.TheVariants.{Ok, Refused}
-use Rattle.tree_model.specs.Tree.{Tree, tree_reply, tree_next}
+use Rattle.tree_model.specs.Tree.{Tree, tree_reply}
 use Rattle.program_rules.specs.declared.program.Phase.{Phase}
-use Rattle.program_rules.specs.declared.program.Phase.TheVariants.{Walk, Bind, Release, End}
+use Rattle.program_rules.specs.declared.program.Phase.TheVariants.{Release, End}
+use Rattle.program_forms.specs.declared.heard.Heard.{Heard}
+use Rattle.program_forms.specs.declared.heard.Heard.TheVariants as hearing
+use Rattle.program_forms.specs.declared.standing.Standing.TheVariants as standing
+use Rattle.program_forms.specs.Kinds.{Does, said_by}
 use Rattle.program_rules.specs.declared.program.Program.{Program}
-use Rattle.program_rules.specs.Programs.{object_number, own_hold, phase_ask, phase_hear, phase_answer, release_ask, then_release}
-use Rattle.program_rules.specs.Programs.{bound_heard, looked, refusal}
+use Rattle.program_rules.specs.Served.{does_by, programs}
+use Rattle.program_rules.specs.Programs.{object_number, phase_ask, phase_hear, phase_answer, release_ask, then_release}
 use Rattle.world_runs.specs.declared.event.Event.{Event}
-use Rattle.world_runs.specs.declared.event.Event.TheVariants.{Began, NotBegun as declined, Acted, Ended, Stopped, Failed, Dumped}
-use Rattle.world_runs.specs.Moments.{WorldState, May, after, after_all, RunFrom, running, asked, answered, next_serial}
+use Rattle.world_runs.specs.declared.event.Event.TheVariants.{Own}
+use Rattle.world_runs.specs.declared.event.Happening.TheVariants.{Acted, Ended}
+use Rattle.world_runs.specs.Actors.{Actor, Running, program_ask, program_answer, went_on}
+use Rattle.world_runs.specs.Moments.{WorldState, May, after, after_all, RunFrom, with_actor, running, asked, answered}
 use Rattle.claim_words.specs.TreeSteps.{told_of, told_as, tree_steps, tree_step, says, tree_after, IsTreeRun}
-use Rattle.claim_words.specs.Points.{refused_answer, done_answer}
 use Rattle.world_runs.specs.Follows.{Acts}
-use Rattle.tree_runs.specs.View.{AllMade, shown_entry}
-use Rattle.session_runs.specs.Session.{Played, stepped, found_answer, releases}
-use Rattle.session_runs.specs.Session as session
-use Rattle.tree_runs.proofs.ValuesSeen.{get-map_values}
-use Rattle.tree_runs.proofs.Tracks.{Tracks, TreeMade, Knows, all_made, file_at}
-use Rattle.tree_runs.proofs.Phases.{make_file_made, look_same, bind_same, release_same}
-use Rattle.tree_runs.proofs.Replies.{RefusesSo, why_of, look_some, look_none, bind_some, bind_none, bind_replaces}
+use Rattle.session_runs.specs.Session.{Played}
+use Rattle.tree_runs.proofs.Tracks.{Tracks, Knows, next_serial}
+use Rattle.tree_runs.proofs.Phases.{release_same}
+use Rattle.tree_runs.proofs.Standings.{next_same, asks_phase, went_on_as}
 use Rattle.tree_runs.proofs.Runs.{event_tracked, tree_after-append}
-
--- the command runs as that op, at that phase, and the store shows that tree
-pub record StandsAt (m : WorldState) (t : Tree) (op : OpId) (c : Command) (own : ℕ) (at : Phase) : Type 0 where
-  pub tracks : Tracks m t
-  pub runs : (m.actors op.actor).running ≡ Some record { op = op; command = c; phase = at }
-  pub serial : (m.actors op.actor).serial ≡ own
-
--- those transactions of the op and its end, with that answer, are what was played
-pub record Comes (m : WorldState) (t : Tree) (op : OpId) (front : List Event) (n : ℕ) (a : Answer) (p : Played) (left : ℕ) : Type 0 where
-  pub count : n ≡ left
-  pub answer : a ≡ p.answer
-  pub tree : tree_after t (tree_steps front) ≡ p.tree
-  pub serial : ((after_all m front).actors op.actor).serial ≡ p.serial
-
--- so it is of all transactions that may come
-abbrev pub Goes : WorldState → Tree → OpId → Played → ℕ → Type 0
-Goes m t op p left = (front : List Event) (n : ℕ) (a : Answer) → Acts op n front → RunFrom m (front ++ Ended op a ∷ [])
-    → Comes m t op front n a p left
+use Rattle.world_runs.proofs.Actors.{changed_there}
+use Rattle.run_claims.proofs.Ops.{op_runs}
+use Rattle.script_runs.proofs.Histories.{IsActed, act_is}
 
 -- the program that stands so
-abbrev program_at : OpId → Command → Phase → Program
-program_at op c at = record { op = op; command = c; phase = at }
+abbrev pub program_at : Command → Phase → Program
+program_at c at = record { command = c; phase = at }
 
-module _ (m : WorldState) (t : Tree) (op : OpId) (c : Command) (own : ℕ) (at : Phase) (st : StandsAt m t op c own at) where
+-- the command runs as that op, at that phase, and the store shows that tree
+pub record StandsAt (m : WorldState Program) (t : Tree) (op : OpId) (c : Command) (own : ℕ) (at : Phase) : Type 0 where
+  pub tracks : Tracks m t
+  pub runs : (m.actors op.actor).running ≡ Some record { op = op; at = standing.Goes (program_at c at) }
+  pub serial : (m.actors op.actor).memory.serial ≡ own
+
+-- those transactions of the op and its end, with that answer, are what was played
+pub record Comes (m : WorldState Program) (t : Tree) (op : OpId) (front : List Event) (n : ℕ) (a : Answer) (p : Played) (left : ℕ) : Type 0
+  where
+    pub count : n ≡ left
+    pub answer : a ≡ p.answer
+    pub tree : tree_after t (tree_steps front) ≡ p.tree
+    pub serial : ((after_all programs m front).actors op.actor).memory.serial ≡ p.serial
+
+-- so it is of all transactions that may come
+abbrev pub Goes : WorldState Program → Tree → OpId → Played → ℕ → Type 0
+Goes m t op p left = (front : List Event) (n : ℕ) (a : Answer) → Acts op n front → RunFrom programs m (front ++ Own op (Ended a) ∷ [])
+    → Comes m t op front n a p left
+
+-- a command that did not hear its last reply does nothing more, and has no answer
+left_stuck : (m : WorldState Program) (op : OpId) → (m.actors op.actor).running ≡ Some record { op = op; at = standing.Left }
+    → (front : List Event) (n : ℕ) (a : Answer) → Acts op n front → RunFrom programs m (front ++ Own op (Ended a) ∷ []) → ⊥
+left_stuck m op is [] n a acts run =
+    let s : Actor Program = m.actors op.actor in
+    let k : None ≡ Some a = subst (λ (r : Option (Running Program)). program_answer programs m.counts s.memory r ≡ Some a)
+    (op_runs s.running op standing.Left is) (run.0).0 in cc
+left_stuck m op is (e ∷ es) n a acts run =
+    let s : Actor Program = m.actors op.actor in
+    let i : IsActed op e = act_is op e acts.0 in
+    let may : May programs m (Own op (Acted i.req i.reply i.heard)) = subst (λ (z : Event). May programs m z) i.is run.0 in
+    let k : None ≡ Some i.req = subst (λ (r : Option (Running Program)). program_ask programs m.counts s.memory r ≡ Some i.req)
+    (op_runs s.running op standing.Left is) may.0 in cc
+
+module _ (m : WorldState Program) (t : Tree) (op : OpId) (c : Command) (own : ℕ) (at : Phase) (st : StandsAt m t op c own at) where
+  -- the actor
+  abbrev s : Actor Program
+  s = m.actors op.actor
+
   -- the number of the next object that its actor makes
   abbrev number_now : ℕ
   number_now = object_number op.actor own
 
-  itself : op_eq op op ≡ true
-  itself = grind (arith, op_eq_cases op op)
+  runs_now : running m op ≡ Some record { op = op; at = standing.Goes (program_at c at) }
+  runs_now = op_runs s.running op (standing.Goes (program_at c at)) st.runs
 
-  same_actor : eqb op.actor op.actor ≡ true
-  same_actor = grind (arith, num_eq_cases op.actor op.actor)
+  asked_now : asked programs m op ≡ phase_ask op number_now c at
+  asked_now =
+      ap (λ (r : Option (Running Program)). program_ask programs m.counts s.memory r) runs_now
+      ∙ asks_phase m.counts s.memory op (program_at c at)
+      ∙ ap (λ (i : ℕ). phase_ask op (object_number op.actor i) c at) st.serial
 
-  runs_now : running m op ≡ Some (program_at op c at)
-  runs_now = rw (st.runs, itself) refl
+  says_now : answered programs m op ≡ said_by (does_by (phase_ask op number_now c at) (phase_answer at))
+  says_now =
+      ap (λ (r : Option (Running Program)). program_answer programs m.counts s.memory r) runs_now
+      ∙ ap (λ (d : Does Answer). said_by d) (next_same m.counts s.memory op (program_at c at))
+      ∙ ap (λ (i : ℕ). said_by (does_by (phase_ask op (object_number op.actor i) c at) (phase_answer at))) st.serial
 
-  asked_now : asked m op ≡ phase_ask op number_now c at
-  asked_now = rw (runs_now, st.serial) refl
-
-  pub answered_now : answered m op ≡ phase_answer at
-  answered_now = rw runs_now refl
-
-  pub knows_now : Knows op.actor (m.actors op.actor).number own (Some (program_at op c at))
+  pub knows_now : Knows op.actor s.number own (Some record { op = op; at = standing.Goes (program_at c at) })
   knows_now = rw (st.runs, st.serial) at (st.tracks.knows op.actor)
 
   module _ (q : AnyReq) (asks : phase_ask op number_now c at ≡ Some q) where
@@ -107,18 +109,33 @@ module _ (m : WorldState) (t : Tree) (op : OpId) (c : Command) (own : ℕ) (at :
     x = store_reply m.store q
 
     -- the transaction
-    abbrev did : Event
-    did = Acted op q x
+    abbrev did_so : Heard → Event
+    did_so h = Own op (Acted q x h)
 
-    pub may_now : May m did
+    abbrev did : Event
+    did = did_so hearing.Whole
+
+    says_none : answered programs m op ≡ None
+    says_none = says_now ∙ ap (λ (o : Option AnyReq). said_by (does_by o (phase_answer at))) asks
+
+    pub may_now : May programs m did
     may_now = (asked_now ∙ asks, refl)
 
-    pub next_stands : StandsAt (after m did) (tree_after t (told_of did)) op c (next_serial own x)
+    -- what a reply makes of the actor
+    heard_as : (P : Actor Program → Type 0) (h : Heard) → P (went_on programs m.counts s s.running q x h)
+        → P ((after programs m (did_so h)).actors op.actor)
+    heard_as P h is = changed_there P m.actors op.actor (went_on programs m.counts s s.running q x h) is
+
+    pub next_stands : StandsAt (after programs m did) (tree_after t (told_of did)) op c (next_serial own x)
         (phase_hear (request_place m.counts q) op number_now c at x)
     next_stands = record {
       tracks = (event_tracked m t did st.tracks may_now).0;
-      runs = rw (same_actor, st.runs, st.serial) refl;
-      serial = rw (same_actor, st.serial) refl;
+      runs = heard_as
+          (λ (a : Actor Program).
+          a.running ≡ Some record { op = op; at = standing.Goes (program_at c (phase_hear (request_place m.counts q) op number_now c at x)) })
+          hearing.Whole (rw (went_on_as m.counts s s.running op (program_at c at) q x hearing.Whole st.runs, st.serial) refl);
+      serial = heard_as (λ (a : Actor Program). a.memory.serial ≡ next_serial own x) hearing.Whole
+          (rw (went_on_as m.counts s s.running op (program_at c at) q x hearing.Whole st.runs, st.serial) refl);
     }
 
     pub step_said : (s : TreeStep) → tree_step q x ≡ Some s → says x ≡ tree_reply t s
@@ -126,268 +143,92 @@ module _ (m : WorldState) (t : Tree) (op : OpId) (c : Command) (own : ℕ) (at :
         in (rw is at run).0
 
     -- one transaction, and then the others
-    step_here : (p : Played) (left n rest : ℕ) (a : Answer) (es : List Event) → n ≡ rest + 1
-        → Comes (after m did) (tree_after t (told_of did)) op es rest a p left → Comes m t op (did ∷ es) n a p (left + 1)
-    step_here p left n rest a es is r = record {
+    step_here : (h : Heard) (p : Played) (left n rest : ℕ) (a : Answer) (es : List Event) → n ≡ rest + 1
+        → Comes (after programs m (did_so h)) (tree_after t (told_of did)) op es rest a p left → Comes m t op (did_so h ∷ es) n a p (left + 1)
+    step_here h p left n rest a es is r = record {
       count = omega (arith, r.count);
       answer = r.answer;
       tree = tree_after-append t (told_of did) (tree_steps es) ∙ r.tree;
       serial = r.serial;
     }
 
-    pub step_goes : (p : Played) (left : ℕ) → phase_answer at ≡ None → Goes (after m did) (tree_after t (told_of did)) op p left
-        → Goes m t op p (left + 1)
-    step_goes p left no_end more [] n a acts run = absurd (let k : Some a ≡ None = sym run.0 ∙ answered_now ∙ no_end in cc)
-    step_goes p left no_end more (Acted o q2 x2 ∷ es) n a acts run =
-        let os : o ≡ op = acts.0 in
-        let here : asked m op ≡ Some q2 = rw os at (run.0).0 in
-        let qs : Some q2 ≡ Some q = sym here ∙ asked_now ∙ asks in
-        let qt : q2 ≡ q = cc in
-        let xs : x2 ≡ x = (run.0).1 ∙ ap (store_reply m.store) qt in
-        let same : Acted o q2 x2 ≡ did = cc in
-        subst (λ (e : Event). RunFrom (after m e) (es ++ Ended op a ∷ []) → Comes m t op (e ∷ es) n a p (left + 1)) (sym same)
-        (λ r. step_here p left n (acts.1).0 a es (acts.1).1 (more es (acts.1).0 a (acts.1).2 r)) run.1
-    step_goes p left no_end more (Began o d ∷ es) n a acts run = absurd acts
-    step_goes p left no_end more (declined o d ∷ es) n a acts run = absurd acts
-    step_goes p left no_end more (Ended o d ∷ es) n a acts run = absurd acts
-    step_goes p left no_end more (Stopped o ∷ es) n a acts run = absurd acts
-    step_goes p left no_end more (Failed o d ∷ es) n a acts run = absurd acts
-    step_goes p left no_end more (Dumped ∷ es) n a acts run = absurd acts
+    -- it makes no difference whether the actor kept what the reply told
+    unkept_same : after programs m did ≡ after programs m (did_so hearing.Unkept)
+    unkept_same = ap (λ (a : Actor Program). with_actor (record m { store = store_step m.store q }) op.actor a)
+        (went_on_as m.counts s s.running op (program_at c at) q x hearing.Whole st.runs
+        ∙ sym (went_on_as m.counts s s.running op (program_at c at) q x hearing.Unkept st.runs))
+
+    left_runs : ((after programs m (did_so hearing.Left)).actors op.actor).running ≡ Some record { op = op; at = standing.Left }
+    left_runs = heard_as (λ (a : Actor Program). a.running ≡ Some record { op = op; at = standing.Left }) hearing.Left
+        (rw (went_on_as m.counts s s.running op (program_at c at) q x hearing.Left st.runs) refl)
+
+    module _ (p : Played) (left : ℕ) (more : Goes (after programs m did) (tree_after t (told_of did)) op p left) where
+      heard_goes : (h : Heard) (es : List Event) (n rest : ℕ) (a : Answer) → n ≡ rest + 1 → Acts op rest es
+          → RunFrom programs (after programs m (did_so h)) (es ++ Own op (Ended a) ∷ []) → Comes m t op (did_so h ∷ es) n a p (left + 1)
+      heard_goes hearing.Whole es n rest a is acts run = step_here hearing.Whole p left n rest a es is (more es rest a acts run)
+      heard_goes hearing.Unkept es n rest a is acts run =
+          step_here hearing.Unkept p left n rest a es is
+          (subst (λ (w : WorldState Program). Goes w (tree_after t (told_of did)) op p left) unkept_same more es rest a acts run)
+      heard_goes hearing.Left es n rest a is acts run = absurd (left_stuck _ op left_runs es rest a acts run)
+
+      acted_goes : (q2 : AnyReq) (x2 : AnyReply) (h : Heard) (es : List Event) (n rest : ℕ) (a : Answer) → n ≡ rest + 1 → Acts op rest es
+          → RunFrom programs m (Own op (Acted q2 x2 h) ∷ es ++ Own op (Ended a) ∷ [])
+          → Comes m t op (Own op (Acted q2 x2 h) ∷ es) n a p (left + 1)
+      acted_goes q2 x2 h es n rest a is acts run =
+          let qs : Some q2 ≡ Some q = sym (run.0).0 ∙ asked_now ∙ asks in
+          let qt : q2 ≡ q = cc in
+          let xs : x2 ≡ x = (run.0).1 ∙ ap (store_reply m.store) qt in
+          let same : Own op (Acted q2 x2 h) ≡ did_so h = λ i. Own op (Acted (qt i) (xs i) h) in
+          subst (λ (e : Event). RunFrom programs (after programs m e) (es ++ Own op (Ended a) ∷ []) → Comes m t op (e ∷ es) n a p (left + 1))
+          (sym same) (heard_goes h es n rest a is acts) run.1
+
+      pub step_goes : Goes m t op p (left + 1)
+      step_goes [] n a acts run = absurd (let k : Some a ≡ None = sym (run.0).0 ∙ says_none in cc)
+      step_goes (e ∷ es) n a acts run =
+          let i : IsActed op e = act_is op e acts.0 in
+          subst (λ (z : Event). RunFrom programs m (z ∷ es ++ Own op (Ended a) ∷ []) → Comes m t op (z ∷ es) n a p (left + 1)) (sym i.is)
+          (acted_goes i.req i.reply i.heard es n (acts.1).0 a (acts.1).1 (acts.1).2) run
 
 -- what stands so, in other words
-pub stands_as : (m : WorldState) (t u : Tree) (op : OpId) (c : Command) (own new : ℕ) (at to : Phase) → StandsAt m t op c own at → t ≡ u
+pub stands_as : (m : WorldState Program) (t u : Tree) (op : OpId) (c : Command) (own new : ℕ) (at to : Phase) → StandsAt m t op c own at → t ≡ u
     → own ≡ new → at ≡ to → StandsAt m u op c new to
 stands_as m t u op c own new at to st tree serial phase =
     subst (λ (v : Tree). StandsAt m v op c new to) tree
     (subst (λ (i : ℕ). StandsAt m t op c i to) serial (subst (λ (z : Phase). StandsAt m t op c own z) phase st))
 
 -- a command that has its answer
-end_goes : (m : WorldState) (t : Tree) (op : OpId) (c : Command) (own : ℕ) (b : Answer) (p : Played) → StandsAt m t op c own (End b)
-    → t ≡ p.tree → own ≡ p.serial → b ≡ p.answer → Goes m t op p 0
+pub end_goes : (m : WorldState Program) (t : Tree) (op : OpId) (c : Command) (own : ℕ) (b : Answer) (p : Played)
+    → StandsAt m t op c own (End b) → t ≡ p.tree → own ≡ p.serial → b ≡ p.answer → Goes m t op p 0
 end_goes m t op c own b p st tree serial answer [] n a acts run =
-    let now : Some b ≡ Some a = sym (answered_now m t op c own (End b) st) ∙ run.0 in
+    let now : Some b ≡ Some a = sym (says_now m t op c own (End b) st) ∙ (run.0).0 in
     let same : b ≡ a = cc in
     record { count = acts; answer = sym same ∙ answer; tree = tree; serial = st.serial ∙ serial }
-end_goes m t op c own b p st tree serial answer (Acted o q x ∷ es) n a acts run =
-    let os : o ≡ op = acts.0 in
-    let here : asked m op ≡ Some q = rw os at (run.0).0 in
-    absurd (let k : Some q ≡ None = sym here ∙ asked_now m t op c own (End b) st in cc)
-end_goes m t op c own b p st tree serial answer (Began o d ∷ es) n a acts run = absurd acts
-end_goes m t op c own b p st tree serial answer (declined o d ∷ es) n a acts run = absurd acts
-end_goes m t op c own b p st tree serial answer (Ended o d ∷ es) n a acts run = absurd acts
-end_goes m t op c own b p st tree serial answer (Stopped o ∷ es) n a acts run = absurd acts
-end_goes m t op c own b p st tree serial answer (Failed o d ∷ es) n a acts run = absurd acts
-end_goes m t op c own b p st tree serial answer (Dumped ∷ es) n a acts run = absurd acts
+end_goes m t op c own b p st tree serial answer (e ∷ es) n a acts run =
+    let i : IsActed op e = act_is op e acts.0 in
+    let may : May programs m (Own op (Acted i.req i.reply i.heard)) = subst (λ (z : Event). May programs m z) i.is run.0 in
+    absurd (let k : Some i.req ≡ None = sym may.0 ∙ asked_now m t op c own (End b) st in cc)
+
+-- a transaction of the op, heard whole
+abbrev pub acted : OpId → AnyReq → AnyReply → Event
+acted op q x = Own op (Acted q x hearing.Whole)
 
 -- a release is no step
-module _ (m : WorldState) (t : Tree) (op : OpId) (c : Command) (own : ℕ) (b : Answer) (p : Played) (tree : t ≡ p.tree)
+module _ (m : WorldState Program) (t : Tree) (op : OpId) (c : Command) (own : ℕ) (b : Answer) (p : Played) (tree : t ≡ p.tree)
     (serial : own ≡ p.serial) (answer : b ≡ p.answer) where
-  release_goes : (n : Node) (h : Hold) → StandsAt m t op c own (Release n h None b) → Goes m t op p 1
+  pub release_goes : (n : Node) (h : Hold) → StandsAt m t op c own (Release n h None b) → Goes m t op p 1
   release_goes n h st =
       let q : AnyReq = release_ask n h in
-      let next : StandsAt (after m (Acted op q (store_reply m.store q))) (tree_after t (told_of (Acted op q (store_reply m.store q)))) op c
+      let next : StandsAt (after programs m (acted op q (store_reply m.store q))) (tree_after t (told_of (acted op q (store_reply m.store q)))) op c
       (next_serial own (store_reply m.store q)) (End b) =
       next_stands m t op c own (Release n h None b) st q refl in
-      step_goes m t op c own (Release n h None b) st q refl p 0 refl
+      step_goes m t op c own (Release n h None b) st q refl p 0
       (end_goes _ _ op c _ b p next (no_step n h ∙ tree) (rw (release_same m.store t.made op n h).1 serial) answer)
     where
-      no_step : (n : Node) (h : Hold) → tree_after t (told_of (Acted op (release_ask n h) (store_reply m.store (release_ask n h)))) ≡ t
+      no_step : (n : Node) (h : Hold) → tree_after t (told_of (acted op (release_ask n h) (store_reply m.store (release_ask n h)))) ≡ t
       no_step (nodes.Dir d) h = refl
       no_step (nodes.File f) h = refl
 
   -- the hold of a file that was replaced is released
-  then_goes : (o : Option Replaced) → StandsAt m t op c own (then_release o b) → Goes m t op p (if is_some o then 1 else 0)
+  pub then_goes : (o : Option Replaced) → StandsAt m t op c own (then_release o b) → Goes m t op p (if is_some o then 1 else 0)
   then_goes None st = end_goes m t op c own b p st tree serial answer
   then_goes (Some old) st = release_goes (nodes.File old.file) old.hold st
-
--- ---- a look
-
-module _ (m : WorldState) (t : Tree) (op : OpId) (c : Command) (own : ℕ) where
-  found_said : (k : Key) (r : TreeReply) (n : Node) → r ≡ Ok (shown.Node n) → answers.Found n ≡ found_answer k r
-  found_said k r n e = rw e refl
-
-  refused_said : (k : Key) (r : TreeReply) (why : Refusal) → r ≡ Refused why → refused_answer k why ≡ found_answer k r
-  refused_said k r why e = rw e refl
-
-  pub look_goes : (d : DirId) (n : List ℕ) → c ≡ commands.Look (n ∷ []) → StandsAt m t op c own (Walk d [])
-      → Goes m t op (session.looked t own (key_in d n)) 1
-  look_goes d n is st =
-      let k : Key = key_in d n in
-      let q : AnyReq = any.Name (names.Look k) in
-      let asks : phase_ask op (object_number op.actor own) c (Walk d []) ≡ Some q = rw is refl in
-      let x : AnyReply = store_reply m.store q in
-      let said : says x ≡ tree_reply t (step.Look k) = step_said m t op c own (Walk d []) st q asks (step.Look k) refl in
-      let hears : phase_hear (request_place m.counts q) op (object_number op.actor own) c (Walk d []) x ≡ looked (request_place m.counts q)
-      k x (as_found x) = rw is refl in
-      let next : StandsAt (after m (Acted op q x)) t op c own (looked (request_place m.counts q) k x (as_found x)) =
-      stands_as _ _ t op c _ own _ _ (next_stands m t op c own (Walk d []) st q asks) (unread (says x))
-      (rw (look_same m.store t.made op k).1 refl) hears in
-      subst (λ (u : Tree). Goes (after m (Acted op q x)) u op (session.looked t own k) 0 → Goes m t op (session.looked t own k) 1)
-      (unread (says x))
-      (step_goes m t op c own (Walk d []) st q asks (session.looked t own k) 0 refl)
-      (ends k (request_place m.counts q) (as_found x) refl said next)
-    where
-      unread : (r : TreeReply) → tree_next t (step.Look (key_in d n)) r ≡ t
-      unread (Ok shows) = refl
-      unread (Refused why) = refl
-
-      ends : (k : Key) (place : Place) (o : Option Node) → as_found (store_reply m.store (any.Name (names.Look k))) ≡ o
-          → says (store_reply m.store (any.Name (names.Look k))) ≡ tree_reply t (step.Look k)
-          → StandsAt (after m (Acted op (any.Name (names.Look k)) (store_reply m.store (any.Name (names.Look k))))) t op c own
-          (looked place k (store_reply m.store (any.Name (names.Look k))) o)
-          → Goes (after m (Acted op (any.Name (names.Look k)) (store_reply m.store (any.Name (names.Look k))))) t op
-          (session.looked t own k) 0
-      ends k place None e said next =
-          let no : RefusesSo place k (store_reply m.store (any.Name (names.Look k))) = look_none m.store place k e in
-          end_goes _ t op c own _ (session.looked t own k) next refl refl (no.1 ∙ refused_said k _ _ (sym said ∙ no.0))
-      ends k place (Some y) e said next =
-          end_goes _ t op c own _ (session.looked t own k) next refl refl (found_said k _ y (sym said ∙ look_some m.store place k y e))
-
--- ---- a create
-
-releases_refused : (now : Option Node) (why : Refusal) → releases now (Refused why) ≡ 1
-releases_refused None why = refl
-releases_refused (Some n) why = refl
-
-releases_done : (now : Option Node) → releases now (Ok shown.Done) ≡ (if is_some now then 1 else 0)
-releases_done None = refl
-releases_done (Some n) = refl
-
-seen_there : (o : Option DirectoryEntry) → is_some (option_map shown_entry o) ≡ is_some o
-seen_there None = refl
-seen_there (Some e) = refl
-
-done_said : (k : Key) (a : Answer) (r : TreeReply) → r ≡ Ok shown.Done → a ≡ done_answer k a r
-done_said k a r e = rw e refl
-
-not_said : (k : Key) (a : Answer) (r : TreeReply) (why : Refusal) → r ≡ Refused why → refused_answer k why ≡ done_answer k a r
-not_said k a r why e = rw e refl
-
--- after the bind of a file
-module _ (m : WorldState) (t : Tree) (op : OpId) (c : Command) (own : ℕ) (k : Key) (f : FileId)
-    (st : StandsAt m t op c own (Bind k (nodes.File f) over.File)) where
-  -- the file as a node
-  abbrev n : Node
-  n = nodes.File f
-
-  -- the tree's step
-  abbrev bind : TreeStep
-  bind = step.Bind k n over.File
-
-  -- the request
-  abbrev q : AnyReq
-  q = any.Name (names.Bind k n (own_hold op) over.File)
-
-  -- what the store replies
-  abbrev y : AnyReply
-  y = store_reply m.store q
-
-  -- the moment after the bind
-  abbrev mid : WorldState
-  mid = after m (Acted op q y)
-
-  -- the tree after the bind
-  abbrev u : Tree
-  u = stepped t bind
-
-  -- what the tree plays
-  abbrev p : Played
-  p = session.bound t own k f
-
-  bind_said : says y ≡ tree_reply t bind
-  bind_said = step_said m t op c own (Bind k n over.File) st q refl bind refl
-
-  bind_tree : tree_next t bind (says y) ≡ u
-  bind_tree = ap (tree_next t bind) bind_said
-
-  -- whether a file was replaced
-  there : (old : Option Replaced) → as_bound y ≡ Some old → is_some old ≡ is_some (get t.entries k)
-  there old e =
-      let seen : get t.entries k ≡ option_map shown_entry (get (m.store).names.entries k) = ap (λ (v : Tree). get v.entries k)
-      (sym st.tracks.shown) ∙ get-map_values shown_entry (m.store).names.entries k in
-      bind_replaces m.store (request_place m.counts q) k n (own_hold op) over.File old e ∙ sym
-      (ap is_some seen ∙ seen_there (get (m.store).names.entries k))
-
-  bound_goes : (place : Place) (o : Option (Option Replaced)) → as_bound y ≡ o → StandsAt mid u op c own (bound_heard place op k n y o)
-      → Goes mid u op p (releases (get t.entries k) (tree_reply t bind))
-  bound_goes place None e next =
-      let no : RefusesSo place k y = bind_none m.store place k n (own_hold op) over.File e in
-      let said : tree_reply t bind ≡ Refused (why_of (says y)) = sym bind_said ∙ no.0 in
-      let one : releases (get t.entries k) (tree_reply t bind) ≡ 1 = ap (releases (get t.entries k)) said ∙ releases_refused
-      (get t.entries k) (why_of (says y)) in
-      subst (λ (i : ℕ). Goes mid u op p i) (sym one)
-      (release_goes mid u op c own (refusal place k y) p refl refl
-      (no.1 ∙ not_said k (answers.Found n) (tree_reply t bind) (why_of (says y)) said) n (own_hold op) next)
-  bound_goes place (Some old) e next =
-      let said : tree_reply t bind ≡ Ok shown.Done = sym bind_said ∙ bind_some m.store place k n (own_hold op) over.File old e in
-      let count : releases (get t.entries k) (tree_reply t bind) ≡ (if is_some old then 1 else 0) =
-      ap (releases (get t.entries k)) said ∙ releases_done (get t.entries k) ∙ ap (λ (b : Bool). if b then 1 else 0) (sym (there old e)) in
-      subst (λ (i : ℕ). Goes mid u op p i) (sym count)
-      (then_goes mid u op c own (answers.Found n) p refl refl (done_said k (answers.Found n) (tree_reply t bind) said) old next)
-
-  bind_goes : Goes m t op p (releases (get t.entries k) (tree_reply t bind) + 1)
-  bind_goes =
-      let next : StandsAt mid u op c own (bound_heard (request_place m.counts q) op k n y (as_bound y)) =
-      stands_as mid _ u op c _ own _ _ (next_stands m t op c own (Bind k n over.File) st q refl) bind_tree
-      (rw (bind_same m.store t.made op k n (own_hold op) over.File).1 refl) refl in
-      subst (λ (v : Tree). Goes mid v op p (releases (get t.entries k) (tree_reply t bind))
-      → Goes m t op p (releases (get t.entries k) (tree_reply t bind) + 1)) bind_tree
-      (step_goes m t op c own (Bind k n over.File) st q refl p (releases (get t.entries k) (tree_reply t bind)) refl)
-      (bound_goes (request_place m.counts q) (as_bound y) refl next)
-
-module _ (m : WorldState) (t : Tree) (op : OpId) (own : ℕ) (d : DirId) (n : List ℕ)
-    (st : StandsAt m t op (commands.Create (n ∷ [])) own (Walk d [])) where
-  -- the file that is made
-  abbrev file : FileId
-  file = record { 0 = object_number op.actor own }
-
-  -- the request that makes it
-  abbrev making : AnyReq
-  making = any.File (files.MakeFile file (own_hold op) (key_in d n) None)
-
-  -- what the store replies
-  abbrev made_reply : AnyReply
-  made_reply = store_reply m.store making
-
-  -- the tree's step
-  abbrev make : TreeStep
-  make = step.MakeFile file None
-
-  -- the command
-  abbrev c : Command
-  c = commands.Create (n ∷ [])
-
-  made_all : AllMade m.store t.made
-  made_all = all_made m.store t.made (subst (λ (v : Tree). TreeMade v) (sym st.tracks.shown) st.tracks.made)
-
-  is_new : get t.made (file_at (object_number op.actor own)) ≡ None
-  is_new =
-      let knows : Knows op.actor (m.actors op.actor).number own (Some (program_at op c (Walk d []))) = knows_now m t op c own (Walk d []) st
-      in
-      (st.tracks.fresh op.actor knows.0 own (omega (arith, st.serial))
-      (omega (arith, st.serial, st.tracks.serials op.actor, st.tracks.numbers op.actor))).1
-
-  made_now : is_made made_reply ≡ true
-  made_now = make_file_made m.store t.made op (object_number op.actor own) made_all file (own_hold op) (key_in d n) is_new
-
-  make_said : says made_reply ≡ tree_reply t make
-  make_said = step_said m t op c own (Walk d []) st making refl make refl
-
-  make_tree : tree_next t make (says made_reply) ≡ stepped t make
-  make_tree = ap (tree_next t make) make_said
-
-  pub create_goes : Goes m t op (session.created t own (key_in d n) file) (session.created t own (key_in d n) file).transactions
-  create_goes =
-      let k : Key = key_in d n in
-      let mid : WorldState = after m (Acted op making made_reply) in
-      let v : Tree = stepped t make in
-      let p : Played = session.created t own k file in
-      let left : ℕ = releases (get v.entries k) (tree_reply v (step.Bind k (nodes.File file) over.File)) in
-      let next : StandsAt mid v op c (own + 1) (Bind k (nodes.File file) over.File) =
-      stands_as mid _ v op c _ (own + 1) _ _ (next_stands m t op c own (Walk d []) st making refl) make_tree (rw made_now refl)
-      (rw made_now refl) in
-      let all : Goes m t op p (left + 1 + 1) =
-      subst (λ (w : Tree). Goes mid w op p (left + 1) → Goes m t op p (left + 1 + 1)) make_tree
-      (step_goes m t op c own (Walk d []) st making refl p (left + 1) refl)
-      (bind_goes mid v op c (own + 1) k file next) in
-      subst (λ (i : ℕ). Goes m t op p i) (omega arith) all

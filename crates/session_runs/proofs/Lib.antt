@@ -1,6 +1,9 @@
+pub mod Well
+pub mod Hearing
 pub mod CanEnd
 pub mod RunOn
 pub mod Comes
+pub mod Plays
 pub mod Quiet
 pub mod Scripts
 pub mod Sessions

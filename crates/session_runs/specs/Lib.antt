@@ -1,2 +1,3 @@
+pub mod Well
 pub mod RunningOn
 pub mod Session
