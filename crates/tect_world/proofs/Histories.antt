@@ -1,10 +1,10 @@
 -- the list of all moments that the marks and the passes give
-use Rattle.std.proofs.Common.{◌≡◌, ◌≢◌, ℕ, zero, suc, ◌+◌, ◌-◌, ◌<◌, ◌≤◌, inl, inr, Bool, true, false, eqb, if◌then◌else◌, Some, List, []}
-use Rattle.std.proofs.Common.{◌∷◌, ◌++◌, length, map, get_or, take, drop, replicate, refl, sym, ap, ◌∙◌, subst, append_assoc, arith}
-use Rattle.std.specs.Prelude.{IfOk, Result, Ok, Err}
-use Rattle.std.specs.List.{slice_get}
+use Rattle.std.proofs.Common.{◌≡◌, ◌≢◌, ℕ, zero, suc, ◌+◌, ◌-◌, ◌<◌, ◌≤◌, inl, inr, Bool, true, false, eqb, if◌then◌else◌, List, []}
+use Rattle.std.proofs.Common.{◌∷◌, ◌++◌, length, get_or, set, drop, replicate, refl, sym, ap, ◌∙◌, subst, append_assoc, arith}
+use Rattle.std.specs.Prelude.{OnOk, Result, Ok, Err}
 use Rattle.std.proofs.lemmas.Bool.{cases_lt}
-use Rattle.std.proofs.lemmas.List.{get_or_past, append-nil}
+use Rattle.std.proofs.lemmas.List.{get_or_past, get_or-set_same, get_or-set_other}
+use Rattle.all_shards.proofs.Stepped.{any_default}
 use Rattle.tect_ids.specs.declared.ids.Counts.{Counts}
 use Rattle.tect_ids.proofs.KeyTests.{num_eq_cases}
 use Rattle.entry_words.specs.declared.entry.Moment.{Moment}
@@ -20,26 +20,28 @@ use Rattle.tect_world.specs.Clients.{client_at, events_by}
 use Rattle.tect_world.specs.Inside.{life_of, noted_in, IsWorld}
 use Rattle.tect_world.specs.Noted.{moments_by}
 use Rattle.tect_world.specs.Order.{first_moment, later_moments, in_order, marks_of, moments_in_order}
-use Rattle.tect_world.specs.Telling.{left_by, IsMarkOf}
+use Rattle.tect_world.specs.Telling.{left_by, IsMarkOf, AreMarksOf}
 use Rattle.tect_world.specs.Told.{Notes, IsTold}
-use Rattle.tect_world.proofs.MomentOrders.{without}
+use Rattle.tect_world.proofs.MomentOrders.{same, without}
 use Rattle.tect_world.proofs.Tellings.{IsSilentFrom, notes_in_order}
 
 -- ---- the marks are of the actors
 
-marked : (marks : List Mark) (n a : ℕ) → slice_get marks n ≡ Some (Actor a) → 0 < marks_of a marks
-marked [] n a e = absurd cc
-marked (Actor b ∷ ms) zero a e =
-    let same : b ≡ a = cc in
-    let here : eqb a b ≡ true = grind (arith, num_eq_cases a b, same) in
-    ap_less (eqb a b) (marks_of a ms) here
-  where
-    ap_less : (t : Bool) (n : ℕ) → t ≡ true → 0 < (if t then 1 else 0) + n
-    ap_less true n is = omega arith
-    ap_less false n is = absurd cc
-marked (Dump ∷ ms) zero a e = absurd cc
-marked (Actor b ∷ ms) (suc n) a e = let rest = marked ms n a e in omega (arith, rest)
-marked (Dump ∷ ms) (suc n) a e = marked ms n a e
+one_by : (t : Bool) (n : ℕ) → t ≡ true → 0 < (if t then 1 else 0) + n
+one_by true n is = omega arith
+one_by false n is = absurd cc
+
+marks_by : (actors : ℕ) (marks : List Mark) → ((a : ℕ) → 0 < marks_of a marks → (1 ≤ a) × (a ≤ actors)) → AreMarksOf actors marks
+marks_by actors [] f = tt
+marks_by actors (Dump ∷ ms) f = (tt, marks_by actors ms f)
+marks_by actors (Actor b ∷ ms) f =
+    (f b (one_by (eqb b b) (marks_of b ms) (same b)), marks_by actors ms (λ a some. f a (omega (arith, some))))
+
+pub mark_at : (actors : ℕ) (marks : List Mark) (i : ℕ) (d : Mark) → i < length marks → AreMarksOf actors marks
+    → IsMarkOf actors (get_or marks i d)
+mark_at actors [] i d lt are = absurd (omega (arith, lt))
+mark_at actors (m ∷ ms) zero d lt are = are.0
+mark_at actors (m ∷ ms) (suc i) d lt are = mark_at actors ms i d (omega (arith, lt)) are.1
 
 module _ {S : Type 0} (P : Programs S) (w : Inside S) (is : IsWorld P w) where
   abbrev c : Counts
@@ -54,22 +56,20 @@ module _ {S : Type 0} (P : Programs S) (w : Inside S) (is : IsWorld P w) where
       let past : client_at c ls a ≡ idle_life 0 c = get_or_past ls (a - 1) (idle_life 0 c) (omega (arith, far, is.number)) in
       ap (λ (t : Bool). length (if t then [] else events_in (client_at c ls a))) some ∙ ap (λ (l : ClientLife). length (events_in l)) past
 
-  mark_of : (n : ℕ) (mark : Mark) → slice_get w.order.items n ≡ Some mark → IsMarkOf 65 mark
-  mark_of n Dump e = tt
-  mark_of n (Actor zero) e =
-      let some = marked w.order.items n 0 e in
+  mark_of : (a : ℕ) → 0 < marks_of a w.order.items → (1 ≤ a) × (a ≤ 65)
+  mark_of zero some =
       let none : length (events_by c ls 0) ≡ 0 = refl in
       absurd (omega (arith, some, is.marked 0, none))
-  mark_of n (Actor (suc a)) e = elim (cases_lt 65 (suc a)) [
-    | inl far ↦
-        let some = marked w.order.items n (suc a) e in
-        let none = none_beyond (suc a) far in
-        absurd (omega (arith, some, is.marked (suc a), none))
+  mark_of (suc a) some = elim (cases_lt 65 (suc a)) [
+    | inl far ↦ let none = none_beyond (suc a) far in absurd (omega (arith, some, is.marked (suc a), none))
     | inr high ↦ (omega arith, high)
   ]
 
-  pub marks_are : (n : ℕ) (mark : Mark) → slice_get w.order.items n ≡ Some mark → IsMarkOf (length ls) mark
-  marks_are n mark e = subst (λ (k : ℕ). IsMarkOf k mark) (sym is.number) (mark_of n mark e)
+  pub marks_are : (lives : List ClientLife) (order : List Mark) → lives ≡ ls → order ≡ w.order.items → AreMarksOf (length lives) order
+  marks_are lives order same_lives same_order =
+      let number : length lives ≡ 65 = ap length same_lives ∙ is.number in
+      subst (λ (k : ℕ). AreMarksOf k order) (sym number)
+      (subst (AreMarksOf 65) (sym same_order) (marks_by 65 w.order.items mark_of))
 
   -- ---- the history is told by them
 
@@ -106,14 +106,11 @@ module _ {S : Type 0} (P : Programs S) (w : Inside S) (is : IsWorld P w) where
       (notes_in_order [] w.order.items (moments_by c ls) (λ a. []) silent_by
       (λ a. record { refused = λ op h. h; are = all_silent a }))
 
-  told : (ms : List Moment) → ms ≡ noted_in w → IsTold (life_of w) ms
-  told ms same = subst (IsTold (life_of w)) (sym same)
-      (record { told = noted_history; last = w.clock; rising = is.rising })
-
-  pub told_ok : {A E : Type 0} (of : A → List Moment) (result : Result A E) → IfOk result (λ v. of v ≡ noted_in w)
-      → IfOk result (λ v. IsTold (life_of w) (of v))
-  told_ok of (Ok v) same = told (of v) same
-  told_ok of (Err e) same = tt
+  pub told : (lives : List ClientLife) (order : List Mark) (ms : List Moment) → lives ≡ ls → order ≡ w.order.items
+      → ms ≡ moments_in_order order (moments_by c lives) → IsTold (life_of w) ms
+  told lives order ms same_lives same_order is_all =
+      let here : ms ≡ noted_in w = is_all ∙ (λ i. moments_in_order (same_order i) (moments_by c (same_lives i))) in
+      subst (IsTold (life_of w)) (sym here) (record { told = noted_history; last = w.clock; rising = is.rising })
 
 -- ---- one mark more
 
@@ -162,15 +159,37 @@ module _ (k : Counts) (ls : List ClientLife) (old new : List ℕ) (a : ℕ) (low
       ∙ ap (λ (f : ℕ → List Moment). was ++ (first_moment (left_by k ls old a) ++ moments_in_order ms f))
       (λ i b. left_later later others b i)
 
+-- the actor's count goes on
+pub mark_step : (k : Counts) (ls : List ClientLife) (old : List ℕ) (a : ℕ) → 1 ≤ a → a ≤ length ls → length old ≡ length ls
+    → (client : ClientLife) → client ≡ get_or ls (a - 1) client → (n m : ℕ) → n ≡ get_or old (a - 1) n → (ms : List Mark)
+    → (was now : List Moment) → now ≡ was ++ first_moment (drop n client.moments)
+    → drop m client.moments ≡ later_moments (drop n client.moments)
+    → now ++ moments_in_order ms (left_by k ls (set old (a - 1) m)) ≡ was ++ moments_in_order (Actor a ∷ ms) (left_by k ls old)
+mark_step k ls old a low high same client at n m own ms was now first later =
+    let lt : a - 1 < length old = omega (arith, low, high, same) in
+    let count : n ≡ get_or old (a - 1) 0 = own ∙ any_default old (a - 1) n 0 lt in
+    let here : client ≡ client_at k ls a = at ∙ any_default ls (a - 1) client (idle_life 0 k) (omega (arith, low, high)) in
+    mark_told k ls old (set old (a - 1) m) a low ms was now
+    (first ∙ (λ i. was ++ first_moment (drop (count i) (here i).moments)))
+    (ap (λ (j : ℕ). drop j (client_at k ls a).moments) (get_or-set_same old (a - 1) m 0 lt)
+    ∙ ap (λ (l : ClientLife). drop m l.moments) (sym here) ∙ later ∙ (λ i. later_moments (drop (count i) (here i).moments)))
+    (λ j differs. get_or-set_other old (a - 1) j m 0 differs)
+
 -- nothing was told yet
-zeros_at : (n m : ℕ) → get_or (replicate n 0) m 0 ≡ 0
+zeros_at : (n m : ℕ) → (let none : ℕ = 0 in get_or (replicate n none) m none ≡ none)
 zeros_at zero m = refl
 zeros_at (suc n) zero = refl
 zeros_at (suc n) (suc m) = zeros_at n m
 
-pub none_told : (k : Counts) (ls : List ClientLife) (n : ℕ) (marks : List Mark)
-    → moments_in_order marks (left_by k ls (replicate n 0)) ≡ moments_in_order marks (moments_by k ls)
-none_told k ls n marks = ap (moments_in_order marks) (λ i a. same a i)
+pub none_told : (k : Counts) (ls : List ClientLife) (zeros : List ℕ) (n : ℕ) → zeros ≡ replicate n 0 → (marks : List Mark)
+    → moments_in_order marks (left_by k ls zeros) ≡ moments_in_order marks (moments_by k ls)
+none_told k ls zeros n is marks = ap (moments_in_order marks) (λ i a. none a i)
   where
-    same : (a : ℕ) → left_by k ls (replicate n 0) a ≡ moments_by k ls a
-    same a = ap (λ (m : ℕ). if eqb a 0 then [] else drop m (client_at k ls a).moments) (zeros_at n (a - 1))
+    none : (a : ℕ) → left_by k ls zeros a ≡ moments_by k ls a
+    none a =
+        ap (λ (zs : List ℕ). left_by k ls zs a) is
+        ∙ ap (λ (m : ℕ). if eqb a 0 then [] else drop m (client_at k ls a).moments) (zeros_at n (a - 1))
+
+pub on_both : {T E A B C : Type 0} (r : Result T E) → OnOk r A → OnOk r B → (A → B → C) → OnOk r C
+on_both (Ok x) a b f = f a b
+on_both (Err e) a b f = tt

@@ -373,7 +373,7 @@ module _ {S : Type 0} (P : Programs S) (old new : Inside S) (is : IsWorld P old)
     owns = λ b. ap (own b) dumped_history ∙ own-append b (life_of old).history (Dumped ∷ []) ∙ append-nil (own b (life_of old).history) ∙
         is.owns b;
     replies = subst (RepliesAre opening_store) (sym dumped_history)
-        (replies-append opening_store (life_of old).history (Dumped ∷ []) is.replies tt);
+        (replies-append opening_store (life_of old).history (Dumped ∷ []) is.replies (tt, tt));
     store = is.store ∙ sym (stored_after-append opening_store (life_of old).history (Dumped ∷ [])) ∙ ap (stored_after opening_store)
         (sym dumped_history);
     rising = subst (λ (ns : List Noted). rises 0 old.clock ns ≡ true) (sym dumped_noted) is.rising;

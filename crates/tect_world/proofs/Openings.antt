@@ -4,6 +4,7 @@ use Rattle.std.proofs.Common.{get_or, replicate, refl}
 use Rattle.std.proofs.Common.{sym, ap, subst, ◌∙◌, inl, inr, ◌⊎◌, arith}
 use Rattle.std.specs.Prelude.{vec_len, count_by, cond}
 use Rattle.std.proofs.lemmas.List.{get_or-replicate, length-replicate, get_or_past}
+use Rattle.std.proofs.lemmas.List.Sums.{sum_by-cons}
 use Rattle.std.proofs.lemmas.Bool.{cases_lt}
 use Rattle.tect_ids.specs.declared.ids.Counts.{Counts}
 use Rattle.tect_ids.proofs.KeyTests.{num_eq_cases}
@@ -31,8 +32,10 @@ none_counted : {X : Type 0} (p : X → Bool) (xs : List X) (d : X) → ((i : ℕ
 none_counted p [] d none = refl
 none_counted p (x ∷ xs) d none =
     let rest = none_counted p xs d (λ i lt. none (suc i) (omega (arith, lt))) in
-    let first = none 0 (omega arith) in
-    ap (λ (t : Bool). (cond t 1 0) + count_by p xs) first ∙ omega (arith, rest)
+    let first : p x ≡ false = none 0 (omega arith) in
+    let here : cond {A = ℕ} (p x) 1 0 ≡ 0 = ap (λ (t : Bool). cond {A = ℕ} t 1 0) first in
+    let all = sum_by-cons (λ y. cond {A = ℕ} (p y) 1 0) x xs in
+    omega (arith, here, all, rest)
 
 module _ {S : Type 0} (P : Programs S) (new : Inside S) (c : Counts) (shards : new.shards ≡ opening_kept c) (idle : AreIdle P c new.clients.items 65) (clock : new.clock ≡ 0)
     (order : new.order.items ≡ []) (len : vec_len new.order ≡ 0) where

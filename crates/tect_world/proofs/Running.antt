@@ -37,7 +37,7 @@ acts_push op e n [] act acts = (act, (n, refl, acts))
 acts_push op e n (x ∷ es) act (own, (rest, is, acts)) = (own, (rest + 1, ap (λ k. k + 1) is, acts_push op e rest es act acts))
 
 acts-append : (op : OpId) (n k : ℕ) (es fs : List Event) → Acts op n es → Acts op k fs → Acts op (n + k) (es ++ fs)
-acts-append op n k [] fs none acts = rw none acts
+acts-append op n k [] fs none acts = let same : k ≡ n + k = omega (arith, none) in subst (λ (m : ℕ). Acts op m fs) same acts
 acts-append op n k (e ∷ es) fs (own, (rest, is, before)) acts =
     (own, (rest + k, (omega (arith, is)), acts-append op rest k es fs before acts))
 

@@ -1,5 +1,5 @@
 -- the world after the code of each call
-use Rattle.std.proofs.Common.{◌≡◌, ◌≢◌, ℕ, ◌+◌, ◌-◌, ◌<◌, ◌≤◌, ◌^◌, ◌⊎◌, inl, inr, Bool, true, false, is_some, if◌then◌else◌, Option, None}
+use Rattle.std.proofs.Common.{◌≡◌, ◌≢◌, ℕ, ◌+◌, ◌-◌, ◌<◌, ◌≤◌, ◌^◌, ◌⊎◌, inl, inr, Bool, true, false, eqb, if◌then◌else◌, Option, None}
 use Rattle.std.proofs.Common.{List, [], ◌∷◌, ◌++◌, length, get_or, set, refl, sym, ap, ◌∙◌, subst, append_assoc, arith, length-append}
 use Rattle.std.specs.Prelude.{IsSome, OnOk, OnErr, MatchResult, Result, Ok, Err, vec_len, vec_capacity, count_by}
 use Rattle.std.proofs.lemmas.List.{append-nil, length-set}

@@ -1,12 +1,11 @@
 //! All that the world did, in the order in which it was done.
 ghost use Rattle.std.specs.Prelude.{◌≡◌, ℕ, ◌-◌, ◌<◌, ◌≤◌, ◌≢◌, ◌++◌, ◌∷◌, List, IfOk, OnOk, Some, map, drop, length, replicate, slice_index_or};
-ghost use Rattle.std.specs.List.{slice_get};
 ghost use Rattle.tect_ids.specs.declared.ids.Counts.{Counts};
 ghost use Rattle.clients.specs.Lives.{ClientLife};
 ghost use Rattle.tect_world.specs.declared.marks.Mark.{Mark as AnyMark};
 ghost use Rattle.tect_world.specs.Noted.{moments_by};
 ghost use Rattle.tect_world.specs.Order.{first_moment, later_moments, moments_in_order};
-ghost use Rattle.tect_world.specs.Telling.{left_by, IsMarkOf};
+ghost use Rattle.tect_world.specs.Telling.{left_by, IsMarkOf, AreMarksOf};
 
 use crate::marks::Mark;
 use clients::Client;
@@ -28,7 +27,7 @@ pub fn moments_by_marks<'a, P: Programs + Drop>(
     clients: &'a [Client<P>],
     order: &[Mark],
 ) -> Result<Vec<&'a Moment>, NoMemory>
-    requires { (n : ℕ) (mark : AnyMark) → slice_get order.now n ≡ Some mark → IsMarkOf (length clients.now) mark }
+    requires { AreMarksOf (length clients.now) order.now }
     ensures { (counts : Counts)
         → IfOk result (λ v. map (λ m. m.now) v.items ≡ moments_in_order order.now (moments_by counts clients.now)) }
 {

@@ -10,5 +10,3 @@ mod world;
 pub use clients::Turned;
 pub use world::World;
 
-#[cfg(test)]
-mod tests;

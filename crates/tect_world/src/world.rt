@@ -241,6 +241,10 @@ impl<P: Programs + Drop> World<P> {
     pub fn history(&self) -> Result<Vec<&Moment>, NoMemory>
         ensures { IfOk result (λ moments. IsTold self.now (map (λ m. m.now) moments.items)) }
     {
-        moments_by_marks(self.alloc, self.clients.as_slice(), self.order.as_slice())
+        let (clients, order) = (self.clients.as_slice(), self.order.as_slice());
+        match moments_by_marks(self.alloc, clients, order) {
+            Ok(moments) => Ok(moments),
+            Err(NoMemory) => Err(NoMemory),
+        }
     }
 }

@@ -5,7 +5,7 @@ use Rattle.tect_world.proofs.Running.{goes_first, goes_on, goes_nearer, goes_to_
 use Rattle.tect_world.proofs.world.World.run.Goals as goal
 
 pub steps-init : goal.steps-init
-steps-init g c = goes_first g.P.Programs.rules c.args.self.now c.args.actor c.known.ensures.run c.requires.running
+steps-init g c = goes_first g.P.Programs.rules c.args.self.now c.args.actor c.requires.running
 
 pub step-requires-clause-running : goal.step-requires-clause-running
 step-requires-clause-running g c = c.steps.invariant.running
@@ -20,7 +20,6 @@ pub steps-preserved : goal.steps-preserved
 steps-preserved g c =
     goes_on g.P.Programs.rules c.args.self.now c.steps.self c.step.new.self c.args.actor c.steps.invariant
     (subst (Stepped g.P.Programs.rules c.steps.self c.step.new.self (last_op (present g.P.Programs.rules c.steps.self) c.args.actor)) c.in-Going.is c.in_ok-step.ensures.ok)
-    c.in_ok-step.ensures.run
 
 pub returns-in-Done-clause-ok : goal.returns-in-Done-clause-ok
 returns-in-Done-clause-ok g c =

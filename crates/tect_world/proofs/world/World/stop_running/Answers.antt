@@ -18,8 +18,8 @@ stop_client-requires-clause-room g c =
     c.index_mut-client.ensures.value
     (λ x. IsSome x.running) (rw (← c.self.view_is) at c.requires.running))
 
-pub invariant_of-self-2 : goal.invariant_of-self-2
-invariant_of-self-2 g c =
+pub invariant_of-self : goal.invariant_of-self
+invariant_of-self g c =
     stop_stays g.P.Programs.rules c.self.inside c.args.actor c.index_mut-client.result.now c.self.invariant c.requires.actor.0 c.requires.actor.1
     c.index_mut-client.ensures.value
     (record {
