@@ -63,13 +63,16 @@ pub record IsNone (op : OpId) (e : Event) : Type 0 where
 pub other_none : (op other : OpId) (h : Happening) → op_eq other op ≡ false → IsNone op (Own other h)
 other_none op other h t = record { looks = rw t refl; others = rw t refl }
 
+pub and_false : (b : Bool) → (b && false) ≡ false
+and_false true = refl
+and_false false = refl
+
 -- what is no transaction is none of any op
 pub quiet_none : (op other : OpId) (h : Happening) → ((test : AnyReq → Bool) → is_act_that test h ≡ false) → IsNone op (Own other h)
-quiet_none op other h quiet = record { looks = rw (quiet is_look) (none (op_eq other op)); others = rw (quiet is_no_look) (none (op_eq other op)) }
-  where
-    none : (b : Bool) → (b && false) ≡ false
-    none true = refl
-    none false = refl
+quiet_none op other h quiet = record {
+  looks = rw (quiet is_look) (and_false (op_eq other op));
+  others = rw (quiet is_no_look) (and_false (op_eq other op));
+}
 
 -- an op is itself
 pub same_op : (a b : OpId) → a ≡ b → op_eq a b ≡ true

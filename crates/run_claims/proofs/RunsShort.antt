@@ -20,7 +20,7 @@ use Rattle.claim_words.specs.Headline.{or_later, command_of}
 use Rattle.world_runs.specs.Report.{is_act_of, transactions}
 use Rattle.run_claims.specs.Bounds.{is_look, is_look_of, is_other_of, looks_of, others_of, most_looks, IsShort}
 use Rattle.run_claims.proofs.PhasesLeft.{looks_left, others_left, one_if, Leaves, first_leaves}
-use Rattle.run_claims.proofs.Ops.{IsPast, Runs, IsAhead, stand_looks, stand_others, IsNone}
+use Rattle.run_claims.proofs.Ops.{and_false, IsPast, Runs, IsAhead, stand_looks, stand_others, IsNone}
 use Rattle.run_claims.proofs.Steps.{Rests, Declines, past_step, running_step, ahead_step}
 
 -- ---- an op that is past
@@ -148,8 +148,7 @@ pub event_splits : (e : Event) (op : OpId) → one_if (is_act_of op e) ≡ one_i
 event_splits (Own other h) op = act_splits h
   where
     none : (b : Bool) → one_if (b && false) ≡ one_if (b && false) + one_if (b && false)
-    none true = refl
-    none false = refl
+    none b = rw (and_false b) refl
 
     act_splits : (g : Happening) → one_if (is_act_of op (Own other g)) ≡ one_if (is_look_of op (Own other g)) + one_if (is_other_of op (Own other g))
     act_splits (Acted q x how) = one_of_both (op_eq other op) (is_look q)

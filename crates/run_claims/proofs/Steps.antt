@@ -12,11 +12,12 @@ use Rattle.store_rules.specs.Places.{request_place}
 use Rattle.program_forms.specs.declared.heard.Heard.{Heard}
 use Rattle.program_forms.specs.declared.heard.Heard.TheVariants as hearing
 use Rattle.program_forms.specs.declared.standing.Standing.{Standing}
-use Rattle.program_forms.specs.declared.standing.Standing.TheVariants.{Goes, NoRoom}
+use Rattle.program_forms.specs.declared.standing.Standing.TheVariants.{Goes, Left, NoRoom}
+use Rattle.program_forms.specs.Memories.{Memory}
 use Rattle.program_rules.specs.declared.program.Phase.{Phase}
 use Rattle.program_rules.specs.declared.program.Program.{Program}
 use Rattle.program_rules.specs.Programs.{object_number, phase_ask, phase_hear, started}
-use Rattle.program_rules.specs.Served.{programs}
+use Rattle.program_rules.specs.Served.{program_hears, programs}
 use Rattle.world_runs.specs.declared.event.Event.{Event}
 use Rattle.world_runs.specs.declared.event.Event.TheVariants.{Own, Dumped}
 use Rattle.world_runs.specs.declared.event.Happening.{Happening}
@@ -74,20 +75,13 @@ pub record GoesOn (m : WorldState Program) (e : Event) (op : OpId) (at : Standin
 abbrev pub Steps : WorldState Program → Event → OpId → Standing Program → Type 0
 Steps m e op at = GoesOn m e op at ⊎ Rests m e op
 
--- what is left after a reply is no more than after one that was heard
-left_less : (counts : Counts) (s : Actor Program) (op : OpId) (p : Program) (q : AnyReq) (x : AnyReply) (h : Heard) (one looks : ℕ)
-    → one + looks_left p.command (phase_hear (request_place counts q) op (object_number op.actor s.memory.serial) p.command p.phase x) ≤ looks
-    → one + stand_looks (stands_after counts s.memory op p q x h) ≤ looks
-left_less counts s op p q x hearing.Whole one looks l = l
-left_less counts s op p q x hearing.Unkept one looks l = l
-left_less counts s op p q x hearing.Left one looks l = omega (arith, l)
-
-others_less : (counts : Counts) (s : Actor Program) (op : OpId) (p : Program) (q : AnyReq) (x : AnyReply) (h : Heard) (one others : ℕ)
-    → one + others_left (phase_hear (request_place counts q) op (object_number op.actor s.memory.serial) p.command p.phase x) ≤ others
-    → one + stand_others (stands_after counts s.memory op p q x h) ≤ others
-others_less counts s op p q x hearing.Whole one others l = l
-others_less counts s op p q x hearing.Unkept one others l = l
-others_less counts s op p q x hearing.Left one others l = omega (arith, l)
+-- what is left after a reply, however it was heard, is no more than after one that was heard whole
+heard_less : (left : Standing Program → ℕ) → left Left ≡ 0 → (counts : Counts) (m : Memory) (op : OpId) (p : Program) (q : AnyReq)
+    (x : AnyReply) (h : Heard) (one all : ℕ)
+    → one + left (Goes (program_hears counts m op p q x)) ≤ all → one + left (stands_after counts m op p q x h) ≤ all
+heard_less left none counts m op p q x hearing.Whole one all l = l
+heard_less left none counts m op p q x hearing.Unkept one all l = l
+heard_less left none counts m op p q x hearing.Left one all l = omega (arith, none, l)
 
 -- the op's own transaction
 module _ (m : WorldState Program) (op : OpId) (q : AnyReq) (x : AnyReply) (h : Heard) (p : Program) (r : Runs m op (Goes p))
@@ -119,8 +113,8 @@ module _ (m : WorldState Program) (op : OpId) (q : AnyReq) (x : AnyReply) (h : H
       is = own_actor (λ (a : Actor Program). a.running ≡ Some record { op = op; at = stands }) m op (Acted q x h)
           (rw (went_on_as m.counts s s.running op p q x h r.is) refl);
     };
-    looks = rw own (left_less m.counts s op p q x h (one_if (is_look q)) _ falls.looks);
-    others = rw own (others_less m.counts s op p q x h (one_if (is_no_look q)) _ falls.others);
+    looks = rw own (heard_less stand_looks refl m.counts s.memory op p q x h (one_if (is_look q)) _ falls.looks);
+    others = rw own (heard_less stand_others refl m.counts s.memory op p q x h (one_if (is_no_look q)) _ falls.others);
   }
 
 -- whatever it stands at

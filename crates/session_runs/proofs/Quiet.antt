@@ -16,16 +16,13 @@ use Rattle.world_runs.specs.Report.{is_act_of, transactions}
 use Rattle.tree_runs.proofs.Tracks.{Tracks}
 use Rattle.tree_runs.proofs.Runs.{event_tracked}
 use Rattle.tree_runs.proofs.Histories.{acts_last}
+use Rattle.run_claims.proofs.Ops.{and_false}
 use Rattle.script_runs.proofs.Histories.{numbers_grow}
 use Rattle.world_runs.proofs.OwnLines.{transactions-append}
 
 -- an op of a number that its actor did not come to has no transaction
 abbrev pub Quiet : WorldState Program → List Event → Type 0
 Quiet m before = (op : OpId) → (m.actors op.actor).number < op.number → transactions before op ≡ 0
-
-and_false : (b : Bool) → (b && false) ≡ false
-and_false true = refl
-and_false false = refl
 
 not_act : (m : WorldState Program) (t : Tree) (e : Event) → Tracks m t → May programs m e → (op : OpId)
     → (m.actors op.actor).number < op.number → is_act_of op e ≡ false
