@@ -18,31 +18,27 @@ use Rattle.tect_ids.specs.declared.script.Line.TheVariants as lines
 use Rattle.tect_ids.specs.declared.script.Plan.{Plan}
 use Rattle.tect_ids.specs.Places.{HasPlaces}
 use Rattle.tect_ids.proofs.KeyTests.{num_eq_cases}
-use Rattle.script_words.specs.declared.limits.Limit.TheVariants as limits
-use Rattle.script_words.specs.declared.limits.Fit.{Fit}
-use Rattle.script_words.specs.declared.limits.Fit.TheVariants.{Fits, Over, Unfit}
-use Rattle.script_words.specs.WordForm.{names_fit}
 use Rattle.script_forms.specs.declared.clients.ClientState.{ClientState as ReadState}
 use Rattle.script_forms.specs.declared.clients.ClientState.TheVariants as states
 use Rattle.script_forms.specs.LineText.{command_words, act_words, line_text}
-use Rattle.script_forms.specs.LineForms.{IsCommand, IsAct, AreCounts, path_limit, first_limit, command_limit, act_limit}
+use Rattle.script_forms.specs.LineForms.{IsCommand, IsAct, AreCounts}
 use Rattle.script_forms.specs.Clients.{Seen, same_name, state_of, goes_on, takes_word, state_after, client_number, is_one_too_many}
 use Rattle.script_forms.specs.Reading.{out_of_state}
 use Rattle.script_forms.specs.Spelling.{AreLines, seen_of, is_told, plan_lines, Spells}
-use Rattle.world_runs.specs.Served.{IsServed}
+use Rattle.program_rules.specs.Served.{is_served, programs}
 use Rattle.world_runs.specs.ClientStates.{ClientState, Idle, Busy, Gone, TakesAct, state_left_at, ClientStates, all_idle, with_state}
 use Rattle.world_runs.specs.ClientStates.{FitStatesFrom}
-use Rattle.world_runs.specs.Playable.{IsShallow, IsBounded, IsWithin, IsPlayable}
+use Rattle.world_runs.specs.Playable.{IsBounded, IsWithin, IsPlayable}
 
 -- ---- commands
 
-serves : (counts : Counts) (c : Command) → IsCommand counts c → IsServed c
-serves counts (commands.Look p) is = tt
-serves counts (commands.List p) is = tt
-serves counts (commands.Create p) is = tt
-serves counts (commands.Mkdir p) is = tt
-serves counts (commands.Delete p) is = tt
-serves counts (commands.Rename p to) is = tt
+serves : (counts : Counts) (c : Command) → IsCommand counts c → is_served c ≡ true
+serves counts (commands.Look p) is = refl
+serves counts (commands.List p) is = refl
+serves counts (commands.Create p) is = refl
+serves counts (commands.Mkdir p) is = refl
+serves counts (commands.Delete p) is = refl
+serves counts (commands.Rename p to) is = refl
 serves counts (commands.Move p to) is = absurd (grind (arith, is.0))
 serves counts (commands.Rmdir p) is = absurd (grind (arith, is.0))
 serves counts (commands.Drop p) is = absurd (grind (arith, is.0))
@@ -56,39 +52,12 @@ serves counts (commands.Repair disk index) is = absurd (grind (arith, is.0))
 serves counts commands.SweepAll is = absurd is
 serves counts (commands.Lose disk) is = absurd is
 
-first_name : (deep long : Bool) (others : Fit) → (if deep then Over limits.Depth else if long then Over limits.Name else others) ≡ Fits
-    → (deep ≡ false) × (others ≡ Fits)
-first_name true long others is = absurd (grind (arith, is))
-first_name false true others is = absurd (grind (arith, is))
-first_name false false others is = (refl, is)
-
-few_names : (before : ℕ) (p : List (List ℕ)) → before ≤ 256 → names_fit before p ≡ Fits → before + length p ≤ 256
-few_names before [] le fits = omega (arith, le)
-few_names before (n ∷ p) le fits =
-    let first = first_name (nat_le 256 before) (nat_lt 255 (length n)) (names_fit (before + 1) p) fits in
-    let lt : before < 256 = grind (arith, first.0) in
-    omega (arith, few_names (before + 1) p (omega (arith, lt)) first.1)
-
-front_fits : (a b : Fit) → first_limit a b ≡ Fits → a ≡ Fits
-front_fits Fits b is = refl
-front_fits (Over l) b is = absurd (grind (arith, is))
-front_fits Unfit b is = absurd (grind (arith, is))
-
-shallow : (c : Command) → command_limit c ≡ Fits → IsServed c → IsShallow c
-shallow (commands.Look p) fits is = omega (arith, few_names 0 p (omega arith) fits)
-shallow (commands.List p) fits is = omega (arith, few_names 0 p (omega arith) fits)
-shallow (commands.Create p) fits is = omega (arith, few_names 0 p (omega arith) fits)
-shallow (commands.Mkdir p) fits is = omega (arith, few_names 0 p (omega arith) fits)
-shallow (commands.Delete p) fits is = omega (arith, few_names 0 p (omega arith) fits)
-shallow (commands.Rename p to) fits is = omega (arith, few_names 0 p (omega arith) (front_fits (path_limit p) (path_limit to) fits))
-shallow c fits is = absurd is
-
-bounded : (counts : Counts) (act : Act) → IsAct counts act → act_limit act ≡ Fits → IsBounded act
-bounded counts (acts.Do c) is fits = shallow c fits (serves counts c is)
-bounded counts (acts.Begin c) is fits = shallow c fits (serves counts c is)
-bounded counts (acts.Step n) is fits = is.0
-bounded counts acts.Run is fits = tt
-bounded counts acts.Stop is fits = tt
+bounded : (counts : Counts) (act : Act) → IsAct counts act → IsBounded act
+bounded counts (acts.Do c) is = tt
+bounded counts (acts.Begin c) is = tt
+bounded counts (acts.Step n) is = is.0
+bounded counts acts.Run is = tt
+bounded counts acts.Stop is = tt
 
 -- ---- the states of clients, by their numbers
 
@@ -238,24 +207,24 @@ goes_now states.Busy w is takes = refl
 goes_now states.Gone w is takes = absurd (grind (arith, takes))
 
 takes : (counts : Counts) (seen : Seen) (client : List ℕ) (act : Act) → IsAct counts act → out_of_state seen client (act_words act) ≡ false
-    → TakesAct (turn_of (state_of seen client)) act
+    → TakesAct programs (turn_of (state_of seen client)) act
 takes counts seen client (acts.Do c) is within =
     let p = plain c in
     let idle : turn_of (state_of seen client) ≡ Idle = begins_now (state_of seen client) p.0 p.3
     (sym (ap (out_of_state seen client) p.2) ∙ within) in
-    subst (λ (t : ClientState). TakesAct t (acts.Do c)) (sym idle) (serves counts c is)
+    subst (λ (t : ClientState). TakesAct programs t (acts.Do c)) (sym idle) (serves counts c is)
 takes counts seen client (acts.Begin c) is within =
     let idle : turn_of (state_of seen client) ≡ Idle = begins_now (state_of seen client) _ refl within in
-    subst (λ (t : ClientState). TakesAct t (acts.Begin c)) (sym idle) (serves counts c is)
+    subst (λ (t : ClientState). TakesAct programs t (acts.Begin c)) (sym idle) (serves counts c is)
 takes counts seen client (acts.Step n) is within =
     let busy : turn_of (state_of seen client) ≡ Busy = goes_now (state_of seen client) _ refl within in
-    subst (λ (t : ClientState). TakesAct t (acts.Step n)) (sym busy) tt
+    subst (λ (t : ClientState). TakesAct programs t (acts.Step n)) (sym busy) tt
 takes counts seen client acts.Run is within =
     let busy : turn_of (state_of seen client) ≡ Busy = goes_now (state_of seen client) _ refl within in
-    subst (λ (t : ClientState). TakesAct t acts.Run) (sym busy) tt
+    subst (λ (t : ClientState). TakesAct programs t acts.Run) (sym busy) tt
 takes counts seen client acts.Stop is within =
     let busy : turn_of (state_of seen client) ≡ Busy = goes_now (state_of seen client) _ refl within in
-    subst (λ (t : ClientState). TakesAct t acts.Stop) (sym busy) tt
+    subst (λ (t : ClientState). TakesAct programs t acts.Stop) (sym busy) tt
 
 same_turn : (act : Act) → turn_of (state_after act) ≡ state_left_at act
 same_turn (acts.Do c) = refl
@@ -267,7 +236,7 @@ same_turn acts.Stop = refl
 -- ---- the lines
 
 in_turn_from : (counts : Counts) (turns : ClientStates) (seen : Seen) (ls : List Line) → Agree turns 0 seen → length seen ≤ 64
-    → AreLines counts seen ls → FitStatesFrom turns ls
+    → AreLines counts seen ls → FitStatesFrom programs turns ls
 in_turn_from counts turns seen [] agree few are = tt
 in_turn_from counts turns seen (lines.Client client actor act ∷ ls) agree few are =
     let o = (are.0).in_order in
@@ -280,7 +249,7 @@ in_turn_from counts turns seen (lines.Client client actor act ∷ ls) agree few 
     (agree_set same_name client turns 0 seen (state_after act) agree)) in (
       omega (arith, o.2),
       omega (arith, o.2, more.0),
-      subst (λ (t : ClientState). TakesAct t act) (sym turn) (takes counts seen client act ((are.0).form).1 o.0),
+      subst (λ (t : ClientState). TakesAct programs t act) (sym turn) (takes counts seen client act ((are.0).form).1 o.0),
       in_turn_from counts (with_state turns actor (state_left_at act)) (insert_entry same_name seen client (state_after act)) ls next more.1
           are.1,
     )
@@ -305,8 +274,7 @@ within_from counts seen k (lines.Client client actor act ∷ ls) are le =
     let after : Seen = insert_entry same_name seen client (state_after act) in (
       (
         omega (arith, (are.0).in_order.2, (grows same_name client seen (state_after act)).0, seen_grows after ls, le),
-        bounded counts act
-            ((are.0).form).1 (are.0).within,
+        bounded counts act ((are.0).form).1,
       ),
       within_from counts after k ls are.1 le,
     )
@@ -323,7 +291,7 @@ has_places counts are = record { names = are.names; files = are.files; blocks = 
 filter_le : {X : Type 0} (p : X → Bool) (xs : List X) → length (filter p xs) ≤ length xs
 filter_le p xs = omega (arith, length-filter_both p (λ x. not (p x)) (λ x. refl) xs)
 
-pub spelled_playable : (bytes : List ℕ) (plan : Plan) → Spells bytes plan → IsPlayable plan
+pub spelled_playable : (bytes : List ℕ) (plan : Plan) → Spells bytes plan → IsPlayable programs plan
 spelled_playable bytes plan s =
     let is = s.plan_is in
     let told : length (filter is_told s.texts) ≡ length (plan_lines plan) = ap length s.told ∙ length-map (plan_lines plan) line_text in

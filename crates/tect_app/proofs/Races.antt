@@ -6,12 +6,13 @@ use Rattle.tect_ids.specs.declared.script.ReportLine.{ReportLine}
 use Rattle.tect_edge.specs.Prefixes.{AppendsProperPrefix}
 use Rattle.place_kit.specs.declared.any.AnyKept.{AnyKept}
 use Rattle.passes.specs.declared.pass.Pass.{Pass}
+use Rattle.program_rules.specs.Served.{programs}
 use Rattle.race_ends.specs.Raced.{IsRaced}
 use Rattle.run_claims.proofs.Claims.{every_run_is_claimed}
 use Rattle.tect_app.specs.RaceEnds.{race_text, IsRaceShown, IsRaceCut}
 
 pub race_shown : (plan : Plan) (places : List AnyKept) (passes : List Pass) (report lines : List ReportLine) (old new : Option (List ℕ))
-    → IsRaced plan places passes report → lines ≡ report
+    → IsRaced programs plan places passes report → lines ≡ report
     → Appends old new (race_text lines) → IsRaceShown plan old new
 race_shown plan places passes report lines old new raced same written = record {
   places = places;
@@ -23,7 +24,7 @@ race_shown plan places passes report lines old new raced same written = record {
 }
 
 pub race_cut : (plan : Plan) (places : List AnyKept) (passes : List Pass) (report lines : List ReportLine) (old new : Option (List ℕ))
-    → IsRaced plan places passes report → lines ≡ report
+    → IsRaced programs plan places passes report → lines ≡ report
     → AppendsProperPrefix old new (race_text lines) → IsRaceCut plan old new
 race_cut plan places passes report lines old new raced same written = record {
   places = places;

@@ -4,20 +4,26 @@ use Rattle.std.specs.List.{AllByRecursion}
 use Rattle.tect_ids.specs.declared.answer.Answer.TheVariants as answers
 use Rattle.tect_ids.specs.declared.dump.DumpLine.{DumpLine}
 use Rattle.tect_ids.specs.declared.ids.Counts.{Counts}
+use Rattle.tect_ids.specs.declared.ids.OpId.{OpId}
 use Rattle.tect_ids.specs.declared.script.Act.TheVariants as acts
 use Rattle.tect_ids.specs.declared.script.Line.{Line}
 use Rattle.tect_ids.specs.declared.script.Line.TheVariants as lines
 use Rattle.tect_ids.specs.declared.script.Plan.{Plan}
 use Rattle.tect_ids.specs.declared.script.ReportLine.TheVariants as report_lines
 use Rattle.store_rules.specs.Dumps.{store_dump}
+use Rattle.store_rules.specs.Store.{opening_store}
+use Rattle.program_rules.specs.Served.{programs}
 use Rattle.program_forms.specs.Lacks.{IsLack}
 use Rattle.world_runs.specs.declared.event.Event.{Event}
-use Rattle.world_runs.specs.declared.event.Event.TheVariants.{Began, NotBegun, Acted, Ended, Stopped, Failed, Dumped}
+use Rattle.world_runs.specs.declared.event.Event.TheVariants.{Own, Dumped}
+use Rattle.world_runs.specs.declared.event.Happening.{Happening}
+use Rattle.world_runs.specs.declared.event.Happening.TheVariants.{Began, NotBegun, Acted, Ended, Stopped, Failed}
+use Rattle.world_runs.specs.OwnRuns.{stored_after}
 use Rattle.world_runs.specs.Follows.{Follows}
 use Rattle.world_runs.specs.Limits.{KeepsLimits}
-use Rattle.world_runs.specs.Moments.{WorldState, after, opening, moment, RunFrom, IsWorldRun}
+use Rattle.world_runs.specs.Moments.{after, opening, moment, RunFrom, IsWorldRun}
 use Rattle.world_runs.specs.Playable.{IsWithin, IsPlayable}
-use Rattle.world_runs.specs.Report.{lines_at, report_after}
+use Rattle.world_runs.specs.Report.{happening_lines, lines_at, report_after}
 use Rattle.world_runs.specs.Smooth.{EndsAtOnce, StepsOn, AllStepOn}
 use Rattle.run_claims.proofs.Claims.{every_run_is_claimed}
 use Rattle.script_runs.proofs.Fixed.{script_fixes_run}
@@ -38,33 +44,39 @@ dump_not_odd : (ls : List DumpLine) → AllByRecursion IsNotOdd (map report_line
 dump_not_odd [] = tt
 dump_not_odd (l ∷ ls) = (λ name number steps place is. absurd cc, dump_not_odd ls)
 
-event_not_odd : (counts : Counts) (clients : List (List ℕ)) (before : List Event) (e : Event) → IsWorldRun counts before
-    → RunFrom (moment counts before) (e ∷ [])
-    → AllByRecursion IsNotOdd (lines_at counts clients before e)
-event_not_odd counts clients before (Ended op a) run may = (
+happening_not_odd : (counts : Counts) (clients : List (List ℕ)) (before : List Event) (op : OpId) (h : Happening)
+    → IsWorldRun programs counts before → RunFrom programs (moment programs counts before) (Own op h ∷ [])
+    → AllByRecursion IsNotOdd (happening_lines clients before op h)
+happening_not_odd counts clients before op (Ended a) run may = (
   λ name number steps place is. no_run_answers_odd counts before run op place
-      (may.0 ∙ (let same : a ≡ answers.Odd place = cc in ap Some same)),
+      ((may.0).0 ∙ (let same : a ≡ answers.Odd place = cc in ap Some same)),
   tt,
 )
-event_not_odd counts clients before (Failed op a) run may =
-    (λ name number steps place is. (let same : a ≡ answers.Odd place = cc in subst IsLack same (may.0).0), tt)
-event_not_odd counts clients before (Stopped op) run may = (λ name number steps place is. absurd cc, tt)
-event_not_odd counts clients before Dumped run may = dump_not_odd (store_dump (moment counts before).store)
-event_not_odd counts clients before (Began op c) run may = tt
-event_not_odd counts clients before (NotBegun op c) run may = tt
-event_not_odd counts clients before (Acted op q x) run may = tt
+happening_not_odd counts clients before op (Failed a) run may =
+    (λ name number steps place is. (let same : a ≡ answers.Odd place = cc in subst IsLack same ((may.0).0).0), tt)
+happening_not_odd counts clients before op Stopped run may = (λ name number steps place is. absurd cc, tt)
+happening_not_odd counts clients before op (Began c) run may = tt
+happening_not_odd counts clients before op (NotBegun c) run may = tt
+happening_not_odd counts clients before op (Acted q x h) run may = tt
 
-none_odd_after : (counts : Counts) (clients : List (List ℕ)) (before es : List Event) → IsWorldRun counts before
-    → RunFrom (moment counts before) es
-    → AllByRecursion IsNotOdd (report_after counts clients before es)
+event_not_odd : (counts : Counts) (clients : List (List ℕ)) (before : List Event) (e : Event) → IsWorldRun programs counts before
+    → RunFrom programs (moment programs counts before) (e ∷ [])
+    → AllByRecursion IsNotOdd (lines_at clients before e)
+event_not_odd counts clients before (Own op h) run may = happening_not_odd counts clients before op h run may
+event_not_odd counts clients before Dumped run may = dump_not_odd (store_dump (stored_after opening_store before))
+
+none_odd_after : (counts : Counts) (clients : List (List ℕ)) (before es : List Event) → IsWorldRun programs counts before
+    → RunFrom programs (moment programs counts before) es
+    → AllByRecursion IsNotOdd (report_after clients before es)
 none_odd_after counts clients before [] run rest = tt
 none_odd_after counts clients before (e ∷ es) run rest =
-    let first : RunFrom (moment counts before) (e ∷ []) = (rest.0, tt) in
-    let next : moment counts (before ++ e ∷ []) ≡ after (moment counts before) e = after_all-append (opening counts) before (e ∷ []) in
-    all-append IsNotOdd (lines_at counts clients before e) (report_after counts clients (before ++ e ∷ []) es)
+    let first : RunFrom programs (moment programs counts before) (e ∷ []) = (rest.0, tt) in
+    let next : moment programs counts (before ++ e ∷ []) ≡ after programs (moment programs counts before) e =
+    after_all-append programs (opening counts) before (e ∷ []) in
+    all-append IsNotOdd (lines_at clients before e) (report_after clients (before ++ e ∷ []) es)
     (event_not_odd counts clients before e run first)
-    (none_odd_after counts clients (before ++ e ∷ []) es (run-append (opening counts) before (e ∷ []) run first)
-    (subst (λ (m : WorldState). RunFrom m es) (sym next) rest.1))
+    (none_odd_after counts clients (before ++ e ∷ []) es (run-append programs (opening counts) before (e ∷ []) run first)
+    (subst (λ m. RunFrom programs m es) (sym next) rest.1))
 
 -- ---- what is claimed of a history
 
@@ -83,8 +95,8 @@ all_step_on : (clients : ℕ) (ls : List Line) → AllByRecursion (IsWithin clie
 all_step_on clients [] all = tt
 all_step_on clients (l ∷ ls) all = (step_on clients l all.0, all_step_on clients ls all.1)
 
-history_of : (plan : Plan) (history : List Event) → IsPlayable plan → IsWorldRun plan.counts history → KeepsLimits plan.counts history
-    → Follows plan.lines history → EndsAtOnce (opening plan.counts) history → IsHistoryOf plan history
+history_of : (plan : Plan) (history : List Event) → IsPlayable programs plan → IsWorldRun programs plan.counts history → KeepsLimits programs plan.counts history
+    → Follows plan.lines history → EndsAtOnce programs (opening plan.counts) history → IsHistoryOf plan history
 history_of plan history is run limits follows at_once = record {
   claim = every_run_is_claimed plan.counts history run limits;
   follows = follows;
@@ -93,20 +105,20 @@ history_of plan history is run limits follows at_once = record {
   alone = λ client cs same played none. session_reported plan.counts plan.clients client cs history played run none
       (subst (λ ls. Follows ls history) same follows);
   fixed = λ none other smooth follows'.
-      script_fixes_run plan.counts plan.lines other history (all_step_on (length plan.clients) plan.lines is.within) smooth
-      (record { run = run; none_fails = none; at_once = at_once }) follows' follows;
+      script_fixes_run programs plan.counts plan.lines other history (all_step_on (length plan.clients) plan.lines is.within) smooth
+      (record { run = run; limits = limits; memory = none; at_once = at_once }) follows' follows;
 }
 
 -- ---- what was written
 
-pub replay_shown : (plan : Plan) (old new : Option (List ℕ)) → IsPlayable plan → IsReplayed plan old new → IsReplayShown plan old new
+pub replay_shown : (plan : Plan) (old new : Option (List ℕ)) → IsPlayable programs plan → IsReplayed plan old new → IsReplayShown plan old new
 replay_shown plan old new is r = record {
   history = r.history;
   of_plan = history_of plan r.history is r.of_plan.run r.of_plan.limits r.of_plan.follows r.of_plan.at_once;
   written = r.written;
 }
 
-pub replay_cut : (plan : Plan) (old new : Option (List ℕ)) → IsPlayable plan → IsCutReplay plan old new → IsReplayCut plan old new
+pub replay_cut : (plan : Plan) (old new : Option (List ℕ)) → IsPlayable programs plan → IsCutReplay plan old new → IsReplayCut plan old new
 replay_cut plan old new is r = record {
   history = r.history;
   of_plan = history_of plan r.history is r.of_plan.run r.of_plan.limits r.of_plan.follows r.of_plan.at_once;

@@ -75,7 +75,7 @@ IsCutRefusal left old new = (fault : ScriptFault) × IfSome left (IsNoScript fau
 
 -- the input spells a plan, and the line names a fault of its race
 abbrev pub IsScriptSplit : List ℕ → List ℕ → Type 0
-IsScriptSplit line input = (plan : Plan) × Spells input plan × IsSplitLine plan.counts line
+IsScriptSplit line input = (plan : Plan) × Spells input plan × IsSplitLine plan line
 
 -- the line of such a fault was cut off, which a replay does not write
 abbrev pub IsCutSplit : Mode → Option (List ℕ) → Option (List ℕ) → Option (List ℕ) → Type 0

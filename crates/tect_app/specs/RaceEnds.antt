@@ -2,7 +2,6 @@
 use Rattle.std.specs.Prelude.{ℕ, ◌≡◌, ◌++◌, List, Option, codes}
 use Rattle.std.specs.Fmt.{decimal}
 use Rattle.std.specs.Io.KnownBytes.{Appends}
-use Rattle.tect_ids.specs.declared.ids.Counts.{Counts}
 use Rattle.tect_ids.specs.declared.ids.Place.{Place}
 use Rattle.tect_ids.specs.declared.script.Plan.{Plan}
 use Rattle.tect_ids.specs.declared.script.ReportLine.{ReportLine}
@@ -13,6 +12,7 @@ use Rattle.tect_replay.specs.Output.{lines_text, end_text}
 use Rattle.race_ends.specs.declared.fault.RaceFault.{RaceFault}
 use Rattle.race_ends.specs.declared.fault.RaceFault.TheVariants as faults
 use Rattle.race_ends.specs.Faults.{IsRaceFault}
+use Rattle.program_rules.specs.Served.{programs}
 use Rattle.race_ends.specs.Raced.{IsRaced}
 use Rattle.run_claims.specs.Claims.{IsHistory}
 
@@ -26,7 +26,7 @@ pub record IsRaceShown (plan : Plan) (old new : Option (List ℕ)) : Type 0 wher
   pub places : List AnyKept
   pub passes : List Pass
   pub report : List ReportLine
-  pub raced : IsRaced plan places passes report
+  pub raced : IsRaced programs plan places passes report
   pub claim : IsHistory plan.counts raced.history
   pub written : Appends old new (race_text report)
 
@@ -35,7 +35,7 @@ pub record IsRaceCut (plan : Plan) (old new : Option (List ℕ)) : Type 0 where
   pub places : List AnyKept
   pub passes : List Pass
   pub report : List ReportLine
-  pub raced : IsRaced plan places passes report
+  pub raced : IsRaced programs plan places passes report
   pub claim : IsHistory plan.counts raced.history
   pub written : AppendsProperPrefix old new (race_text report)
 
@@ -52,8 +52,8 @@ IsNamedBy faults.NoMemory line = ⊥
 IsNamedBy (faults.Split actor step in_pass in_place) line = line ≡ split_text actor step
 IsNamedBy (faults.Astray want found) line = line ≡ astray_text want.place
 
--- the line names a fault that a race over so many places may come to
-pub record IsSplitLine (counts : Counts) (line : List ℕ) : Type 0 where
+-- the line names a fault that a race of the plan may come to
+pub record IsSplitLine (plan : Plan) (line : List ℕ) : Type 0 where
   pub fault : RaceFault
-  pub cause : IsRaceFault counts fault
+  pub cause : IsRaceFault programs plan fault
   pub named : IsNamedBy fault line

@@ -10,9 +10,10 @@ use Rattle.tect_ids.specs.declared.script.ReportLine.{ReportLine}
 use Rattle.tect_ids.specs.declared.script.ReportLine.TheVariants as report_lines
 use Rattle.tect_edge.specs.Prefixes.{AppendsProperPrefix}
 use Rattle.tree_model.specs.Tree.{opening_tree}
+use Rattle.program_rules.specs.Served.{programs}
 use Rattle.world_runs.specs.declared.event.Event.{Event}
 use Rattle.world_runs.specs.Moments.{opening}
-use Rattle.world_runs.specs.Follows.{Follows, NoneFails}
+use Rattle.world_runs.specs.Follows.{Follows, AllFindMemory}
 use Rattle.session_runs.specs.Session.{IsPlayed, session_lines, session_script}
 use Rattle.run_claims.specs.Claims.{IsHistory}
 use Rattle.world_runs.specs.Smooth.{EndsAtOnce, IsSmoothRun}
@@ -29,10 +30,10 @@ IsToldByTree plan history =
     (client : List ℕ) (cs : List Command) → plan.lines ≡ session_script client cs → AllByRecursion IsPlayed cs → NoneFails history
     → plan_report plan history ≡ session_lines plan.clients opening_tree 1 0 cs
 
--- Of the runs that follow the script, in which no command fails or is refused, and each ends as soon as it has its answer, it
--- is the only one.
+-- Where no memory was wanting, it is the only one of the runs within the limits that follow the script, in which no memory is wanting
+-- and each command ends as soon as it has its answer.
 abbrev pub IsOnlyRun : Plan → List Event → Type 0
-IsOnlyRun plan history = NoneFails history → (other : List Event) → IsSmoothRun plan.counts other → Follows plan.lines other
+IsOnlyRun plan history = AllFindMemory history → (other : List Event) → IsSmoothRun programs plan.counts other → Follows plan.lines other
     → other ≡ history
 
 -- The history is one that the world has under the script: a run of the world within the limits of its actors' histories, of which
@@ -41,7 +42,7 @@ IsOnlyRun plan history = NoneFails history → (other : List Event) → IsSmooth
 pub record IsHistoryOf (plan : Plan) (history : List Event) : Type 0 where
   pub claim : IsHistory plan.counts history
   pub follows : Follows plan.lines history
-  pub at_once : EndsAtOnce (opening plan.counts) history
+  pub at_once : EndsAtOnce programs (opening plan.counts) history
   pub none_odd : AllByRecursion IsNotOdd (plan_report plan history)
   pub alone : IsToldByTree plan history
   pub fixed : IsOnlyRun plan history

@@ -2,6 +2,7 @@ ghost use Rattle.std.specs.Prelude.{◌≡◌, ◌≤◌, length, IfOk, IfErr, I
 ghost use Rattle.std.specs.Io.KnownBytes.{IsAtEnd};
 ghost use Rattle.script_forms.specs.Spelling.{Spells};
 ghost use Rattle.tect_edge.specs.Counts.{Rose};
+ghost use Rattle.program_rules.specs.Served.{programs};
 ghost use Rattle.world_runs.specs.Playable.{IsPlayable};
 ghost use Rattle.tect_app.specs.Headline.{IsReadWithin};
 ghost use Rattle.tect_app.specs.Refusals.{IsInputFault};
@@ -26,7 +27,7 @@ pub enum InputFault {
 /// Reads the whole input, which spells the plan.
 pub fn read_plan<S: Source>(alloc: Global, source: &mut S) -> Result<Plan, InputFault>
     ensures spelled { IfOk result (λ plan. IfSome (S.left source.old) (λ input. Spells input plan)) }
-    ensures playable { IfOk result IsPlayable }
+    ensures playable { IfOk result (IsPlayable programs) }
     ensures clients { IfOk result (λ plan. length plan.clients ≤ 64) }
     ensures whole { IfOk result (λ _. IsAtEnd (S.left source.new)) }
     ensures first { IfErr result (IsInputFault (S.left source.old)) }

@@ -2,6 +2,7 @@ ghost use Rattle.std.specs.Prelude.{◌≡◌, ◌≢◌, ◌≤◌, ◌⊎◌, 
 ghost use Rattle.std.specs.Io.KnownBytes.{Appends};
 ghost use Rattle.tect_edge.specs.Counts.{Rose};
 ghost use Rattle.tect_edge.specs.Prefixes.{AppendsProperPrefix};
+ghost use Rattle.program_rules.specs.Served.{programs};
 ghost use Rattle.world_runs.specs.Playable.{IsPlayable};
 ghost use Rattle.tect_replay.specs.Output.{lines_text, end_text};
 ghost use Rattle.tect_app.specs.RaceEnds.{split_text, astray_text, IsNamedBy, IsSplitLine, IsRaceShown, IsRaceCut};
@@ -9,6 +10,7 @@ ghost use Rattle.tect_app.specs.Statuses.{IsReportStatus, IsRaceStatus};
 
 use crate::refusal::close;
 use crate::status::Status;
+use op_names::Running;
 use std::alloc::{AllocError, Global};
 use std::sync::Wait;
 use std::thread::Threads;
@@ -83,21 +85,21 @@ pub fn race_plan<R: Threads + Wait + Sync, K: Sink, G: Gate + Sync>(
     sink: &mut K,
     gate: &G,
 ) -> Status
-    requires plan { IsPlayable plan.now }
+    requires plan { IsPlayable programs plan.now }
     requires clients { length plan.now.clients ≤ 64 }
     requires workers { (1 ≤ workers) × (workers ≤ 64) }
     ensures only { IsRaceStatus result }
     ensures whole { result ≡ Status.Ok → IsRaceShown plan.now (K.written sink.old) (K.written sink.new) }
-    ensures split { result ≡ Status.Split → (line : List ℕ) × IsSplitLine plan.now.counts line
+    ensures split { result ≡ Status.Split → (line : List ℕ) × IsSplitLine plan.now line
         × Appends (K.written sink.old) (K.written sink.new) line }
     ensures cut { result ≡ Status.WriteFault → IsRaceCut plan.now (K.written sink.old) (K.written sink.new)
-        ⊎ ((line : List ℕ) × IsSplitLine plan.now.counts line × AppendsProperPrefix (K.written sink.old) (K.written sink.new) line) }
+        ⊎ ((line : List ℕ) × IsSplitLine plan.now line × AppendsProperPrefix (K.written sink.old) (K.written sink.new) line) }
     ensures starved { result ≡ Status.NoMemory → Appends (K.written sink.old) (K.written sink.new) []
         ⊎ IsRaceCut plan.now (K.written sink.old) (K.written sink.new) }
     ensures kept { result ≢ Status.WriteFault → K.faults sink.new ≡ K.faults sink.old }
     ensures failed { result ≡ Status.WriteFault → Rose (K.faults sink.old) (K.faults sink.new) }
 {
-    match race(rt, alloc, plan, workers, gate) {
+    match race::<Running, R, G>(rt, alloc, plan, workers, gate) {
         Ok(raced) => show(alloc, raced.report.as_slice(), sink),
         Err(fault) => refuse_race(alloc, &fault, sink),
     }

@@ -4,6 +4,7 @@ ghost use Rattle.tect_app.specs.Modes.{SpellsNone, SpellsRace};
 ghost use Rattle.tect_app.specs.Headline.{InMode, IsReadWithin, IsReported, IsUsage, IsRefused, IsReadFault, IsCut, IsCutOff, IsStarved};
 ghost use Rattle.tect_app.specs.Headline.{IsSplitEnd};
 ghost use Rattle.tect_app.specs.Statuses.{IsReportStatus};
+ghost use Rattle.program_rules.specs.Served.{programs};
 ghost use Rattle.world_runs.specs.Playable.{IsPlayable};
 ghost use Rattle.tect_app.specs.Replays.{IsReplayShown, IsReplayCut};
 
@@ -12,6 +13,7 @@ use crate::mode::{Mode, read_mode};
 use crate::racing::race_plan;
 use crate::refusal::{close, refuse};
 use crate::status::Status;
+use op_names::Running;
 use std::alloc::Global;
 use std::sync::Wait;
 use std::thread::Threads;
@@ -21,14 +23,14 @@ use tect_replay::{ReplayFault, replay};
 
 /// Plays a plan, and answers with which status that ended.
 fn play<K: Sink>(alloc: Global, plan: &Plan, sink: &mut K) -> Status
-    requires { IsPlayable plan.now }
+    requires { IsPlayable programs plan.now }
     ensures only { IsReportStatus result }
     ensures whole { result ≡ Status.Ok → IsReplayShown plan.now (K.written sink.old) (K.written sink.new) }
     ensures cut { result ≢ Status.Ok → IsReplayCut plan.now (K.written sink.old) (K.written sink.new) }
     ensures kept { result ≢ Status.WriteFault → K.faults sink.new ≡ K.faults sink.old }
     ensures failed { result ≡ Status.WriteFault → Rose (K.faults sink.old) (K.faults sink.new) }
 {
-    match replay(alloc, plan, sink) {
+    match replay::<Running, K>(alloc, plan, sink) {
         Ok(()) => Status::Ok,
         Err(ReplayFault::NoMemory) => Status::NoMemory,
         Err(ReplayFault::Failed) => Status::WriteFault,
