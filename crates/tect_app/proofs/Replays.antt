@@ -1,6 +1,7 @@
 -- What is claimed of the run that a replay shows.
-use Rattle.std.proofs.Common.{◌≡◌, ℕ, Some, Option, List, [], ◌∷◌, ◌++◌, length, map, sym, ap, subst, ◌∙◌}
+use Rattle.std.proofs.Common.{◌≡◌, true, ℕ, Some, Option, List, [], ◌∷◌, ◌++◌, length, map, sym, ap, subst, ◌∙◌}
 use Rattle.std.specs.List.{AllByRecursion}
+use Rattle.tect_ids.specs.declared.answer.Answer.{Answer}
 use Rattle.tect_ids.specs.declared.answer.Answer.TheVariants as answers
 use Rattle.tect_ids.specs.declared.dump.DumpLine.{DumpLine}
 use Rattle.tect_ids.specs.declared.ids.Counts.{Counts}
@@ -12,7 +13,9 @@ use Rattle.tect_ids.specs.declared.script.Plan.{Plan}
 use Rattle.tect_ids.specs.declared.script.ReportLine.TheVariants as report_lines
 use Rattle.store_rules.specs.Dumps.{store_dump}
 use Rattle.store_rules.specs.Store.{opening_store}
-use Rattle.program_rules.specs.Served.{programs}
+use Rattle.program_forms.specs.Kinds.{Does, Asks, Says, turned_by}
+use Rattle.program_rules.specs.Served.{program_does, programs}
+use Rattle.world_runs.specs.Actors.{is_said}
 use Rattle.program_forms.specs.Lacks.{IsLack}
 use Rattle.world_runs.specs.declared.event.Event.{Event}
 use Rattle.world_runs.specs.declared.event.Event.TheVariants.{Own, Dumped}
@@ -26,7 +29,8 @@ use Rattle.world_runs.specs.Playable.{IsWithin, IsPlayable}
 use Rattle.world_runs.specs.Report.{happening_lines, lines_at, report_after}
 use Rattle.world_runs.specs.Smooth.{EndsAtOnce, StepsOn, AllStepOn}
 use Rattle.run_claims.proofs.Claims.{every_run_is_claimed}
-use Rattle.script_runs.proofs.Fixed.{script_fixes_run}
+use Rattle.script_runs.specs.InTime.{LooksTellNoAnswer}
+use Rattle.script_runs.proofs.Fixed.{script_fixes_run_without_looks}
 use Rattle.sound_runs.proofs.RunsKeep.{no_run_answers_odd}
 use Rattle.world_runs.proofs.Actors.{after_all-append}
 use Rattle.script_runs.proofs.Histories.{run-append}
@@ -78,6 +82,18 @@ none_odd_after counts clients before (e ∷ es) run rest =
     (none_odd_after counts clients (before ++ e ∷ []) es (run-append programs (opening counts) before (e ∷ []) run first)
     (subst (λ m. RunFrom programs m es) (sym next) rest.1))
 
+-- ---- look-ups
+
+-- the commands look nothing up
+looks_tell_no_answer : LooksTellNoAnswer programs
+looks_tell_no_answer c m op s said = at (program_does c m op s) said
+  where
+    at : (d : Does Answer)
+        → is_said (program_does c (turned_by d m s record { memory = m; state = s }).memory op (turned_by d m s record { memory = m; state = s }).state)
+        ≡ true → is_said (program_does c m op s) ≡ true
+    at (Asks q) said = said
+    at (Says a) said = said
+
 -- ---- what is claimed of a history
 
 step_on : (clients : ℕ) (l : Line) → IsWithin clients l → StepsOn l
@@ -105,7 +121,7 @@ history_of plan history is run limits follows at_once = record {
   alone = λ client cs same played none. session_reported plan.counts plan.clients client cs history played run none
       (subst (λ ls. Follows ls history) same follows);
   fixed = λ none other smooth follows'.
-      script_fixes_run programs plan.counts plan.lines other history (all_step_on (length plan.clients) plan.lines is.within) smooth
+      script_fixes_run_without_looks programs looks_tell_no_answer plan.counts plan.lines other history (all_step_on (length plan.clients) plan.lines is.within) smooth
       (record { run = run; limits = limits; memory = none; at_once = at_once }) follows' follows;
 }
 
