@@ -15,6 +15,7 @@ use Rattle.world_runs.specs.declared.event.Event.{Event}
 use Rattle.world_runs.specs.Moments.{opening}
 use Rattle.world_runs.specs.Follows.{Follows, AllFindMemory}
 use Rattle.session_runs.specs.Session.{IsPlayed, session_lines, session_script}
+use Rattle.session_runs.specs.Well.{NoneFails}
 use Rattle.run_claims.specs.Claims.{IsHistory}
 use Rattle.world_runs.specs.Smooth.{EndsAtOnce, IsSmoothRun}
 use Rattle.tect_replay.specs.Output.{plan_report, output_text}
