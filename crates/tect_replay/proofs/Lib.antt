@@ -3,6 +3,5 @@ pub mod SeatLaws
 pub mod Steps
 pub mod Showing
 pub mod Texts
-pub mod Pieces
 pub mod ReportTexts
 pub mod Reached

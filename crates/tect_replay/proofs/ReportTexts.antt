@@ -2,11 +2,10 @@
 use Rattle.std.proofs.Common.{◌≡◌, ℕ, ◌+◌, ◌<◌, ◌≤◌, List, [], ◌∷◌, ◌++◌, Option, length, get_or, take, drop, sym, ap, ◌∙◌, arith}
 use Rattle.std.proofs.lemmas.List.{take_all, take_more, take-append-drop, append-nil}
 use Rattle.tect_ids.specs.declared.script.ReportLine.{ReportLine}
+use Rattle.std.specs.Io.KnownBytes.{Appends}
 use Rattle.tect_edge.specs.Prefixes.{AppendsProperPrefix}
 use Rattle.tect_replay.specs.Output.{line_text, lines_text, end_text, AppendsPrefix}
-use Rattle.tect_replay.specs.Pieces.{AppendsAllBut}
-use Rattle.tect_replay.proofs.Texts.{prefix_longer, prefix_less, lines-append}
-use Rattle.tect_replay.proofs.Pieces.{prefix_after}
+use Rattle.tect_replay.proofs.Texts.{prefix_longer, prefix_less, prefix_then, lines-append}
 
 -- a further line
 pub line_more : (ls : List ReportLine) (i : ℕ) (l : ReportLine) → i < length ls → l ≡ get_or ls i l
@@ -20,17 +19,16 @@ line_more ls i l lt at =
 line_front : (ls : List ReportLine) (i : ℕ) → lines_text ls ≡ lines_text (take i ls) ++ lines_text (drop i ls)
 line_front ls i = ap lines_text (sym (take-append-drop i ls)) ∙ lines-append (take i ls) (drop i ls)
 
--- a front of what waits of the first lines, and of the next, is one of the report
-pub report_part : (ls : List ReportLine) (i : ℕ) (l : ReportLine) (old mid new : Option (List ℕ)) (rest : List ℕ) → i < length ls
-    → l ≡ get_or ls i l
-    → AppendsAllBut old mid (lines_text (take i ls)) rest → AppendsPrefix mid new (rest ++ line_text l)
+-- a front of the first lines, and of the next, is one of the report
+pub report_part : (ls : List ReportLine) (i : ℕ) (l : ReportLine) (old mid new : Option (List ℕ)) → i < length ls → l ≡ get_or ls i l
+    → Appends old mid (lines_text (take i ls)) → AppendsPrefix mid new (line_text l)
     → AppendsProperPrefix old new (lines_text ls ++ end_text)
-report_part ls i l old mid new rest lt at first part =
+report_part ls i l old mid new lt at first part =
     prefix_less old new (lines_text ls) end_text
     (rw (line_front ls (i + 1)) (prefix_longer old new (lines_text (take (i + 1) ls)) (lines_text (drop (i + 1) ls))
-    (rw (line_more ls i l lt at) (prefix_after old mid new (lines_text (take i ls)) rest (line_text l) first part))))
+    (rw (line_more ls i l lt at) (prefix_then old mid new (lines_text (take i ls)) (line_text l) first part))))
     (omega arith)
 
-pub all_lines : (ls : List ReportLine) (i : ℕ) (old new : Option (List ℕ)) (rest : List ℕ) → length ls ≤ i
-    → AppendsAllBut old new (lines_text (take i ls)) rest → AppendsAllBut old new (lines_text ls) rest
-all_lines ls i old new rest le written = rw (take_all i ls le) at written
+pub all_lines : (ls : List ReportLine) (i : ℕ) (old new : Option (List ℕ)) → length ls ≤ i
+    → Appends old new (lines_text (take i ls)) → Appends old new (lines_text ls)
+all_lines ls i old new le written = rw (take_all i ls le) at written

@@ -27,7 +27,7 @@ pub fn write_piece<K: Sink>(sink: &mut K, piece: &[u8]) -> Result<(), ReplayFaul
 }
 
 /// Writes a line by one piece. The buffer is free to use.
-fn write_line<K: Sink>(
+pub fn write_line<K: Sink>(
     line: &ReportLine,
     buffer: &mut Vec<u8>,
     sink: &mut K,
