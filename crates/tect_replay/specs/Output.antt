@@ -20,7 +20,7 @@ end_text = codes "end\n"
 
 -- what a report shows of a history of the plan
 abbrev pub plan_report : Plan → List Event → List ReportLine
-plan_report plan history = report plan.counts plan.clients history
+plan_report plan history = report plan.clients history
 
 abbrev pub output_text : Plan → List Event → List ℕ
 output_text plan history = lines_text (plan_report plan history) ++ end_text

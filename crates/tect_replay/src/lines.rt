@@ -4,6 +4,7 @@ ghost use Rattle.tect_replay.specs.Plays.{CanDo, CanPlay, PlaysLine, shown_lines
 
 use crate::seat::Seat;
 use players::{RacerFault, play};
+use program_calls::Programs;
 use std::alloc::Global;
 use tect_ids::{Act, DumpLine, Line, Name, NoMemory, ReportLine};
 use tect_world::World;
@@ -17,17 +18,18 @@ pub enum LineOutput {
 }
 
 /// Plays a client's line.
-fn play_act(
+fn play_act<P: Programs + Drop>(
     alloc: Global,
     clients: &[Name],
-    world: &mut World,
+    world: &mut World<P>,
     actor: u32,
     act: &Act,
 ) -> Result<LineOutput, NoMemory>
     requires actor { (1 ≤ actor) × (actor ≤ 64) × (actor ≤ length clients.now) }
-    requires can { CanDo ((present world.old).actors actor) act.now }
+    requires can { CanDo P.rules ((present P.rules world.old).actors actor) act.now }
     ensures { (name : List ℕ)
-        → IfOk result (λ shown. PlaysLine clients.now (Line.Client name actor act.now) world.old world.new (shown_lines shown)) }
+        → IfOk result
+        (λ shown. PlaysLine P.rules clients.now (Line.Client name actor act.now) world.old world.new (shown_lines shown)) }
 {
     // What is so of each world.
     let _running = world.is_running(actor);
@@ -42,14 +44,14 @@ fn play_act(
 }
 
 /// Plays a line of a script.
-pub fn play_line(
+pub fn play_line<P: Programs + Drop>(
     alloc: Global,
     clients: &[Name],
-    world: &mut World,
+    world: &mut World<P>,
     line: &Line,
 ) -> Result<LineOutput, NoMemory>
-    requires { CanPlay (length clients.now) world.old line.now }
-    ensures { IfOk result (λ shown. PlaysLine clients.now line.now world.old world.new (shown_lines shown)) }
+    requires { CanPlay P.rules (length clients.now) world.old line.now }
+    ensures { IfOk result (λ shown. PlaysLine P.rules clients.now line.now world.old world.new (shown_lines shown)) }
 {
     match line {
         Line::Client { actor, act, .. } => play_act(alloc, clients, world, *actor, act),

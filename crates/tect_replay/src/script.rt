@@ -6,23 +6,28 @@ ghost use Rattle.tect_replay.specs.Replays.{IsReplayed as Replayed, IsCutReplay}
 use crate::fault::ReplayFault;
 use crate::lines::play_line;
 use crate::writing::{write_piece, write_shown};
+use program_calls::Programs;
 use std::alloc::Global;
 use tect_edge::Sink;
 use tect_ids::Plan;
 use tect_world::World;
 
-/// Plays the lines of a plan's script over a new world, and writes the report: the line of each answer, of each command
-/// that is stopped or finds no memory, and the lines of each dump, and then `end`; each line by one piece.
+/// Plays the lines of a plan's script over a new world, by the programs `P`, and writes the report: the line of each answer,
+/// of each command that is stopped or finds no memory, and the lines of each dump, and then `end`; each line by one piece.
 ///
 /// `NoMemory` comes for want of memory, and `Failed` where the sink failed. What was written is then a front of a report.
-pub fn replay<K: Sink>(alloc: Global, plan: &Plan, sink: &mut K) -> Result<(), ReplayFault>
-    requires { IsPlayable plan.now }
-    ensures whole { OnOk result (Replayed plan.now (K.written sink.old) (K.written sink.new)) }
-    ensures cut { OnErr result (IsCutReplay plan.now (K.written sink.old) (K.written sink.new)) }
+pub fn replay<P: Programs + Drop, K: Sink>(
+    alloc: Global,
+    plan: &Plan,
+    sink: &mut K,
+) -> Result<(), ReplayFault>
+    requires { IsPlayable P.rules plan.now }
+    ensures whole { OnOk result (Replayed P.rules plan.now (K.written sink.old) (K.written sink.new)) }
+    ensures cut { OnErr result (IsCutReplay P.rules plan.now (K.written sink.old) (K.written sink.new)) }
     ensures kept { ¬ IsErrOf result ReplayFault.Failed → K.faults sink.new ≡ K.faults sink.old }
     ensures failed { IsErrOf result ReplayFault.Failed → Rose (K.faults sink.old) (K.faults sink.new) }
 {
-    let mut world = World::start(alloc, plan.counts)?;
+    let mut world: World<P> = World::start(alloc, plan.counts)?;
     let mut buffer = Vec::new(alloc);
     let lines = plan.lines.as_slice();
     'lines: for line in lines {

@@ -1,6 +1,7 @@
 ghost use Rattle.std.specs.Prelude.{◌≤◌};
 
 use players::{Player, RacerFault};
+use program_calls::Programs;
 use tect_ids::{Command, NoMemory};
 use tect_world::{Turned, World};
 
@@ -10,22 +11,22 @@ pub struct Seat {
     pub actor: u32,
 }
 
-impl Player<World> for Seat {
+impl<P: Programs + Drop> Player<P, World<P>> for Seat {
     ghost use Rattle.tect_world.specs.Life.{present, room_at};
     ghost use Rattle.tect_replay.specs.Plays.{IsKeptRun};
     ghost use Rattle.tect_replay.specs.Seats.{SeatGrew};
 
     ghost counts = { λ w. w.counts };
 
-    ghost fits = { λ s w. (1 ≤ s.actor) × (s.actor ≤ 64) × IsKeptRun w };
+    ghost fits = { λ s w. (1 ≤ s.actor) × (s.actor ≤ 64) × IsKeptRun P.rules w };
 
     ghost actor = { λ s. s.actor };
 
     ghost history = { λ s w. w.history };
 
-    ghost state = { λ s w. (present w).actors s.actor };
+    ghost state = { λ s w. (present P.rules w).actors s.actor };
 
-    ghost grows = { SeatGrew };
+    ghost grows = { SeatGrew P.rules };
 
     ghost left = { λ s w. room_at w s.actor };
 
@@ -37,30 +38,30 @@ impl Player<World> for Seat {
         self.actor
     }
 
-    fn is_running(&self, at: &World) -> bool {
+    fn is_running(&self, at: &World<P>) -> bool {
         at.is_running(self.actor)
     }
 
-    fn number(&self, at: &World) -> u32 {
+    fn number(&self, at: &World<P>) -> u32 {
         at.last_op(self.actor).number
     }
 
-    fn transactions(&self, at: &World) -> u32 {
+    fn transactions(&self, at: &World<P>) -> u32 {
         at.transactions(self.actor) as u32
     }
 
-    fn begin(&mut self, at: &mut World, command: Command) -> Result<(), NoMemory> {
+    fn begin(&mut self, at: &mut World<P>, command: Command) -> Result<(), NoMemory> {
         at.begin(self.actor, command)
     }
 
-    fn step(&mut self, at: &mut World) -> Result<Turned, RacerFault> {
+    fn step(&mut self, at: &mut World<P>) -> Result<Turned, RacerFault> {
         match at.step(self.actor) {
             Ok(turned) => Ok(turned),
             Err(NoMemory) => Err(RacerFault::NoMemory),
         }
     }
 
-    fn stop(&mut self, at: &mut World) -> Result<(), NoMemory> {
-        at.stop(self.actor)
+    fn stop(&mut self, at: &mut World<P>) {
+        at.stop(self.actor);
     }
 }

@@ -6,7 +6,7 @@ use Rattle.tect_replay.proofs.script.replay.Given as goal
 
 abbrev pub invariant-lines : goal.invariant-lines
 invariant-lines g l = record {
-  played : HasPlayed l.plan (take l.line-index l.plan.lines) l.world;
+  played : HasPlayed g.P.Programs.rules l.plan (take l.line-index l.plan.lines) l.world;
   written : Appends (g.K.Sink.written l.initial.sink) (g.K.Sink.written l.sink) (lines_text (plan_report l.plan l.world.history));
   kept : g.K.Sink.faults l.sink ≡ g.K.Sink.faults l.initial.sink;
 }
