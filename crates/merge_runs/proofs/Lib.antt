@@ -15,3 +15,4 @@ pub mod Distinct
 pub mod Agreement
 pub mod Gathers
 pub mod Laws
+pub mod Spots

@@ -2,3 +2,4 @@ pub mod IsKeyed
 pub mod Keyed
 pub mod Merged
 pub mod Splits
+pub mod MergedRuns

@@ -1,6 +1,6 @@
 ghost use Rattle.std.specs.Prelude.{◌≡◌, OnOk, IfOk, None};
 
-use crate::gather;
+use crate::{Merged, gather, gather_lent};
 use entry_words::{Moment, Note};
 use file_shard::FileShard;
 use name_shard::NameShard;
@@ -97,21 +97,34 @@ fn told(alloc: Global, moments: &[&Moment]) -> Result<String, AllocError> {
     Ok(text)
 }
 
-/// What is gathered of both places and these passes.
+/// What is gathered of both places and these passes, lent and then owned.
 fn both(
     alloc: Global,
     names: Kept<NameShard>,
     files: Kept<FileShard>,
     one: Pass,
     two: Pass,
-) -> Result<String, AllocError>
+) -> Result<(String, String), AllocError>
     requires places { (names.label.place.0 ≡ 0) × (files.label.place.0 ≡ 1) }
     requires actors { (one.actor ≡ 1) × (two.actor ≡ 2) }
 {
     let kepts = vec![in alloc; AnyKept::Name(names), AnyKept::File(files)]?;
-    match gather(alloc, kepts.as_slice(), &[one, two]) {
+    let passes = vec![in alloc; one, two]?;
+    let lent = match gather_lent(alloc, kepts.as_slice(), passes.as_slice()) {
+        Ok(moments) => told(alloc, moments.as_slice())?,
+        Err(fault) => format!(in alloc; "{fault:?}")?,
+    };
+    let owned = match gather(kepts, passes) {
+        Ok(merged) => told_of(alloc, &merged)?,
+        Err(fault) => format!(in alloc; "{fault:?}")?,
+    };
+    Ok((lent, owned))
+}
+
+fn told_of(alloc: Global, merged: &Merged) -> Result<String, AllocError> {
+    match merged.entries() {
         Ok(moments) => told(alloc, moments.as_slice()),
-        Err(fault) => format!(in alloc; "{fault:?}"),
+        Err(_) => Ok(String::new(alloc)),
     }
 }
 
@@ -119,10 +132,9 @@ fn both(
 fn moments_are_in_order(rt: HostRuntime) -> Result<(), Fail> {
     let alloc = rt.alloc();
     let done = acted(alloc)?;
-    let text = both(alloc, done.names, done.files, done.one, done.two)?;
-    assert_eq!(&rt;
-        text.as_str(),
-        "1 1 2, 1 note 1, 2 0 1, 3 0 2, 3 1 1, 4 note 1, "
-    );
+    let (lent, owned) = both(alloc, done.names, done.files, done.one, done.two)?;
+    let all = "1 1 2, 1 note 1, 2 0 1, 3 0 2, 3 1 1, 4 note 1, ";
+    assert_eq!(&rt; lent.as_str(), all);
+    assert_eq!(&rt; owned.as_str(), all);
     Ok(())
 }

@@ -1,7 +1,7 @@
 use Rattle.std.proofs.Common.{map}
 use Rattle.merge_runs.proofs.Agreement.{agreement, apart_disagrees, stored_trails}
 use Rattle.merge_runs.proofs.Gathers.{restricts_to_trails, restricts_to_histories}
-use Rattle.merge_runs.proofs.gathered.gather.Goals as goal
+use Rattle.merge_runs.proofs.gathered.gather_lent.Goals as goal
 
 pub returns-in-Some-clause-memory : goal.returns-in-Some-clause-memory
 returns-in-Some-clause-memory c = λ a. absurd (apart_disagrees c.args.kepts.now c.args.passes.now c.in-Some.apart.now c.in-Some.ensures a)
