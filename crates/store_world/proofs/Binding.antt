@@ -16,9 +16,8 @@ use Rattle.store_rules.specs.declared.any.AnyReq.TheVariants as any
 use Rattle.store_rules.specs.Names.{key_in, replaced}
 use Rattle.store_rules.specs.Store.{store_changes, store_reply}
 use Rattle.store_rules.specs.Views.{as_unbound, as_swapped}
-use Rattle.store_world.specs.Worlds.{World, Live, done, ghost_given_up}
-use Rattle.store_world.specs.Sound.{Sound, was_made, dead_in, root, parent, IsGranted, is_spent}
-use Rattle.store_world.specs.Later.{Later, Touched}
+use Rattle.store_world.specs.Worlds.{World, Live, done}
+use Rattle.store_world.specs.Sound.{Sound, was_made, dead_in, root, parent, IsGranted}
 use Rattle.store_world.specs.Requests.{Needs, Kept}
 
 -- a hold's node was made, and so was the directory that it is for
@@ -35,54 +34,6 @@ module _ (w : World) (s : Sound w) (h : Hold) (n : Node) (k : Key) (granted : Is
 
   no_root : n ≢ Dir root
   no_root = s.tree.root_free h record { lower = n; upper = k; phase = Live } granted
-
--- the world where the hold is given up
-abbrev pub giving_up : World → Hold → World
-giving_up w h = record { store = w.store; ghost = ghost_given_up w.ghost h }
-
--- a hold that was granted and not bound is given up
-module _ (w : World) (s : Sound w) (h : Hold) (n : Node) (k : Key) (granted : IsGranted w h n k) where
-  pub given_up_sound : Sound (giving_up w h)
-  given_up_sound = record {
-    entries = record {
-      bound = λ x e is. grind (arith, maps, s.entries.bound x e);
-      at_home = s.entries.at_home;
-      in_dir = s.entries.in_dir;
-      set = λ x g is p. grind (arith, maps, s.entries.set x g);
-    };
-    holds = record {
-      set = λ x g is p. grind (arith, maps, s.holds.set x g);
-      live = λ x g is l nd. grind (arith, maps, s.holds.live x g);
-      listed = λ m x u is. grind (arith, maps, s.holds.listed m x u);
-      lower_made = λ x g is. grind (arith, maps, s.holds.lower_made x, lower w s h n k granted);
-      upper_made = λ x g is. grind (arith, maps, s.holds.upper_made x, upper w s h n k granted);
-    };
-    nodes = s.nodes;
-    tree = record {
-      named = s.tree.named;
-      unnamed = λ x g d p is low hm par. grind (arith, maps, s.tree.unnamed x, beneath w s h n k granted d p);
-      stands = s.tree.stands;
-      climbs = s.tree.climbs;
-      root_made = s.tree.root_made;
-      root_home = s.tree.root_home;
-      root_free = λ x g is low. grind (arith, maps, s.tree.root_free x g, no_root w s h n k granted);
-    };
-  }
-
-  pub given_up_later : (by : Touched) → by.hold h ≡ true → Later by w (giving_up w h)
-  given_up_later by mine = record {
-    made = λ m e. e;
-    unmade = λ m o e. e;
-    named = λ m e. e;
-    unnamed = λ m o e. e;
-    fresh = λ x o e. grind (arith, maps);
-    live = λ x g o e l. grind (arith, maps);
-    kept = λ x p e. grind (arith, maps);
-    spent = λ x e. grind (arith, maps);
-  }
-
-  pub given_up_spent : is_spent (giving_up w h) h ≡ true
-  given_up_spent = grind (arith, maps)
 
 -- Bind
 module _ (w : World) (s : Sound w) (k : Key) (n : Node) (h : Hold) (o : Over) (needs : Needs w (any.Name (names.Bind k n h o))) where

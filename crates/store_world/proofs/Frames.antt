@@ -2,7 +2,7 @@
 use Rattle.std.proofs.Common.{◌≡◌, Bool, true, false, refl}
 use Rattle.store_rules.specs.declared.any.AnyReq.{AnyReq}
 use Rattle.store_rules.specs.Store.{store_changes, store_reply}
-use Rattle.store_world.specs.Worlds.{World, done, after_refusal, next}
+use Rattle.store_world.specs.Worlds.{World, done, next}
 use Rattle.store_world.specs.Sound.{Sound}
 use Rattle.store_world.specs.Later.{Touched, Later, Within}
 use Rattle.store_world.specs.Requests.{Taught, Kept}
@@ -20,6 +20,19 @@ later_same by w = record {
   spent = λ h e. e;
 }
 
+-- one thing happens after another
+pub later_then : (by : Touched) (w v u : World) → Later by w v → Later by v u → Later by w u
+later_then by w v u l k = record {
+  made = λ n e. k.made n (l.made n e);
+  unmade = λ n o e. k.unmade n o (l.unmade n o e);
+  named = λ n e. k.named n (l.named n e);
+  unnamed = λ n o e. k.unnamed n o (l.unnamed n o e);
+  fresh = λ h o e. k.fresh h o (l.fresh h o e);
+  live = λ h g o e p. k.live h g o (l.live h g o e p) p;
+  kept = λ h p e. k.kept h p (l.kept h p e);
+  spent = λ h e. k.spent h (l.spent h e);
+}
+
 -- where more may be touched, less is said
 pub weaken : (t u : Touched) (w v : World) → Within t u → Later t w v → Later u w v
 weaken t u w v i l = record {
@@ -34,11 +47,11 @@ weaken t u w v i l = record {
 }
 
 -- a request, refused or done
-pub by_answer : (w : World) (q : AnyReq) (b : Bool) → store_changes w.store q ≡ b → (b ≡ false → Kept w (after_refusal w q) q)
+pub by_answer : (w : World) (q : AnyReq) (b : Bool) → store_changes w.store q ≡ b → (b ≡ false → Kept w w q)
     → (b ≡ true → Kept w (done w q) q) → Kept w (next w q) q
 by_answer w q true e stayed did = let k : Kept w (done w q) q = did refl
     in record { sound = rw e k.sound; later = rw e k.later; taught = rw e k.taught }
-by_answer w q false e stayed did = let k : Kept w (after_refusal w q) q = stayed refl
+by_answer w q false e stayed did = let k : Kept w w q = stayed refl
     in record { sound = rw e k.sound; later = rw e k.later; taught = rw e k.taught }
 
 -- a request that only reads

@@ -4,3 +4,4 @@ pub mod Making
 pub mod Binding
 pub mod Holding
 pub mod Rows
+pub mod Over

@@ -12,7 +12,7 @@ use Rattle.store_rules.specs.declared.names.NameReq.TheVariants as names
 use Rattle.store_rules.specs.declared.files.FileReq.TheVariants as files
 use Rattle.store_rules.specs.declared.any.AnyReq.TheVariants as any
 use Rattle.store_rules.specs.Store.{store_changes}
-use Rattle.store_world.specs.Worlds.{World, done, after_refusal}
+use Rattle.store_world.specs.Worlds.{World, done}
 use Rattle.store_world.specs.Sound.{Sound, parent, above, root}
 use Rattle.store_world.specs.Requests.{Needs, Kept}
 use Rattle.store_world.proofs.Chains.{climbs_still, climbs_from}
@@ -65,7 +65,7 @@ module _ (w : World) (s : Sound w) (f : FileId) (h : Hold) (k : Key) (t : Option
     }
 
     pub file_not_refused : store_changes w.store (any.File (files.MakeFile f h k t)) ≡ false
-        → Kept w (after_refusal w (any.File (files.MakeFile f h k t))) (any.File (files.MakeFile f h k t))
+        → Kept w w (any.File (files.MakeFile f h k t))
     file_not_refused stayed = absurd (grind (arith, maps, s.nodes.standing_made (File f)))
 
 -- MakeDir
@@ -140,5 +140,5 @@ module _ (w : World) (s : Sound w) (d up : DirId) (h : Hold) (k : Key) (needs : 
   }
 
   pub dir_not_refused : store_changes w.store (any.Name (names.MakeDir d up h k)) ≡ false
-      → Kept w (after_refusal w (any.Name (names.MakeDir d up h k))) (any.Name (names.MakeDir d up h k))
+      → Kept w w (any.Name (names.MakeDir d up h k))
   dir_not_refused stayed = absurd (grind (arith, maps, s.nodes.standing_made (Dir d)))

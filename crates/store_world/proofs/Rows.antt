@@ -9,8 +9,6 @@ use Rattle.tect_ids.specs.declared.ids.Node.TheVariants.{Dir, File}
 use Rattle.tect_ids.specs.declared.key.Key.{Key}
 use Rattle.tect_ids.specs.declared.values.Over.{Over}
 use Rattle.tect_ids.specs.declared.values.Want.{Want}
-use Rattle.tect_ids.specs.Keys.{hold_eq}
-use Rattle.tect_ids.proofs.KeyTests.{keys}
 use Rattle.key_maps.proofs.Lookups.{maps}
 use Rattle.store_rules.specs.declared.names.DirectoryEntry.{DirectoryEntry}
 use Rattle.store_rules.specs.declared.names.NameReq.{NameReq}
@@ -22,12 +20,12 @@ use Rattle.store_rules.specs.declared.any.AnyReq.TheVariants as any
 use Rattle.store_rules.specs.Names.{key_in}
 use Rattle.store_rules.specs.Store.{opening_store, store_changes, store_reply}
 use Rattle.store_rules.specs.Views.{as_found, as_bound, as_swapped, as_unbound}
-use Rattle.store_world.specs.Worlds.{World, after_refusal, next, opening_ghost}
+use Rattle.store_world.specs.Worlds.{World, next, opening_ghost}
 use Rattle.store_world.specs.Sound.{Sound, was_made}
-use Rattle.store_world.specs.Requests.{Needs, Kept, FoundTaught, GrantTaught, UnboundTaught}
+use Rattle.store_world.specs.Requests.{Needs, Kept, FoundTaught, GrantTaught, BoundTaught, SwappedTaught, UnboundTaught}
 use Rattle.store_world.proofs.Frames.{by_answer, by_reading}
 use Rattle.store_world.proofs.Making.{file_made, file_not_refused, dir_made, dir_not_refused}
-use Rattle.store_world.proofs.Binding.{given_up_sound, given_up_later, given_up_spent, bind_done, unbind_done, swap_done}
+use Rattle.store_world.proofs.Binding.{bind_done, unbind_done, swap_done}
 use Rattle.store_world.proofs.Holding.{dir_granted, file_granted, dir_released, file_released}
 
 -- what has a name was made
@@ -59,28 +57,16 @@ file_grant_refused : (w : World) (f : FileId) (h : Hold) (k : Key) → store_cha
     → GrantTaught w (File f) h k (store_reply w.store (any.File (files.Grant f h k)))
 file_grant_refused w f h k stayed = grind arith
 
-same_hold : (h : Hold) → hold_eq h h ≡ true
-same_hold h = grind (arith, keys)
+-- a bind or a swap that is refused leaves its hold
+bind_refused : (w : World) (k : Key) (n : Node) (h : Hold) (o : Over) → Needs w (any.Name (names.Bind k n h o))
+    → store_changes w.store (any.Name (names.Bind k n h o)) ≡ false
+    → BoundTaught w h n k (as_bound (store_reply w.store (any.Name (names.Bind k n h o))))
+bind_refused w k n h o needs stayed = rw (bind_says w k n h o stayed) needs.0
 
--- a bind that is refused gives its hold up
-module _ (w : World) (s : Sound w) (k : Key) (n : Node) (h : Hold) (o : Over) (needs : Needs w (any.Name (names.Bind k n h o))) where
-  bind_refused : store_changes w.store (any.Name (names.Bind k n h o)) ≡ false
-      → Kept w (after_refusal w (any.Name (names.Bind k n h o))) (any.Name (names.Bind k n h o))
-  bind_refused stayed = record {
-    sound = given_up_sound w s h n k needs.0;
-    later = given_up_later w s h n k needs.0 _ (same_hold h);
-    taught = rw (bind_says w k n h o stayed) (given_up_spent w s h n k needs.0);
-  }
-
-module _ (w : World) (s : Sound w) (d : DirId) (from to : List ℕ) (n : Node) (h : Hold)
-    (needs : Needs w (any.Name (names.Swap d from to n h))) where
-  swap_refused : store_changes w.store (any.Name (names.Swap d from to n h)) ≡ false
-      → Kept w (after_refusal w (any.Name (names.Swap d from to n h))) (any.Name (names.Swap d from to n h))
-  swap_refused stayed = record {
-    sound = given_up_sound w s h n (key_in d to) needs.0;
-    later = given_up_later w s h n (key_in d to) needs.0 _ (same_hold h);
-    taught = rw (swap_says_none w d from to n h stayed) (given_up_spent w s h n (key_in d to) needs.0);
-  }
+swap_refused : (w : World) (d : DirId) (from to : List ℕ) (n : Node) (h : Hold) → Needs w (any.Name (names.Swap d from to n h))
+    → store_changes w.store (any.Name (names.Swap d from to n h)) ≡ false
+    → SwappedTaught w h n (key_in d to) (as_swapped (store_reply w.store (any.Name (names.Swap d from to n h))))
+swap_refused w d from to n h needs stayed = rw (swap_says_none w d from to n h stayed) needs.0
 
 name_kept : (w : World) (s : Sound w) (q : NameReq) → Needs w (any.Name q) → Kept w (next w (any.Name q)) (any.Name q)
 name_kept w s (names.CheckDir d) needs = by_answer w (any.Name (names.CheckDir d)) _ refl (λ e. by_reading w _ s tt)
@@ -90,10 +76,10 @@ name_kept w s (names.Look k) needs = by_answer w (any.Name (names.Look k)) _ ref
 name_kept w s (names.List d) needs = by_answer w (any.Name (names.List d)) _ refl (λ e. by_reading w _ s tt) (λ e. by_reading w _ s tt)
 name_kept w s (names.MakeDir d p h k) needs = by_answer w (any.Name (names.MakeDir d p h k)) _ refl (dir_not_refused w s d p h k needs)
     (dir_made w s d p h k needs)
-name_kept w s (names.Bind k n h o) needs = by_answer w (any.Name (names.Bind k n h o)) _ refl (bind_refused w s k n h o needs)
-    (bind_done w s k n h o needs)
+name_kept w s (names.Bind k n h o) needs = by_answer w (any.Name (names.Bind k n h o)) _ refl
+    (λ e. by_reading w _ s (bind_refused w k n h o needs e)) (bind_done w s k n h o needs)
 name_kept w s (names.Swap d from to n h) needs = by_answer w (any.Name (names.Swap d from to n h)) _ refl
-    (swap_refused w s d from to n h needs) (swap_done w s d from to n h needs)
+    (λ e. by_reading w _ s (swap_refused w d from to n h needs e)) (swap_done w s d from to n h needs)
 name_kept w s (names.Unbind k want) needs = by_answer w (any.Name (names.Unbind k want)) _ refl
     (λ e. by_reading w _ s (unbind_refused w k want e)) (unbind_done w s k want)
 name_kept w s (names.Grant d h k) needs = by_answer w (any.Name (names.Grant d h k)) _ refl

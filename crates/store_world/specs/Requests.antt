@@ -1,11 +1,12 @@
 -- What each request touches, what has to be known before it is made, and what its reply teaches.
-use Rattle.std.specs.Prelude.{◌≡◌, ◌≢◌, true, false, Option, Some, None, is_some}
+use Rattle.std.specs.Prelude.{◌≡◌, ◌≢◌, Bool, true, false, Option, Some, None, is_some}
 use Rattle.tect_ids.specs.declared.ids.DirId.{DirId}
 use Rattle.tect_ids.specs.declared.ids.Hold.{Hold}
 use Rattle.tect_ids.specs.declared.ids.Node.{Node}
 use Rattle.tect_ids.specs.declared.ids.Node.TheVariants.{Dir, File}
+use Rattle.tect_ids.specs.declared.ids.OpId.{OpId}
 use Rattle.tect_ids.specs.declared.key.Key.{Key}
-use Rattle.tect_ids.specs.Keys.{hold_eq, node_eq}
+use Rattle.tect_ids.specs.Keys.{op_eq, hold_eq, node_eq}
 use Rattle.store_rules.specs.declared.names.Replaced.{Replaced}
 use Rattle.store_rules.specs.declared.names.NameReq.{NameReq}
 use Rattle.store_rules.specs.declared.names.NameReq.TheVariants as names
@@ -37,6 +38,10 @@ touches_named n h = record { hold = λ x. hold_eq x h; made = λ m. false; named
 abbrev pub touches_hold : Hold → Touched
 touches_hold h = record { hold = λ x. hold_eq x h; made = λ m. false; named = λ m. false }
 
+-- the holds of an op
+abbrev pub touches_op : OpId → Touched
+touches_op op = record { hold = λ x. op_eq x.op op; made = λ m. false; named = λ m. false }
+
 -- what a request of the Name layer touches
 abbrev pub name_touches : NameReq → Touched
 name_touches (names.CheckDir d) = touches_nothing
@@ -59,6 +64,12 @@ file_touches (files.Release f h) = touches_nothing
 abbrev pub touched_by : AnyReq → Touched
 touched_by (any.Name q) = name_touches q
 touched_by (any.File q) = file_touches q
+
+-- only two requests make a node
+abbrev pub makes : AnyReq → Bool
+makes (any.Name (names.MakeDir d p h k)) = true
+makes (any.File (files.MakeFile f h k t)) = true
+makes _ = false
 
 -- the node and the hold are new, and the directory was made
 abbrev pub MakeNeeds : World → Node → Hold → Key → Type 0
@@ -110,15 +121,15 @@ abbrev pub OldSpent : World → Option Replaced → Type 0
 OldSpent v None = Unit {0}
 OldSpent v (Some old) = is_spent v old.hold ≡ true
 
--- where a bind is refused its own hold can be released, and else the hold of what was replaced
-abbrev pub BoundTaught : World → Hold → Option (Option Replaced) → Type 0
-BoundTaught v h None = is_spent v h ≡ true
-BoundTaught v h (Some old) = OldSpent v old
+-- where a bind is refused its own hold is still granted, and else the hold of what was replaced can be released
+abbrev pub BoundTaught : World → Hold → Node → Key → Option (Option Replaced) → Type 0
+BoundTaught v h n k None = IsGranted v h n k
+BoundTaught v h n k (Some old) = OldSpent v old
 
 -- the same of a swap, and where it is not refused the node's hold for the old name can be released
-abbrev pub SwappedTaught : World → Hold → Option (Hold × Option Replaced) → Type 0
-SwappedTaught v h None = is_spent v h ≡ true
-SwappedTaught v h (Some p) = (is_spent v p.0 ≡ true) × OldSpent v p.1
+abbrev pub SwappedTaught : World → Hold → Node → Key → Option (Hold × Option Replaced) → Type 0
+SwappedTaught v h n k None = IsGranted v h n k
+SwappedTaught v h n k (Some p) = (is_spent v p.0 ≡ true) × OldSpent v p.1
 
 -- the hold of what was unbound can be released
 abbrev pub UnboundTaught : World → Option (Node × Hold) → Type 0
@@ -135,8 +146,8 @@ NameTaught v (names.CheckDir d) x = Unit {0}
 NameTaught v (names.Look k) x = FoundTaught v (as_found x)
 NameTaught v (names.List d) x = Unit {0}
 NameTaught v (names.MakeDir d p h k) x = MadeTaught v (Dir d) h k x
-NameTaught v (names.Bind k n h o) x = BoundTaught v h (as_bound x)
-NameTaught v (names.Swap d from to n h) x = SwappedTaught v h (as_swapped x)
+NameTaught v (names.Bind k n h o) x = BoundTaught v h n k (as_bound x)
+NameTaught v (names.Swap d from to n h) x = SwappedTaught v h n (key_in d to) (as_swapped x)
 NameTaught v (names.Unbind k want) x = UnboundTaught v (as_unbound x)
 NameTaught v (names.Grant d h k) x = GrantTaught v (Dir d) h k x
 NameTaught v (names.Release d h) x = Unit {0}

@@ -5,8 +5,9 @@ use Rattle.ordered_rows.specs.Maps.{set_at}
 use Rattle.tect_ids.specs.declared.ids.Hold.{Hold}
 use Rattle.tect_ids.specs.declared.ids.Node.{Node}
 use Rattle.tect_ids.specs.declared.ids.Node.TheVariants.{Dir, File}
+use Rattle.tect_ids.specs.declared.ids.OpId.{OpId}
 use Rattle.tect_ids.specs.declared.key.Key.{Key}
-use Rattle.tect_ids.specs.Keys.{hold_eq, node_eq, node_cmp}
+use Rattle.tect_ids.specs.Keys.{op_eq, hold_eq, node_eq, node_cmp}
 use Rattle.store_rules.specs.declared.names.DirectoryEntry.{DirectoryEntry}
 use Rattle.store_rules.specs.declared.names.NameReq.{NameReq}
 use Rattle.store_rules.specs.declared.names.NameReq.TheVariants as names
@@ -53,11 +54,6 @@ with_hold given h g x = if hold_eq x h then g else given x
 abbrev pub with_home : (Node → Option Key) → Node → Key → Node → Option Key
 with_home home n k x = if node_eq x n then Some k else home x
 
--- the hold is given up
-abbrev pub given_up : Option Given → Option Given
-given_up None = None
-given_up (Some g) = Some record { lower = g.lower; upper = g.upper; phase = Past }
-
 -- the holds once the entry at that key stands no more
 abbrev pub without_entry : (Hold → Option Given) → Key → Option DirectoryEntry → Hold → Option Given
 without_entry given k None = given
@@ -84,10 +80,6 @@ ghost_bound g old k n h =
 abbrev pub ghost_unbound : Ghost → Option DirectoryEntry → Key → Ghost
 ghost_unbound g old k = record g { given = without_entry g.given k old }
 
--- the hold is given up
-abbrev pub ghost_given_up : Ghost → Hold → Ghost
-ghost_given_up g h = record g { given = with_hold g.given h (given_up (g.given h)) }
-
 -- what a request of the Name layer does to the past where it changes the store
 abbrev pub name_ghost : Store → Ghost → NameReq → Ghost
 name_ghost s g (names.CheckDir d) = g
@@ -108,34 +100,45 @@ file_ghost g (files.MakeFile f h k t) = ghost_made g (File f) h k
 file_ghost g (files.Grant f h k) = ghost_granted g (File f) h k
 file_ghost g (files.Release f h) = g
 
--- a bind or a swap that is refused gives its hold up
-abbrev pub name_ghost_refused : Ghost → NameReq → Ghost
-name_ghost_refused g (names.Bind k n h o) = ghost_given_up g h
-name_ghost_refused g (names.Swap d from to n h) = ghost_given_up g h
-name_ghost_refused g _ = g
-
 -- what a request does to the past where it changes the store
 abbrev pub ghost_change : Store → Ghost → AnyReq → Ghost
 ghost_change s g (any.Name q) = name_ghost s g q
 ghost_change s g (any.File q) = file_ghost g q
 
--- what a request does to the past where it leaves the store
-abbrev pub ghost_refused : Ghost → AnyReq → Ghost
-ghost_refused g (any.Name q) = name_ghost_refused g q
-ghost_refused g (any.File q) = g
-
 -- the past after a request
 abbrev pub ghost_next : Store → Ghost → AnyReq → Ghost
-ghost_next s g q = if store_changes s q then ghost_change s g q else ghost_refused g q
+ghost_next s g q = if store_changes s q then ghost_change s g q else g
 
 -- the world after a request that changes the store
 abbrev pub done : World → AnyReq → World
 done w q = record { store = store_change w.store q; ghost = ghost_change w.store w.ghost q }
 
--- the world after a request that leaves the store
-abbrev pub after_refusal : World → AnyReq → World
-after_refusal w q = record { store = w.store; ghost = ghost_refused w.ghost q }
-
 -- the world after a request
 abbrev pub next : World → AnyReq → World
 next w q = record { store = store_step w.store q; ghost = ghost_next w.store w.ghost q }
+
+-- what is not bound by now is given up
+abbrev pub over_phase : HoldPhase → HoldPhase
+over_phase Live = Past
+over_phase Set = Set
+over_phase Past = Past
+
+abbrev pub given_over : Option Given → Option Given
+given_over None = None
+given_over (Some g) = Some record { lower = g.lower; upper = g.upper; phase = over_phase g.phase }
+
+-- the past once the answer of an op is decided: each of its holds that is not bound by now is given up
+abbrev pub ghost_over : OpId → Ghost → Ghost
+ghost_over op g = record g { given = λ h. if op_eq h.op op then given_over (g.given h) else g.given h }
+
+abbrev pub over : OpId → World → World
+over op w = record { store = w.store; ghost = ghost_over op w.ghost }
+
+-- the same by what was decided before a step, and what is decided now
+abbrev pub ghost_settled : {R : Type 0} → OpId → Option R → Option R → Ghost → Ghost
+ghost_settled op None None g = g
+ghost_settled op None (Some a) g = ghost_over op g
+ghost_settled op (Some b) now g = g
+
+abbrev pub settled : {R : Type 0} → OpId → Option R → Option R → World → World
+settled op was now w = record { store = w.store; ghost = ghost_settled op was now w.ghost }

@@ -1,0 +1,5 @@
+pub mod Turns
+pub mod Serials
+pub mod MomentsKeep
+pub mod RunsKeep
+pub mod Grants
