@@ -1,0 +1,15 @@
+pub mod Calls
+pub mod Growing
+pub mod Weights
+pub mod Stages
+pub mod OwnSteps
+pub mod Prompts
+pub mod Stands
+pub mod Lives
+pub mod StepCases
+pub mod Refusals
+pub mod Begins
+pub mod RefusedSteps
+pub mod Closings
+pub mod Following
+pub mod Few

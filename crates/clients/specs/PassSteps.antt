@@ -8,6 +8,7 @@ use Rattle.store_rules.specs.declared.any.AnyReply.{AnyReply}
 use Rattle.store_rules.specs.Places.{request_place}
 use Rattle.program_forms.specs.declared.heard.Heard.{Heard}
 use Rattle.program_forms.specs.declared.heard.Heard.TheVariants as hearing
+use Rattle.program_forms.specs.Lacks.{IsLack}
 use Rattle.program_forms.specs.Kinds.{Programs}
 use Rattle.entry_words.specs.declared.entry.Entry.{Entry}
 use Rattle.entry_words.specs.declared.entry.Moment.TheVariants.{Act}
@@ -59,14 +60,14 @@ Marks hearing.Whole p m = m ≡ p
 Marks hearing.Unkept p m = ⊥
 Marks hearing.Left p m = MarkedLeft p m
 
--- as it stands it has that answer, or memory is wanting; with none it goes on
+-- as it stands it has that answer, which is no want of memory or of room unless its op was refused; or memory is wanting
+abbrev pub SettlesSo : {S : Type 0} → Programs S → ActorState S → Answer → Type 0
+SettlesSo P a x = ((says_now P a ≡ Some x) × IsPlainOf a.state.running (Some x)) ⊎ (x ≡ answers.NoMemory)
+
+-- it goes on; or it has that answer as it stands, or memory is wanting
 abbrev pub EndsHere : {S : Type 0} → Programs S → ActorState S → Option Answer → Type 0
 EndsHere P a None = has_ended P a.counts a.state.memory a.state.running ≡ false
-EndsHere P a (Some x) = (says_now P a ≡ Some x) ⊎ (x ≡ answers.NoMemory)
-
--- an answer that it came to is no want of memory or of room, unless its op was refused
-abbrev pub SaysPlainly : {S : Type 0} → Programs S → ActorState S → Type 0
-SaysPlainly P a = (x : Answer) → says_now P a ≡ Some x → IsPlainOf a.state.running (Some x)
+EndsHere P a (Some x) = ((says_now P a ≡ Some x) × ¬ IsLack x) ⊎ (x ≡ answers.NoMemory)
 
 -- the command went on at the reply to the request that it asks as it stands
 pub record HearsSo {S : Type 0} (P : Programs S) (a b : ActorState S) (p r : Pass) (q : AnyReq) (x : AnyReply) (answer : Option Answer)
@@ -75,7 +76,6 @@ pub record HearsSo {S : Type 0} (P : Programs S) (a b : ActorState S) (p r : Pas
   pub middle : Pass
   pub marks : Marks heard p middle
   pub ends : EndsHere P (gone_on P a q x heard) answer
-  pub plain : SaysPlainly P (gone_on P a q x heard)
   pub finishes : Finishes P (gone_on P a q x heard) b middle r answer
 
 -- ---- a whole step
@@ -96,9 +96,13 @@ act_count (Denied q e) = 0
 abbrev pub after_try : {S : Type 0} → Programs S → ActorState S → Tried → ActorState S
 after_try P a tried = record a { state = state_after P a.counts a.state tried }
 
--- an answer that it came to is no want of memory or of room, unless its op was refused
-abbrev pub AnswersPlainly : {S : Type 0} → Programs S → ActorState S → Type 0
-AnswersPlainly P a = (x : Answer) → program_answer P a.counts a.state.memory a.state.running ≡ Some x → IsPlainOf a.state.running (Some x)
+-- Why the command ends, in its actor's state then; an answer that it came to is no want of memory or of room, unless its op was refused.
+abbrev pub StepEnds : {S : Type 0} → Programs S → ActorState S → Tried → Option Answer → Type 0
+StepEnds P a Unasked None = ⊥
+StepEnds P a Unasked (Some x) =
+    ((program_answer P a.counts a.state.memory a.state.running ≡ Some x) × IsPlainOf a.state.running (Some x)) ⊎ (x ≡ answers.NoMemory)
+StepEnds P a (Did q x h) answer = EndsSo P a.counts a.state (Did q x h) answer
+StepEnds P a (Denied q e) answer = EndsSo P a.counts a.state (Denied q e) answer
 
 pub record TookStep {S W : Type 0} (P : Programs S) (done : W → W → ℕ → AnyReq → Result Entry Refused → Type 0) (w v : W)
     (a b : ActorState S) (p r : Pass) (step : Step) : Type 0 where
@@ -107,8 +111,7 @@ pub record TookStep {S W : Type 0} (P : Programs S) (done : W → W → ℕ → 
   pub asks : Asks P a.counts a.state tried
   pub there : DidThere done w v p.clock (entry_at a.counts middle.clock p) tried
   pub tries : Tries a.counts p middle tried
-  pub ends : EndsSo P a.counts (state_after P a.counts a.state tried) tried step.answer
-  pub plain : AnswersPlainly P (after_try P a tried)
+  pub ends : StepEnds P (after_try P a tried) tried step.answer
   pub finishes : Finishes P (after_try P a tried) b middle r step.answer
   pub acted : step.transactions ≡ act_count tried
 

@@ -147,15 +147,15 @@ impl<P: Programs + Drop> Actor<P> {
         ensures { (req : AnyReq) → asks_now P.rules self.old ≡ Some req → Advances P.rules self.old self.new req reply.now result }
     {
         let op = self.op();
-        let Some(Standing::Goes { state }) = &mut self.running else {
+        let Some(Standing::Goes { mut state }) = self.running.take() else {
             unreachable!()
         };
         match state.hear(&mut self.memory, op, reply) {
-            Ok(None) => Ok(Turned::Going),
-            Ok(Some(answer)) => {
-                self.running = None;
-                Ok(Turned::Done(answer))
+            Ok(None) => {
+                self.running = Some(Standing::Goes { state });
+                Ok(Turned::Going)
             }
+            Ok(Some(answer)) => Ok(Turned::Done(answer)),
             Err(NoMemory) => {
                 self.running = Some(Standing::Left);
                 Err(NoMemory)

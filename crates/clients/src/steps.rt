@@ -6,8 +6,8 @@ ghost use Rattle.entry_words.specs.declared.entry.Note.TheVariants as notes;
 ghost use Rattle.entry_words.specs.declared.entry.Refused.TheVariants as refusals;
 ghost use Rattle.passes.specs.Adding.{NotedEnd};
 ghost use Rattle.clients.specs.ActorState.{ActorState, op_of};
-ghost use Rattle.clients.specs.ActorCalls.{asks_now, says_now, let_go, looked};
-ghost use Rattle.clients.specs.PassSteps.{TookStep, LostStep, HearsSo, SaysPlainly};
+ghost use Rattle.clients.specs.ActorCalls.{asks_now, let_go, looked};
+ghost use Rattle.clients.specs.PassSteps.{TookStep, LostStep, HearsSo, SettlesSo};
 
 use crate::actor::Actor;
 use crate::turned::Turned;
@@ -51,6 +51,7 @@ fn again(answer: &Answer) -> Answer
 }
 
 /// The command ends with that answer, and with the one that tells of it where memory is wanting to tell the answer twice.
+#[tactic(auto, using(tect_ids::proofs::Clones::same_answer))]
 fn end_with<P: Programs + Drop>(actor: &mut Actor<P>, pass: &mut Pass, answer: Answer) -> Answer
     requires { pass.old.running ≡ Some (op_of actor.old) }
     ensures actor { actor.new ≡ let_go actor.old }
@@ -74,8 +75,7 @@ fn settle<P: Programs + Drop>(actor: &mut Actor<P>, pass: &mut Pass) -> Answer
     requires { pass.old.running ≡ Some (op_of actor.old) }
     ensures actor { actor.new ≡ let_go actor.old }
     ensures pass { NotedEnd pass.old pass.new (notes.Ended (op_of actor.old) result) }
-    ensures ends { (says_now P.rules actor.old ≡ Some result) ⊎ (result ≡ answers.NoMemory) }
-    ensures plain { SaysPlainly P.rules actor.old }
+    ensures ends { SettlesSo P.rules actor.old result }
 {
     let answer = match actor.finished() {
         Some(answer) => again(answer),
