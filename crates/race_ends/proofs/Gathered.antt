@@ -6,7 +6,9 @@ use Rattle.std.proofs.lemmas.Option.{slice_get_within}
 use Rattle.std.specs.List.{All, Contains, filter, flat_map, slice_get}
 use Rattle.tect_ids.specs.declared.ids.Counts.{Counts}
 use Rattle.tect_ids.specs.declared.script.Line.{Line}
+use Rattle.tect_ids.specs.declared.script.Plan.{Plan}
 use Rattle.tect_ids.specs.declared.script.ReportLine.{ReportLine}
+use Rattle.program_forms.specs.Kinds.{Programs}
 use Rattle.place_kit.specs.declared.any.AnyKept.{AnyKept}
 use Rattle.entry_words.specs.declared.entry.Moment.{Moment}
 use Rattle.passes.specs.declared.pass.Pass.{Pass}
@@ -23,7 +25,7 @@ use Rattle.race_runs.proofs.Lists.{has_place}
 use Rattle.race_runs.proofs.Stores.{ClocksRise, no_clocks_fall, timely_clocks_rise}
 use Rattle.race_ends.specs.declared.ended.EndedPart.{EndedPart}
 use Rattle.race_ends.specs.HaveRun.{HaveRun, HasStory, clocks_of}
-use Rattle.race_ends.specs.Raced.{IsGathered}
+use Rattle.race_ends.specs.Raced.{AreOfClients, IsGathered}
 use Rattle.race_ends.specs.Told.{DumpsRise}
 use Rattle.race_ends.proofs.Members.{all_from_places, fellow_of_second, in_from_place, place_from_in, zip_length, zip_numbered}
 use Rattle.race_ends.proofs.Order.{order_rises}
@@ -44,10 +46,10 @@ pub gathered_behind : (js ks : List AnyKept) (qs ps : List Pass) (ms : List Mome
 gathered_behind js ks qs ps ms places passes g = subst (λ (xs : List AnyKept). IsGathered xs ps ms) places
     (subst (λ (ys : List Pass). IsGathered js ys ms) passes g)
 
-module _ (counts : Counts) (names : List (List ℕ)) (lines : List Line) (ps : List Pass) (ended : List EndedPart) (last : List ReportLine)
-    (run : HaveRun counts names lines ps ended last) where
+module _ {S : Type 0} (P : Programs S) (counts : Counts) (names : List (List ℕ)) (lines : List Line) (ps : List Pass)
+    (ended : List EndedPart) (last : List ReportLine) (run : HaveRun P counts names lines ps ended last) where
   abbrev Has : Pass → Story → Type 0
-  Has = HasStory counts names lines (clocks_of ended)
+  Has = HasStory P counts names lines (clocks_of ended)
 
   count : length run.stories ≡ length names
   count = sym (zip_length Has ps run.stories run.each) ∙ run.number
@@ -69,7 +71,7 @@ module _ (counts : Counts) (names : List (List ℕ)) (lines : List Line) (ps : L
       let number : there.0.actor ≡ actor - 1 + 1 = run.numbered (actor - 1) there.0 there.1 in
       (there.0, contains_from_in ps there.0 (in_from_place ps (actor - 1) there.0 there.1), number ∙ (omega arith))
 
-  story : (i : ℕ) (s : Story) → slice_get run.stories i ≡ Some s → IsStory counts names lines (clocks_of ended) s
+  story : (i : ℕ) (s : Story) → slice_get run.stories i ≡ Some s → IsStory P counts names lines (clocks_of ended) s
   story i s e = let k = kept i s e in k.2.story
 
   of_some_client : (p : Pass) → In p ps → (1 ≤ p.actor) × (p.actor ≤ length names)
@@ -78,6 +80,9 @@ module _ (counts : Counts) (names : List (List ℕ)) (lines : List Line) (ps : L
       let number = run.numbered at.0 p at.1 in
       let within = slice_get_within ps at.0 p at.1 in
       (omega (arith, number), omega (arith, number, within, run.number))
+
+  pub all_known : All (λ p. (1 ≤ p.actor) × (p.actor ≤ length names)) ps
+  all_known = in_all (λ p. (1 ≤ p.actor) × (p.actor ≤ length names)) ps of_some_client
 
   module _ (ks : List AnyKept) (entries : List Moment) (g : IsGathered ks ps entries) where
     trail : (i : ℕ) (s : Story) → slice_get run.stories i ≡ Some s → filter (is_of s.actor) entries ≡ all_moments s.ended s.last
@@ -96,17 +101,17 @@ module _ (counts : Counts) (names : List (List ℕ)) (lines : List Line) (ps : L
 
     known : All (λ m. (1 ≤ actor_of m) × (actor_of m ≤ length run.stories)) entries
     known =
-        let P : Moment → Type 0 = λ m. (1 ≤ actor_of m) × (actor_of m ≤ length run.stories) in
-        All-permutation P (flat_map moments_of ps) entries g.whole (in_all P (flat_map moments_of ps) of_client)
+        let Q : Moment → Type 0 = λ m. (1 ≤ actor_of m) × (actor_of m ≤ length run.stories) in
+        All-permutation Q (flat_map moments_of ps) entries g.whole (in_all Q (flat_map moments_of ps) of_client)
 
-    pub gathered : AreStarted counts ks → AreGathered counts names lines (clocks_of ended) run.stories ks entries
+    pub gathered : AreStarted counts ks → AreGathered P counts names lines (clocks_of ended) run.stories ks entries
     gathered started = record {
       places = run.places;
       asked = run.asked;
       dumps = run.dumps ∙ sym (length-map ended (λ (p : EndedPart). p.clock));
       number = count;
       numbered = numbered;
-      stories = all_from_places (IsStory counts names lines (clocks_of ended)) run.stories story;
+      stories = all_from_places (IsStory P counts names lines (clocks_of ended)) run.stories story;
       rising = order_rises entries g.order;
       trails = all_from_places (λ s. filter (is_of s.actor) entries ≡ all_moments s.ended s.last) run.stories trail;
       known = known;
@@ -116,3 +121,12 @@ module _ (counts : Counts) (names : List (List ℕ)) (lines : List Line) (ps : L
 
     pub dumps : DumpsRise entries 0 ended
     dumps = dumps_rise entries 0 ended (clocks_rise (clocks_of ended) run.stories entries known (λ i s e. (story i s e).timely))
+
+-- the passes are those of the plan's clients
+pub are_of_clients : {S : Type 0} (P : Programs S) (plan : Plan) (ps : List Pass) (ended : List EndedPart) (last : List ReportLine)
+    → HaveRun P plan.counts plan.clients plan.lines ps ended last → AreOfClients plan ps
+are_of_clients P plan ps ended last run = record {
+  different = differ P plan.counts plan.clients plan.lines ps ended last run;
+  known = all_known P plan.counts plan.clients plan.lines ps ended last run;
+  each = each_has_pass P plan.counts plan.clients plan.lines ps ended last run;
+}

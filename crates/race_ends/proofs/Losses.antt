@@ -1,22 +1,35 @@
 -- why a race comes to no end
 use Rattle.std.proofs.Common.{List}
-use Rattle.tect_ids.specs.declared.ids.Counts.{Counts}
+use Rattle.tect_ids.specs.declared.script.Plan.{Plan}
+use Rattle.tect_ids.specs.declared.script.ReportLine.{ReportLine}
+use Rattle.program_forms.specs.Kinds.{Programs}
 use Rattle.place_kit.specs.declared.any.AnyKept.{AnyKept}
 use Rattle.passes.specs.declared.pass.Pass.{Pass}
 use Rattle.place_kit.specs.Started.{AreStarted}
-use Rattle.merge_runs.specs.Merged.{HaveDifferentActors}
+use Rattle.race_ends.specs.declared.ended.EndedPart.{EndedPart}
 use Rattle.race_ends.specs.declared.fault.RaceFault.{RaceFault}
 use Rattle.race_ends.specs.declared.fault.RaceFault.TheVariants.{NoMemory, Split, Astray}
 use Rattle.race_ends.specs.Faults.{IsLossOf, IsRaceFault, IsSplitOf}
+use Rattle.race_ends.specs.HaveRun.{HaveRun, clocks_of}
+use Rattle.race_ends.proofs.Gathered.{are_of_clients}
 
-pub loss_is_fault : (c : Counts) (fault : RaceFault) → IsLossOf c fault → IsRaceFault c fault
-loss_is_fault c NoMemory loss = tt
-loss_is_fault c (Split actor step in_pass in_place) loss = absurd loss
-loss_is_fault c (Astray want found) loss = loss
+pub loss_is_fault : {S : Type 0} (P : Programs S) (plan : Plan) (fault : RaceFault) → IsLossOf plan.counts fault → IsRaceFault P plan fault
+loss_is_fault P plan NoMemory loss = tt
+loss_is_fault P plan (Split actor step in_pass in_place) loss = absurd loss
+loss_is_fault P plan (Astray want found) loss = loss
 
-pub split_is_fault : (c : Counts) (ks : List AnyKept) (ps : List Pass) (fault : RaceFault) → AreStarted c ks → HaveDifferentActors ps
-    → IsSplitOf ks ps fault → IsRaceFault c fault
-split_is_fault c ks ps NoMemory started actors split = tt
-split_is_fault c ks ps (Split actor step in_pass in_place) started actors split = record
-    { places = ks; passes = ps; started = started; actors = actors; differ = split }
-split_is_fault c ks ps (Astray want found) started actors split = absurd split
+module _ {S : Type 0} (P : Programs S) (plan : Plan) (ps : List Pass) (ended : List EndedPart) (last : List ReportLine)
+    (run : HaveRun P plan.counts plan.clients plan.lines ps ended last) (ks : List AnyKept) (started : AreStarted plan.counts ks) where
+  pub split_is_fault : (fault : RaceFault) → IsSplitOf ks ps fault → IsRaceFault P plan fault
+  split_is_fault NoMemory split = tt
+  split_is_fault (Split actor step in_pass in_place) split = record {
+    places = ks;
+    passes = ps;
+    started = started;
+    clients = are_of_clients P plan ps ended last run;
+    clocks = clocks_of ended;
+    stories = run.stories;
+    each = run.each;
+    differ = split;
+  }
+  split_is_fault (Astray want found) split = absurd split

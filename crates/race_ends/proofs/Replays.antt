@@ -33,7 +33,7 @@ after_end s op (answers.HistoryFull p) = refl
 after_end s op _ = refl
 
 after_one : (s : Store) (m : Moment) → stored_after s (event_of m ∷ []) ≡ after_moment s m
-after_one s (Act e) = refl
+after_one s (Act e h) = refl
 after_one s (Local stamp actor (notes.Began op c)) = refl
 after_one s (Local stamp actor (notes.Ended op a)) = after_end s op a
 after_one s (Local stamp actor (notes.Stopped op)) = refl

@@ -1,4 +1,4 @@
 pub mod HaveRun
 pub mod Told
-pub mod Faults
 pub mod Raced
+pub mod Faults

@@ -15,7 +15,7 @@ use Rattle.race_runs.specs.Gathered.{store_at}
 use Rattle.race_ends.specs.declared.ended.EndedPart.{EndedPart}
 
 abbrev pub after_moment : Store → Moment → Store
-after_moment s (Act e) = store_step s e.req
+after_moment s (Act e h) = store_step s e.req
 after_moment s (Local stamp actor note) = s
 
 -- the store after those of the moments that are stamped up to the clock

@@ -13,6 +13,7 @@ use merge_runs::{GatherFault, gather};
 use passes::Pass;
 use place_kit::AnyKept;
 use place_locks::Places;
+use program_calls::Programs;
 use std::alloc::Global;
 use tect_ids::{Plan, ReportLine};
 
@@ -30,7 +31,7 @@ pub struct Raced {
 ///
 /// A race is split where what its clients kept and what its places kept are not the same transactions, and astray where at a place
 /// another machine was found than the one that it was started with. There may be no memory.
-pub fn finish(
+pub fn finish<P: Programs>(
     alloc: Global,
     plan: &Plan,
     places: Places,
@@ -39,9 +40,9 @@ pub fn finish(
     last: Vec<ReportLine>,
 ) -> Result<Raced, RaceFault>
     requires places { places ≡ plan.now.counts }
-    requires run { HaveRun plan.now.counts plan.now.clients plan.now.lines passes.items ended.items last.items }
-    ensures raced { IfOk result (λ raced. IsRaced plan.now raced.places.items raced.passes.items raced.report.items) }
-    ensures fault { IfErr result (IsRaceFault plan.now.counts) }
+    requires run { HaveRun P.rules plan.now.counts plan.now.clients plan.now.lines passes.items ended.items last.items }
+    ensures raced { IfOk result (λ raced. IsRaced P.rules plan.now raced.places.items raced.passes.items raced.report.items) }
+    ensures fault { IfErr result (IsRaceFault P.rules plan.now) }
 {
     let kepts = take_kepts(places)?;
     let report = {

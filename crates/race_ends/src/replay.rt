@@ -14,7 +14,7 @@ fn redo(shards: &mut Shards, moment: &Moment) -> Result<(), NoMemory>
     ensures { OnOk result (shards.new ≡ record shards.old { store = after_moment shards.old.store moment.now }) }
 {
     match moment {
-        Moment::Act(entry) => shards.redo(&entry.req),
+        Moment::Act { entry, .. } => shards.redo(&entry.req),
         Moment::Local { .. } => Ok(()),
     }
 }

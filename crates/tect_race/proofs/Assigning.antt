@@ -11,45 +11,45 @@ use Rattle.tect_race.specs.Ready.{AreAssigned, AreCollected, CanBeCollected}
 use Rattle.tect_race.proofs.Shares.{IsShare, some_at, set_cases, share_last, share_less, share_more, share_some, share_stayed, share_stays}
 use Rattle.tect_race.proofs.Shares.{together}
 
-module _ (w : ℕ) (pos : 0 < w) (rs : List Racer) where
+module _ {S : Type 0} (w : ℕ) (pos : 0 < w) (rs : List (Racer S)) where
   abbrev at : ℕ
   at = length rs % w
 
-  pub worker_within : (old : List Racer) (cs : List Worker) → AreAssigned w old cs → at < length cs
+  pub worker_within : (old : List (Racer S)) (cs : List (Worker S)) → AreAssigned w old cs → at < length cs
   worker_within old cs a = let m = mod-lt (length rs) pos in let e = a.count in omega arith
 
   -- the worker at that place has another share, and the others keep theirs
-  reassigned : (old new : List Racer) (cs : List Worker) (c d : Worker) → AreAssigned w old cs → slice_get cs at ≡ Some c
+  reassigned : (old new : List (Racer S)) (cs : List (Worker S)) (c d : Worker S) → AreAssigned w old cs → slice_get cs at ≡ Some c
       → d.number ≡ c.number
       → IsShare w pos new at d.racers.items
-      → ((k : ℕ) (ys : List Racer) → k < w → k ≢ at → IsShare w pos old k ys → IsShare w pos new k ys) → AreAssigned w new (set cs at d)
+      → ((k : ℕ) (ys : List (Racer S)) → k < w → k ≢ at → IsShare w pos old k ys → IsShare w pos new k ys) → AreAssigned w new (set cs at d)
   reassigned old new cs c d a e number share others = record {
     count = length-set cs at d ∙ a.count;
     numbers = λ k x f. elim (set_cases cs at d k x (worker_within old cs a) f) [
-      | inl h ↦ ap (λ (y : Worker). y.number) h.1 ∙ number ∙ a.numbers at c e ∙ sym h.0
+      | inl h ↦ ap (λ (y : Worker S). y.number) h.1 ∙ number ∙ a.numbers at c e ∙ sym h.0
       | inr h ↦ a.numbers k x h.1
     ];
     each = λ k x f. elim (set_cases cs at d k x (worker_within old cs a) f) [
-      | inl h ↦ subst (λ (y : Worker). IsShare w pos new k y.racers.items) (sym h.1)
+      | inl h ↦ subst (λ (y : Worker S). IsShare w pos new k y.racers.items) (sym h.1)
           (subst (λ j. IsShare w pos new j d.racers.items) (sym h.0) share)
       | inr h ↦ others k x.racers.items (let l = slice_get_within cs k x h.1 in let s = a.count in omega arith) h.0 (a.each k x h.1)
     ];
   }
 
   -- one client more
-  pub assigned_on : (cs : List Worker) (r : Racer) (c d : Worker) → AreAssigned w rs cs → slice_get cs at ≡ Some c → d.number ≡ c.number
+  pub assigned_on : (cs : List (Worker S)) (r : Racer S) (c d : Worker S) → AreAssigned w rs cs → slice_get cs at ≡ Some c → d.number ≡ c.number
       → d.racers.items ≡ c.racers.items ++ r ∷ [] → AreAssigned w (rs ++ r ∷ []) (set cs at d)
   assigned_on cs r c d a e number items =
       reassigned rs (rs ++ r ∷ []) cs c d a e number
-      (subst (λ (ys : List Racer). IsShare w pos (rs ++ r ∷ []) at ys) (sym items) (share_more w pos rs r c.racers.items (a.each at c e)))
+      (subst (λ (ys : List (Racer S)). IsShare w pos (rs ++ r ∷ []) at ys) (sym items) (share_more w pos rs r c.racers.items (a.each at c e)))
       (share_stays w pos rs r)
 
   -- one client less
-  module _ (r : Racer) (cs : List Worker) (a : AreAssigned w (rs ++ r ∷ []) cs) (c : Worker) (e : slice_get cs at ≡ Some c) where
+  module _ (r : Racer S) (cs : List (Worker S)) (a : AreAssigned w (rs ++ r ∷ []) cs) (c : Worker S) (e : slice_get cs at ≡ Some c) where
     pub some_there : 0 < length c.racers.items
     some_there = share_some w pos rs r c.racers.items (a.each at c e)
 
-    module _ (d : Worker) (x : Racer) (number : d.number ≡ c.number) (items : c.racers.items ≡ d.racers.items ++ x ∷ []) where
+    module _ (d : Worker S) (x : Racer S) (number : d.number ≡ c.number) (items : c.racers.items ≡ d.racers.items ++ x ∷ []) where
       pub popped : x ≡ r
       popped = share_last w pos rs r d.racers.items c.racers.items x items (a.each at c e)
 
@@ -68,21 +68,21 @@ split_last (x ∷ y ∷ ys) zero e = absurd (omega arith)
 split_last (x ∷ y ∷ ys) (suc n) e = let s = split_last (y ∷ ys) n (omega arith) in (x ∷ s.0, s.1, ap (λ l. x ∷ l) s.2, ap suc s.3)
 
 -- the clients of the worker at a place
-abbrev items_at : List Worker → ℕ → List Racer
+abbrev items_at : {S : Type 0} → List (Worker S) → ℕ → List (Racer S)
 items_at [] k = []
 items_at (c ∷ cs) zero = c.racers.items
 items_at (c ∷ cs) (suc k) = items_at cs k
 
-items_is : (cs : List Worker) (k : ℕ) (c : Worker) → slice_get cs k ≡ Some c → items_at cs k ≡ c.racers.items
+items_is : {S : Type 0} (cs : List (Worker S)) (k : ℕ) (c : Worker S) → slice_get cs k ≡ Some c → items_at cs k ≡ c.racers.items
 items_is [] k c e = absurd cc
-items_is (x ∷ cs) zero c e = ap (λ (y : Worker). y.racers.items) (same_Some x c e)
+items_is (x ∷ cs) zero c e = ap (λ (y : Worker _). y.racers.items) (same_Some x c e)
 items_is (x ∷ cs) (suc k) c e = items_is cs k c e
 
 -- the clients whose workers these are
-pub collectable : (clients : ℕ) (cs : List Worker) → 0 < length cs → CanBeCollected clients cs
-    → (all : List Racer) × (length all ≡ clients) × AreAssigned (length cs) all cs
+pub collectable : {S : Type 0} (clients : ℕ) (cs : List (Worker S)) → 0 < length cs → CanBeCollected clients cs
+    → (all : List (Racer S)) × (length all ≡ clients) × AreAssigned (length cs) all cs
 collectable clients cs some can =
-    let share : ℕ → List Racer = λ k. items_at cs k in
+    let share : ℕ → List (Racer _) = λ k. items_at cs k in
     let all = together (length cs) some clients share (λ k low. let c = some_at cs k low in
     rw (items_is cs k c.0 c.1) (can.filled k c.0 c.1)) in (
       all.0,
@@ -94,27 +94,27 @@ collectable clients cs some can =
       },
     )
 
-pub collected_none : (w clients : ℕ) (all : List Racer) (cs : List Worker) → length all ≡ clients → AreAssigned w all cs
+pub collected_none : {S : Type 0} (w clients : ℕ) (all : List (Racer S)) (cs : List (Worker S)) → length all ≡ clients → AreAssigned w all cs
     → AreCollected w clients all cs []
 collected_none w clients all cs e a = record
     { before = all; behind = []; whole = sym (append-nil all); left_are = e; assigned = a; taken = refl }
 
-pub collected_all : (w : ℕ) (all : List Racer) (cs : List Worker) (rs : List Racer) → AreCollected w 0 all cs rs → reverse rs ≡ all
+pub collected_all : {S : Type 0} (w : ℕ) (all : List (Racer S)) (cs : List (Worker S)) (rs : List (Racer S)) → AreCollected w 0 all cs rs → reverse rs ≡ all
 collected_all w all cs rs is =
-    ap (λ (l : List Racer). reverse l) is.taken ∙ reverse-reverse is.behind ∙ sym
+    ap (λ (l : List (Racer _)). reverse l) is.taken ∙ reverse-reverse is.behind ∙ sym
     (is.whole ∙ ap (λ l. l ++ is.behind) (none is.before is.left_are))
   where
-    none : (xs : List Racer) → length xs ≡ 0 → xs ≡ []
+    none : {X : Type 0} (xs : List X) → length xs ≡ 0 → xs ≡ []
     none [] e = refl
     none (x ∷ xs) e = absurd (omega arith)
 
-module _ (w : ℕ) (pos : 0 < w) (left : ℕ) (some : 0 < left) (all : List Racer) (cs : List Worker) (rs : List Racer)
+module _ {S : Type 0} (w : ℕ) (pos : 0 < w) (left : ℕ) (some : 0 < left) (all : List (Racer S)) (cs : List (Worker S)) (rs : List (Racer S))
     (is : AreCollected w left all cs rs) where
-  abbrev split : (front : List Racer) × (x : Racer) × (is.before ≡ front ++ x ∷ []) × (length front ≡ left - 1)
+  abbrev split : (front : List (Racer S)) × (x : Racer S) × (is.before ≡ front ++ x ∷ []) × (length front ≡ left - 1)
   split = split_last is.before (left - 1) (let e = is.left_are in omega arith)
 
   still : AreAssigned w (split.0 ++ split.1 ∷ []) cs
-  still = subst (λ (l : List Racer). AreAssigned w l cs) split.2 is.assigned
+  still = subst (λ (l : List (Racer S)). AreAssigned w l cs) split.2 is.assigned
 
   at_is : length split.0 % w ≡ (left - 1) % w
   at_is = ap (λ n. n % w) split.3
@@ -122,14 +122,14 @@ module _ (w : ℕ) (pos : 0 < w) (left : ℕ) (some : 0 < left) (all : List Race
   pub collected_within : (left - 1) % w < length cs
   collected_within = subst (λ k. k < length cs) at_is (worker_within w pos split.0 (split.0 ++ split.1 ∷ []) cs still)
 
-  module _ (c : Worker) (e : slice_get cs ((left - 1) % w) ≡ Some c) where
+  module _ (c : Worker S) (e : slice_get cs ((left - 1) % w) ≡ Some c) where
     there : slice_get cs (length split.0 % w) ≡ Some c
     there = subst (λ k. slice_get cs k ≡ Some c) (sym at_is) e
 
     pub collected_some : 0 < length c.racers.items
     collected_some = some_there w pos split.0 split.1 cs still c there
 
-    pub collected_on : (d : Worker) (x : Racer) (now : List Racer) → d.number ≡ c.number → c.racers.items ≡ d.racers.items ++ x ∷ []
+    pub collected_on : (d : Worker S) (x : Racer S) (now : List (Racer S)) → d.number ≡ c.number → c.racers.items ≡ d.racers.items ++ x ∷ []
         → now ≡ rs ++ x ∷ []
         → AreCollected w (left - 1) all (set cs ((left - 1) % w) d) now
     collected_on d x now number items taken =
@@ -138,7 +138,7 @@ module _ (w : ℕ) (pos : 0 < w) (left : ℕ) (some : 0 < left) (all : List Race
           before = split.0;
           behind = x ∷ is.behind;
           whole = is.whole ∙ ap (λ l. l ++ is.behind) split.2 ∙ append_assoc split.0 (split.1 ∷ []) is.behind
-              ∙ ap (λ (y : Racer). split.0 ++ y ∷ is.behind) (sym same);
+              ∙ ap (λ (y : Racer S). split.0 ++ y ∷ is.behind) (sym same);
           left_are = split.3;
           assigned = subst (λ k. AreAssigned w split.0 (set cs k d)) at_is
               (unassigned w pos split.0 split.1 cs still c there d x number items);

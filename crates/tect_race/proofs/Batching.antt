@@ -6,6 +6,7 @@ use Rattle.std.proofs.lemmas.List.Elements.{All-nil, All-cons, All-head, All-tai
 use Rattle.std.proofs.lemmas.Option.{slice_get_within, get_or_from_slice_get}
 use Rattle.tect_ids.specs.declared.ids.Counts.{Counts}
 use Rattle.tect_ids.specs.declared.script.Line.{Line}
+use Rattle.program_forms.specs.Kinds.{Programs}
 use Rattle.tect_race.specs.declared.workers.Worker.{Worker}
 use Rattle.race_ends.specs.declared.fault.RaceFault.{RaceFault}
 use Rattle.race_ends.specs.Faults.{IsLossOf}
@@ -22,12 +23,12 @@ all_back P [] ys all = all
 all_back P (x ∷ xs) ys all = all_back P xs ys (All-tail P x (xs ++ ys) all)
 
 -- what all workers meet those of each batch meet
-pub each_batch : (P : Worker → Type 0) (bs : List (Vec Worker Global)) → All P (flat_map (λ (b : Vec Worker Global). b.items) bs)
+pub each_batch : {S : Type 0} (P : Worker S → Type 0) (bs : List (Vec (Worker S) Global)) → All P (flat_map (λ (b : Vec (Worker S) Global). b.items) bs)
     → All (λ b. All P b.items) bs
-each_batch P [] all = All-nil (λ (b : Vec Worker Global). All P b.items)
+each_batch P [] all = All-nil (λ (b : Vec (Worker _) Global). All P b.items)
 each_batch P (b ∷ bs) all =
-    All-cons (λ (b : Vec Worker Global). All P b.items) b bs (all_front P b.items (flat_map (λ (b : Vec Worker Global). b.items) bs) all)
-    (each_batch P bs (all_back P b.items (flat_map (λ (b : Vec Worker Global). b.items) bs) all))
+    All-cons (λ (b : Vec (Worker _) Global). All P b.items) b bs (all_front P b.items (flat_map (λ (b : Vec (Worker _) Global). b.items) bs) all)
+    (each_batch P bs (all_back P b.items (flat_map (λ (b : Vec (Worker _) Global). b.items) bs) all))
 
 pub zip_append : {A B : Type 0} → (R : A → B → Type 0) (xs us : List A) (ys vs : List B) → AllZip R xs ys → AllZip R us vs
     → AllZip R (xs ++ us) (ys ++ vs)
@@ -40,54 +41,54 @@ pub if_both : {A E : Type 0} → {P Q S : A → Type 0} → (o : Result A E) →
 if_both (Ok v) f h k = f v h k
 if_both (Err e) f h k = tt
 
-module _ (counts : Counts) (names : List (List ℕ)) (w : ℕ) (ls later : List Line) where
-  abbrev pub Came : Vec Worker Global → Result (Vec Worker Global) RaceFault → Type 0
-  Came batch r = BatchCame counts names w ls later batch.items r
+module _ {S : Type 0} (P : Programs S) (counts : Counts) (names : List (List ℕ)) (w : ℕ) (ls later : List Line) where
+  abbrev pub Came : Vec (Worker S) Global → Result (Vec (Worker S) Global) RaceFault → Type 0
+  Came batch r = BatchCame P counts names w ls later batch.items r
 
-  pub all_came : (bs : List (Vec Worker Global)) (rs : List (Result (Vec Worker Global) RaceFault)) → length rs ≡ length bs
-      → ((i : ℕ) (b : Vec Worker Global) (r : Result (Vec Worker Global) RaceFault) → i < length bs → Came (get_or bs i b) (get_or rs i r))
+  pub all_came : (bs : List (Vec (Worker S) Global)) (rs : List (Result (Vec (Worker S) Global) RaceFault)) → length rs ≡ length bs
+      → ((i : ℕ) (b : Vec (Worker S) Global) (r : Result (Vec (Worker S) Global) RaceFault) → i < length bs → Came (get_or bs i b) (get_or rs i r))
       → AllZip Came bs rs
   all_came bs rs l h =
       zip_from Came bs rs l (λ i b r e f.
-      subst (λ (x : Vec Worker Global). Came x r) (get_or_from_slice_get bs i b b e)
-      (subst (λ (y : Result (Vec Worker Global) RaceFault). Came (get_or bs i b) y) (get_or_from_slice_get rs i r r f)
+      subst (λ (x : Vec (Worker S) Global). Came x r) (get_or_from_slice_get bs i b b e)
+      (subst (λ (y : Result (Vec (Worker S) Global) RaceFault). Came (get_or bs i b) y) (get_or_from_slice_get rs i r r f)
       (h i b r (slice_get_within bs i b e))))
 
-  stray_of : (b : Vec Worker Global) (r : Result (Vec Worker Global) RaceFault) → Came b r → IfErr r (IsLossOf counts)
+  stray_of : (b : Vec (Worker S) Global) (r : Result (Vec (Worker S) Global) RaceFault) → Came b r → IfErr r (IsLossOf counts)
   stray_of b (Ok d) came = tt
   stray_of b (Err e) came = came.so
 
-  came_strays : (bs : List (Vec Worker Global)) (rs : List (Result (Vec Worker Global) RaceFault)) → AllZip Came bs rs
+  came_strays : (bs : List (Vec (Worker S) Global)) (rs : List (Result (Vec (Worker S) Global) RaceFault)) → AllZip Came bs rs
       → AllByRecursion (λ r. IfErr r (IsLossOf counts)) rs
   came_strays [] [] z = tt
   came_strays [] (r ∷ rs) z = absurd z
   came_strays (b ∷ bs) [] z = absurd z
   came_strays (b ∷ bs) (r ∷ rs) z = (stray_of b r z.0, came_strays bs rs z.1)
 
-  pub strays : (bs : List (Vec Worker Global)) (rs : List (Result (Vec Worker Global) RaceFault)) → AllZip Came bs rs
+  pub strays : (bs : List (Vec (Worker S) Global)) (rs : List (Result (Vec (Worker S) Global) RaceFault)) → AllZip Came bs rs
       → All (λ r. IfErr r (IsLossOf counts)) rs
   strays bs rs z = All-from_recursion (λ r. IfErr r (IsLossOf counts)) rs (came_strays bs rs z)
 
-  ended_of : (b : Vec Worker Global) (r : Result (Vec Worker Global) RaceFault) → Came b r → IsOk r
-      → AllZip (WorkerEnds counts names w ls later) b.items (ended_workers r)
+  ended_of : (b : Vec (Worker S) Global) (r : Result (Vec (Worker S) Global) RaceFault) → Came b r → IsOk r
+      → AllZip (WorkerEnds P counts names w ls later) b.items (ended_workers r)
   ended_of b (Ok d) came ok = came.so
   ended_of b (Err e) came ok = absurd (cc)
 
-  all_ended : (bs : List (Vec Worker Global)) (rs : List (Result (Vec Worker Global) RaceFault)) → AllZip Came bs rs → All (λ r. IsOk r) rs
-      → AllZip (WorkerEnds counts names w ls later) (flat_map (λ (b : Vec Worker Global). b.items) bs) (flat_map ended_workers rs)
+  all_ended : (bs : List (Vec (Worker S) Global)) (rs : List (Result (Vec (Worker S) Global) RaceFault)) → AllZip Came bs rs → All (λ r. IsOk r) rs
+      → AllZip (WorkerEnds P counts names w ls later) (flat_map (λ (b : Vec (Worker S) Global). b.items) bs) (flat_map ended_workers rs)
   all_ended [] [] z ok = tt
   all_ended [] (r ∷ rs) z ok = absurd z
   all_ended (b ∷ bs) [] z ok = absurd z
   all_ended (b ∷ bs) (r ∷ rs) z ok =
-      zip_append (WorkerEnds counts names w ls later) b.items (flat_map (λ (b : Vec Worker Global). b.items) bs) (ended_workers r)
+      zip_append (WorkerEnds P counts names w ls later) b.items (flat_map (λ (b : Vec (Worker S) Global). b.items) bs) (ended_workers r)
       (flat_map ended_workers rs)
-      (ended_of b r z.0 (All-head (λ (r : Result (Vec Worker Global) RaceFault). IsOk r) r rs ok))
-      (all_ended bs rs z.1 (All-tail (λ (r : Result (Vec Worker Global) RaceFault). IsOk r) r rs ok))
+      (ended_of b r z.0 (All-head (λ (r : Result (Vec (Worker S) Global) RaceFault). IsOk r) r rs ok))
+      (all_ended bs rs z.1 (All-tail (λ (r : Result (Vec (Worker S) Global) RaceFault). IsOk r) r rs ok))
 
-  pub workers_ended : (cs ds : List Worker) (bs : List (Vec Worker Global)) (rs : List (Result (Vec Worker Global) RaceFault))
+  pub workers_ended : (cs ds : List (Worker S)) (bs : List (Vec (Worker S) Global)) (rs : List (Result (Vec (Worker S) Global) RaceFault))
       → AreBatches w ls cs bs → AllZip Came bs rs → All (λ r. IsOk r) rs → ds ≡ flat_map ended_workers rs
-      → AllZip (WorkerEnds counts names w ls later) cs ds
+      → AllZip (WorkerEnds P counts names w ls later) cs ds
   workers_ended cs ds bs rs are z ok is =
-      subst (λ (l : List Worker). AllZip (WorkerEnds counts names w ls later) l ds) are.joined
-      (subst (λ (l : List Worker). AllZip (WorkerEnds counts names w ls later) (flat_map (λ (b : Vec Worker Global). b.items) bs) l)
+      subst (λ (l : List (Worker S)). AllZip (WorkerEnds P counts names w ls later) l ds) are.joined
+      (subst (λ (l : List (Worker S)). AllZip (WorkerEnds P counts names w ls later) (flat_map (λ (b : Vec (Worker S) Global). b.items) bs) l)
       (sym is) (all_ended bs rs z ok))

@@ -6,6 +6,7 @@ use Rattle.std.proofs.lemmas.Option.{slice_get_within, slice_get-get_or, get_or_
 use Rattle.std.proofs.Math.Nat.{mod-lt}
 use Rattle.tect_ids.specs.declared.ids.Counts.{Counts}
 use Rattle.tect_ids.specs.declared.script.Line.{Line}
+use Rattle.program_forms.specs.Kinds.{Programs}
 use Rattle.players.specs.declared.racer.Racer.{Racer}
 use Rattle.tect_race.specs.declared.workers.Worker.{Worker}
 use Rattle.tect_race.specs.Lines.{Ran}
@@ -52,28 +53,28 @@ all_from P xs h = λ n d l. h n (get_or xs n d) (slice_get-get_or xs n d l)
 
 -- ---- the clients before and after the lines
 
-module _ (w : ℕ) (pos : 0 < w) where
+module _ {S : Type 0} (P : Programs S) (w : ℕ) (pos : 0 < w) where
   -- the worker of a client
-  worker_of : (rs : List Racer) (cs : List Worker) → AreAssigned w rs cs → (i : ℕ) (r : Racer) → slice_get rs i ≡ Some r
-      → (c : Worker) × (slice_get cs (i % w) ≡ Some c) × (slice_get c.racers.items (i / w) ≡ Some r)
+  worker_of : (rs : List (Racer S)) (cs : List (Worker S)) → AreAssigned w rs cs → (i : ℕ) (r : Racer S) → slice_get rs i ≡ Some r
+      → (c : Worker S) × (slice_get cs (i % w) ≡ Some c) × (slice_get c.racers.items (i / w) ≡ Some r)
   worker_of rs cs a i r e =
       let c = some_at cs (i % w) (let m = mod-lt i pos in let s = a.count in omega arith) in
       (c.0, c.1, a.each (i % w) c.0 c.1 (i / w) ∙ ap (slice_get rs) (stands w i) ∙ e)
 
-  pub racers_ran : (names : List (List ℕ)) (ls : List Line) (rs ts : List Racer) (cs ds : List Worker) → AreAssigned w rs cs
-      → AreAssigned w ts ds → length ts ≡ length rs → WorkersRan names ls cs ds → RacersRan names ls rs ts
-  racers_ran names ls rs ts cs ds a b same ran = zip_from (Ran names ls) rs ts same (λ i r t e f.
+  pub racers_ran : (names : List (List ℕ)) (ls : List Line) (rs ts : List (Racer S)) (cs ds : List (Worker S)) → AreAssigned w rs cs
+      → AreAssigned w ts ds → length ts ≡ length rs → WorkersRan P names ls cs ds → RacersRan P names ls rs ts
+  racers_ran names ls rs ts cs ds a b same ran = zip_from (Ran P names ls) rs ts same (λ i r t e f.
       let c = worker_of rs cs a i r e in
       let d = worker_of ts ds b i t f in
-      (zip_at (WorkerRan names ls) cs ds (i % w) c.0 d.0 ran c.1 d.1).each (i / w) r t c.2 d.2)
+      (zip_at (WorkerRan P names ls) cs ds (i % w) c.0 d.0 ran c.1 d.1).each (i / w) r t c.2 d.2)
 
   module _ (counts : Counts) (clients : ℕ) (ls : List Line) where
-    pub workers_ready : (rs : List Racer) (cs : List Worker) → length rs ≡ clients → AreRacers counts ls rs → AreAssigned w rs cs
-        → AreWorkers counts clients w ls cs
+    pub workers_ready : (rs : List (Racer S)) (cs : List (Worker S)) → length rs ≡ clients → AreRacers P counts ls rs → AreAssigned w rs cs
+        → AreWorkers P counts clients w ls cs
     workers_ready rs cs all racers a = record {
       count = a.count;
       numbers = a.numbers;
-      workers = all_from (IsWorker counts clients w ls) cs (λ k c e.
+      workers = all_from (IsWorker P counts clients w ls) cs (λ k c e.
           let number = a.numbers k c e in
           record {
             number = (let l = slice_get_within cs k c e in let s = a.count in omega arith);
@@ -85,12 +86,12 @@ module _ (w : ℕ) (pos : 0 < w) where
           });
     }
 
-    worker_at : (ds : List Worker) → AreWorkers counts clients w ls ds → (k : ℕ) (d : Worker) → slice_get ds k ≡ Some d
-        → IsWorker counts clients w ls d
-    worker_at ds workers k d e = all_at (IsWorker counts clients w ls) ds k d workers.workers e
+    worker_at : (ds : List (Worker S)) → AreWorkers P counts clients w ls ds → (k : ℕ) (d : Worker S) → slice_get ds k ≡ Some d
+        → IsWorker P counts clients w ls d
+    worker_at ds workers k d e = all_at (IsWorker P counts clients w ls) ds k d workers.workers e
 
-    pub racers_ready : (ts : List Racer) (ds : List Worker) → AreAssigned w ts ds → AreWorkers counts clients w ls ds
-        → AreRacers counts ls ts
+    pub racers_ready : (ts : List (Racer S)) (ds : List (Worker S)) → AreAssigned w ts ds → AreWorkers P counts clients w ls ds
+        → AreRacers P counts ls ts
     racers_ready ts ds a workers = record {
       own = λ i t f.
           let d = worker_of ts ds a i t f in
@@ -99,7 +100,7 @@ module _ (w : ℕ) (pos : 0 < w) where
       ready = λ i t f. let d = worker_of ts ds a i t f in (worker_at ds workers (i % w) d.0 d.1).ready (i / w) t d.2;
     }
 
-    pub can_collect : (ds : List Worker) → AreWorkers counts clients w ls ds → CanBeCollected clients ds
+    pub can_collect : (ds : List (Worker S)) → AreWorkers P counts clients w ls ds → CanBeCollected clients ds
     can_collect ds workers = record {
       numbers = workers.numbers;
       filled = λ k d e slot.
@@ -110,26 +111,26 @@ module _ (w : ℕ) (pos : 0 < w) where
 
 -- ---- what the workers came to
 
-pub ended_ran : (counts : Counts) (names : List (List ℕ)) (w : ℕ) (ls later : List Line) (cs ds : List Worker)
-    → AllZip (WorkerEnds counts names w ls later) cs ds → WorkersRan names ls cs ds
-ended_ran counts names w ls later [] [] z = tt
-ended_ran counts names w ls later [] (d ∷ ds) z = absurd z
-ended_ran counts names w ls later (c ∷ cs) [] z = absurd z
-ended_ran counts names w ls later (c ∷ cs) (d ∷ ds) z = ((z.0).ran, ended_ran counts names w ls later cs ds z.1)
+pub ended_ran : {S : Type 0} (P : Programs S) (counts : Counts) (names : List (List ℕ)) (w : ℕ) (ls later : List Line) (cs ds : List (Worker S))
+    → AllZip (WorkerEnds P counts names w ls later) cs ds → WorkersRan P names ls cs ds
+ended_ran P counts names w ls later [] [] z = tt
+ended_ran P counts names w ls later [] (d ∷ ds) z = absurd z
+ended_ran P counts names w ls later (c ∷ cs) [] z = absurd z
+ended_ran P counts names w ls later (c ∷ cs) (d ∷ ds) z = ((z.0).ran, ended_ran P counts names w ls later cs ds z.1)
 
-pub ended_ready : (counts : Counts) (names : List (List ℕ)) (w : ℕ) (ls ks later : List Line) (cs ds : List Worker)
-    → AreWorkers counts (length names) w ks cs → AllZip (WorkerEnds counts names w ls later) cs ds
-    → AreWorkers counts (length names) w later ds
-ended_ready counts names w ls ks later cs ds workers z =
-    let same = zip_length (WorkerEnds counts names w ls later) cs ds z in
+pub ended_ready : {S : Type 0} (P : Programs S) (counts : Counts) (names : List (List ℕ)) (w : ℕ) (ls ks later : List Line) (cs ds : List (Worker S))
+    → AreWorkers P counts (length names) w ks cs → AllZip (WorkerEnds P counts names w ls later) cs ds
+    → AreWorkers P counts (length names) w later ds
+ended_ready P counts names w ls ks later cs ds workers z =
+    let same = zip_length (WorkerEnds P counts names w ls later) cs ds z in
     record {
       count = same ∙ workers.count;
       numbers = λ k d e.
           let c = also_at ds cs k d e (sym same) in
-          (zip_at (WorkerEnds counts names w ls later) cs ds k c.0 d z c.1 e).ran.number ∙ workers.numbers k c.0 c.1;
-      workers = all_from (IsWorker counts (length names) w later) ds (λ k d e.
+          (zip_at (WorkerEnds P counts names w ls later) cs ds k c.0 d z c.1 e).ran.number ∙ workers.numbers k c.0 c.1;
+      workers = all_from (IsWorker P counts (length names) w later) ds (λ k d e.
           let c = also_at ds cs k d e (sym same) in
-          (zip_at (WorkerEnds counts names w ls later) cs ds k c.0 d z c.1 e).ready);
+          (zip_at (WorkerEnds P counts names w ls later) cs ds k c.0 d z c.1 e).ready);
     }
 
 pub if_ok : {A E : Type 0} → {P Q : A → Type 0} → (o : Result A E) → ((v : A) → P v → Q v) → IfOk o P → IfOk o Q

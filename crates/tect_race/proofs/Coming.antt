@@ -10,6 +10,7 @@ use Rattle.tect_ids.specs.declared.ids.Counts.{Counts}
 use Rattle.tect_ids.specs.declared.script.Line.{Line}
 use Rattle.tect_ids.specs.declared.script.Line.TheVariants as lines
 use Rattle.tect_ids.specs.declared.script.ReportLine.{ReportLine}
+use Rattle.program_forms.specs.Kinds.{Programs}
 use Rattle.race_runs.specs.Gathered.{IsLineOf}
 use Rattle.passes.specs.declared.pass.Pass.{Pass}
 use Rattle.players.specs.declared.racer.Racer.{Racer}
@@ -31,10 +32,10 @@ of_client n (lines.Store counts) is no_dump = absurd is
 of_client n lines.Sweep is no_dump = absurd is
 of_client n (lines.Lose disk) is no_dump = absurd is
 
-module _ (counts : Counts) (names : List (List ℕ)) (ls : List Line) (p : Progress) where
+module _ {S : Type 0} (P : Programs S) (counts : Counts) (names : List (List ℕ)) (ls : List Line) (p : Progress S) where
   -- a line that is no dump is the part's next
   pub come_past : (number : ℕ) (line : Line) → number < length ls → line ≡ get_or ls number line → (line ≡ lines.Dump → ⊥)
-      → All (IsLineOf (length names)) ls → HasCome counts names ls number p → HasCome counts names ls (number + 1) p
+      → All (IsLineOf (length names)) ls → HasCome P counts names ls number p → HasCome P counts names ls (number + 1) p
   come_past number line within read no_dump asked come =
       let is : IsLineOf (length names) line = subst (IsLineOf (length names)) (sym read) (asked number line within) in
       record {
@@ -45,33 +46,33 @@ module _ (counts : Counts) (names : List (List ℕ)) (ls : List Line) (p : Progr
       }
 
   -- a dump ends the part before it
-  pub come_on : (ts us : List Racer) (dump : ℕ) (e : EndedPart) → slice_get ls dump ≡ Some lines.Dump → HasCome counts names ls dump p
-      → RacersRan names (slice_range ls p.start dump) p.racers.items ts → AreRacers counts (drop dump ls) ts
-      → All (λ r. r.client.clock ≤ e.clock) ts → AllClosed e.clock ts us → e.answers.items ≡ flat_map (λ r. r.answers.items) ts
-      → Stood counts names (take (dump + 1) ls) (drop (dump + 1) ls) e.clock us (p.ended.items ++ e ∷ [])
+  pub come_on : (ts us : List (Racer S)) (dump : ℕ) (e : EndedPart) → slice_get ls dump ≡ Some lines.Dump → HasCome P counts names ls dump p
+      → RacersRan P names (slice_range ls p.start dump) p.racers.items ts → AreRacers P counts (drop dump ls) ts
+      → All (λ r. r.client.clock ≤ e.clock) ts → AllClosed P e.clock ts us → e.answers.items ≡ flat_map (λ r. r.answers.items) ts
+      → Stood P counts names (take (dump + 1) ls) (drop (dump + 1) ls) e.clock us (p.ended.items ++ e ∷ [])
   come_on ts us dump e here come ran ready high closed told =
       let within : dump < length ls = slice_get_within ls dump lines.Dump here in
       let read = get_or_from_slice_get ls dump lines.Dump lines.Dump here in
       let left : drop dump ls ≡ lines.Dump
       ∷ drop (dump + 1) ls = drop_more dump ls lines.Dump within ∙ ap (λ x. x ∷ drop (dump + 1) ls) read in
       let own = recursion_from_All (IsOfClient (length names)) (slice_range ls p.start dump) come.part in
-      let stood = stood_on counts names (take p.start ls) (drop p.start ls) (slice_range ls p.start dump) p.clock p.racers.items ts us
+      let stood = stood_on P counts names (take p.start ls) (drop p.start ls) (slice_range ls p.start dump) p.clock p.racers.items ts us
       p.ended.items come.stood ran
-      (drop (dump + 1) ls) e (subst (λ (l : List Line). AreRacers counts l ts) left ready) own high closed told in
-      subst (λ (l : List Line). Stood counts names l (drop (dump + 1) ls) e.clock us (p.ended.items ++ e ∷ []))
+      (drop (dump + 1) ls) e (subst (λ (l : List Line). AreRacers P counts l ts) left ready) own high closed told in
+      subst (λ (l : List Line). Stood P counts names l (drop (dump + 1) ls) e.clock us (p.ended.items ++ e ∷ []))
       (sym (lines_to ls p.start dump lines.Dump come.low within read)) stood
 
   -- the script ends the last part
-  pub come_to_end : (ts us : List Racer) (ps : List Pass) (k : ℕ) (last : List ReportLine) → HasPlaces counts
-      → All (IsLineOf (length names)) ls → HasCome counts names ls (length ls) p
-      → RacersRan names (slice_range ls p.start (length ls)) p.racers.items ts
-      → AreRacers counts (drop (length ls) ls) ts → k < 2 ^ 63 → All (λ r. r.client.clock ≤ k) ts → AllClosed k ts us
-      → AllZip IsPassOf us ps → last ≡ flat_map (λ r. r.answers.items) ts → HaveRun counts names ls ps p.ended.items last
+  pub come_to_end : (ts us : List (Racer S)) (ps : List Pass) (k : ℕ) (last : List ReportLine) → HasPlaces counts
+      → All (IsLineOf (length names)) ls → HasCome P counts names ls (length ls) p
+      → RacersRan P names (slice_range ls p.start (length ls)) p.racers.items ts
+      → AreRacers P counts (drop (length ls) ls) ts → k < 2 ^ 63 → All (λ r. r.client.clock ≤ k) ts → AllClosed P k ts us
+      → AllZip IsPassOf us ps → last ≡ flat_map (λ r. r.answers.items) ts → HaveRun P counts names ls ps p.ended.items last
   come_to_end ts us ps k last places asked come ran ready low high closed taken told =
       let part : List Line = slice_range ls p.start (length ls) in
       let all : part ≡ drop p.start ls = take_all (length ls - p.start) (drop p.start ls) (let d = length-drop p.start ls in omega arith) in
       let whole : take p.start ls ++ part ≡ ls = ap (λ l. take p.start ls ++ l) all ∙ take-append-drop p.start ls in
-      let run = run_ended counts names (take p.start ls) (drop p.start ls) part p.clock p.racers.items ts us p.ended.items come.stood ran
+      let run = run_ended P counts names (take p.start ls) (drop p.start ls) part p.clock p.racers.items ts us p.ended.items come.stood ran
       (drop (length ls) ls) k ps last places (subst (All (IsLineOf (length names))) (sym whole) asked) ready
       (recursion_from_All (IsOfClient (length names)) part come.part) low high closed taken told in
-      subst (λ (l : List Line). HaveRun counts names l ps p.ended.items last) whole run
+      subst (λ (l : List Line). HaveRun P counts names l ps p.ended.items last) whole run

@@ -14,9 +14,9 @@ one_if true = 1
 one_if false = 0
 
 -- These workers are cut so far: into the batches that are done, and one more, which has a worker with a line or is the first one.
-pub record IsCut (worker_count : ℕ) (ls : List Line) (cs : List Worker) (done : List (Vec Worker Global)) (batch : List Worker)
+pub record IsCut {S : Type 0} (worker_count : ℕ) (ls : List Line) (cs : List (Worker S)) (done : List (Vec (Worker S) Global)) (batch : List (Worker S))
     (busy : Bool) : Type 0 where
-  pub joined : flat_map (λ (b : Vec Worker Global). b.items) done ++ batch ≡ cs
+  pub joined : flat_map (λ (b : Vec (Worker S) Global). b.items) done ++ batch ≡ cs
   pub alone : All (λ b. busy_count worker_count ls b.items ≤ 1) done
   pub last : busy_count worker_count ls batch ≡ one_if busy
   pub count : length done + one_if busy ≡ busy_count worker_count ls cs
@@ -55,11 +55,11 @@ cut_none worker_count ls = record {
   first = λ h. refl;
 }
 
-module _ (worker_count : ℕ) (ls : List Line) where
-  one_count : (c : Worker) → busy_count worker_count ls (c ∷ []) ≡ one_if (has_line worker_count ls c)
+module _ {S : Type 0} (worker_count : ℕ) (ls : List Line) where
+  one_count : (c : Worker S) → busy_count worker_count ls (c ∷ []) ≡ one_if (has_line worker_count ls c)
   one_count c = elim (has_line worker_count ls c) as (λ b. length (cond b (c ∷ []) []) ≡ one_if b) [ true ↦ refl | false ↦ refl ]
 
-  count_on : (cs : List Worker) (c : Worker)
+  count_on : (cs : List (Worker S)) (c : Worker S)
       → busy_count worker_count ls (cs ++ c ∷ []) ≡ busy_count worker_count ls cs + one_if (has_line worker_count ls c)
   count_on [] c = let o : busy_count worker_count ls (c ∷ []) ≡ one_if (has_line worker_count ls c) = one_count c in omega arith
   count_on (x ∷ xs) c =
@@ -73,7 +73,7 @@ module _ (worker_count : ℕ) (ls : List Line) where
         | false ↦ more
       ]
 
-  module _ (cs : List Worker) (done : List (Vec Worker Global)) (batch : Vec Worker Global) (busy : Bool)
+  module _ (cs : List (Worker S)) (done : List (Vec (Worker S) Global)) (batch : Vec (Worker S) Global) (busy : Bool)
       (is : IsCut worker_count ls cs done batch.items busy) where
     few : busy_count worker_count ls batch.items ≤ 1
     few =
@@ -82,16 +82,16 @@ module _ (worker_count : ℕ) (ls : List Line) where
         omega arith
 
     all_done : All (λ b. busy_count worker_count ls b.items ≤ 1) (done ++ batch ∷ [])
-    all_done = All-push (λ (b : Vec Worker Global). busy_count worker_count ls b.items ≤ 1) done batch is.alone few
+    all_done = All-push (λ (b : Vec (Worker S) Global). busy_count worker_count ls b.items ≤ 1) done batch is.alone few
 
-    whole : flat_map (λ (b : Vec Worker Global). b.items) (done ++ batch ∷ []) ≡ cs
-    whole = flat_map-snoc (λ (b : Vec Worker Global). b.items) done batch ∙ is.joined
+    whole : flat_map (λ (b : Vec (Worker S) Global). b.items) (done ++ batch ∷ []) ≡ cs
+    whole = flat_map-snoc (λ (b : Vec (Worker S) Global). b.items) done batch ∙ is.joined
 
     longer : length (done ++ batch ∷ []) ≡ length done + 1
     longer = length-append done (batch ∷ [])
 
     -- a worker goes into the batch
-    pub cut_in : (c : Worker) (items : List Worker) (b : Bool) → b ≡ has_line worker_count ls c → items ≡ batch.items ++ c ∷ []
+    pub cut_in : (c : Worker S) (items : List (Worker S)) (b : Bool) → b ≡ has_line worker_count ls c → items ≡ batch.items ++ c ∷ []
         → (b && busy) ≡ false → IsCut worker_count ls (cs ++ c ∷ []) done items (busy || b)
     cut_in c items b e i apart =
         let t : one_if busy + one_if b ≡ one_if (busy || b) = tally busy b apart in
@@ -103,8 +103,8 @@ module _ (worker_count : ℕ) (ls : List Line) where
         let l : busy_count worker_count ls batch.items ≡ one_if busy = is.last in
         let n : length done + one_if busy ≡ busy_count worker_count ls cs = is.count in
         record {
-          joined = ap (λ l. flat_map (λ (b : Vec Worker Global). b.items) done ++ l) i ∙ sym
-              (append_assoc (flat_map (λ (b : Vec Worker Global). b.items) done) batch.items (c ∷ [])) ∙ ap (λ l. l ++ c ∷ []) is.joined;
+          joined = ap (λ l. flat_map (λ (b : Vec (Worker S) Global). b.items) done ++ l) i ∙ sym
+              (append_assoc (flat_map (λ (b : Vec (Worker S) Global). b.items) done) batch.items (c ∷ [])) ∙ ap (λ l. l ++ c ∷ []) is.joined;
           alone = is.alone;
           last = omega arith;
           count = omega arith;
@@ -112,7 +112,7 @@ module _ (worker_count : ℕ) (ls : List Line) where
         }
 
     -- or into a new one
-    pub cut_off : (c : Worker) (items : List Worker) (b : Bool) → b ≡ has_line worker_count ls c → items ≡ c ∷ [] → (b && busy) ≡ true
+    pub cut_off : (c : Worker S) (items : List (Worker S)) (b : Bool) → b ≡ has_line worker_count ls c → items ≡ c ∷ [] → (b && busy) ≡ true
         → IsCut worker_count ls (cs ++ c ∷ []) (done ++ batch ∷ []) items (busy || b)
     cut_off c items b e i twice =
         let two = both busy b twice in
@@ -127,7 +127,7 @@ module _ (worker_count : ℕ) (ls : List Line) where
         let l : length (done ++ batch ∷ []) ≡ length done + 1 = longer in
         let n : length done + one_if busy ≡ busy_count worker_count ls cs = is.count in
         record {
-          joined = ap (λ l. flat_map (λ (b : Vec Worker Global). b.items) (done ++ batch ∷ []) ++ l) i ∙ ap (λ l. l ++ c ∷ []) whole;
+          joined = ap (λ l. flat_map (λ (b : Vec (Worker S) Global). b.items) (done ++ batch ∷ []) ++ l) i ∙ ap (λ l. l ++ c ∷ []) whole;
           alone = all_done;
           last = omega arith;
           count = omega arith;

@@ -1,18 +1,21 @@
 -- What a client's story is when it is finished.
 use Rattle.std.proofs.Common.{◌≡◌, ℕ, ◌<◌, ◌≤◌, ◌^◌, List, [], ◌∷◌, ◌++◌, sym, ap, subst, ◌∙◌, arith}
-use Rattle.std.specs.List.{All, AllByRecursion}
-use Rattle.std.proofs.lemmas.List.Elements.{All-from_recursion, recursion_from_All}
+use Rattle.std.specs.List.{All}
+use Rattle.std.proofs.lemmas.List.Elements.{All-from_recursion}
 use Rattle.tect_ids.specs.declared.ids.Counts.{Counts}
 use Rattle.tect_ids.specs.declared.script.Line.{Line}
-use Rattle.world_runs.specs.Moments.{idle_actor}
+use Rattle.program_forms.specs.Kinds.{Programs}
+use Rattle.world_runs.specs.declared.event.Event.{Event}
+use Rattle.world_runs.specs.Actors.{idle_actor}
 use Rattle.world_runs.specs.Events.{IsPlaced, IsOwnNote}
-use Rattle.world_runs.specs.Woven.{IsSilent}
 use Rattle.world_runs.specs.Limits.{OwnLimits}
 use Rattle.world_runs.specs.OwnRuns.{OwnRun}
+use Rattle.world_runs.specs.Refusals.{AreOfRefused}
+use Rattle.world_runs.proofs.Refusals.{of_refused-front, of_refused-rest}
 use Rattle.clients.specs.Lives.{ClientLife, events_in, IsLife}
 use Rattle.noted_runs.proofs.Rooms.{own_notes}
 use Rattle.passes.specs.declared.pass.Pass.{Pass}
-use Rattle.race_runs.specs.Stories.{Part, Story, AllSilent, all_moments, all_events}
+use Rattle.race_runs.specs.Stories.{Part, Story, SilentAfter, all_moments, all_events}
 use Rattle.players.specs.declared.racer.Racer.{Racer}
 use Rattle.players.specs.Lives.{busy_in}
 use Rattle.tect_race.specs.Passes.{IsPassOf}
@@ -20,21 +23,17 @@ use Rattle.tect_race.specs.Workers.{Closed}
 use Rattle.tect_race.specs.Standing.{Stands, all_silent}
 use Rattle.race_ends.specs.HaveRun.{HasStory}
 
-split_all : {A : Type 0} → (P : A → Type 0) (xs ys : List A) → AllByRecursion P (xs ++ ys) → AllByRecursion P xs × AllByRecursion P ys
-split_all P [] ys h = (tt, h)
-split_all P (x ∷ xs) ys h = let r = split_all P xs ys h.1 in ((h.0, r.0), r.1)
+silent_parts : (before : List Event) (ps : List Part) (p : Part) → AreOfRefused before (all_silent ps p) → SilentAfter before ps p
+silent_parts before [] p h = h
+silent_parts before (x ∷ xs) p h = (
+  of_refused-front before x.silent (all_silent xs p) h,
+  silent_parts (before ++ x.silent) xs p (of_refused-rest before x.silent (all_silent xs p) h),
+)
 
-silent_parts : (ps : List Part) (p : Part) → AllByRecursion IsSilent (all_silent ps p) → AllByRecursion AllSilent ps × AllSilent p
-silent_parts [] p h = (tt, All-from_recursion IsSilent p.silent h)
-silent_parts (x ∷ xs) p h =
-    let s = split_all IsSilent x.silent (all_silent xs p) h in
-    let r = silent_parts xs p s.1 in
-    ((All-from_recursion IsSilent x.silent s.0, r.0), r.1)
-
-module _ (counts : Counts) (names : List (List ℕ)) (ls : List Line) (clocks : List ℕ) (k : ℕ) (r t : Racer) (s : Story)
-    (is : Stands counts names ls clocks r s) (closed : Closed k r t) (high : r.client.clock ≤ k) (low : k < 2 ^ 63)
+module _ {S : Type 0} (P : Programs S) (counts : Counts) (names : List (List ℕ)) (ls : List Line) (clocks : List ℕ) (k : ℕ) (r t : Racer S) (s : Story)
+    (is : Stands P counts names ls clocks r s) (closed : Closed P k r t) (high : r.client.clock ≤ k) (low : k < 2 ^ 63)
     (p : Pass) (of : IsPassOf t p) where
-  abbrev life : IsLife t.client
+  abbrev life : IsLife P t.client
   life = closed.life
 
   counts_now : t.client.counts ≡ counts
@@ -49,38 +48,37 @@ module _ (counts : Counts) (names : List (List ℕ)) (ls : List Line) (clocks : 
   silent_now : t.client.silent ≡ all_silent s.ended s.last
   silent_now = ap (λ (w : ClientLife). w.silent) closed.client ∙ sym is.silent
 
-  own_now : OwnRun counts idle_actor (all_events s.ended s.last)
-  own_now = subst (λ (c : Counts). OwnRun c idle_actor (all_events s.ended s.last)) counts_now
-      (subst (OwnRun t.client.counts idle_actor) events_now life.run)
+  own_now : OwnRun P counts idle_actor (all_events s.ended s.last)
+  own_now = subst (λ (c : Counts). OwnRun P c idle_actor (all_events s.ended s.last)) counts_now
+      (subst (OwnRun P t.client.counts idle_actor) events_now life.run)
 
   early : t.client.clock < 2 ^ 63
   early = let at = ap (λ (w : ClientLife). w.clock) closed.client in omega (arith, at, high, low)
 
-  limits_now : OwnLimits counts [] idle_actor (all_events s.ended s.last)
-  limits_now = subst (λ (c : Counts). OwnLimits c [] idle_actor (all_events s.ended s.last)) counts_now
-      (subst (OwnLimits t.client.counts [] idle_actor) events_now (life.limits early))
+  limits_now : OwnLimits P counts [] idle_actor (all_events s.ended s.last)
+  limits_now = subst (λ (c : Counts). OwnLimits P c [] idle_actor (all_events s.ended s.last)) counts_now
+      (subst (OwnLimits P t.client.counts [] idle_actor) events_now (life.limits early))
 
   placed_now : All (IsPlaced counts) (all_moments s.ended s.last)
   placed_now = subst (λ (c : Counts). All (IsPlaced c) (all_moments s.ended s.last)) counts_now
       (subst (All (IsPlaced t.client.counts)) moments_now life.placed)
 
-  pub finished : HasStory counts names ls clocks p s
+  pub finished : HasStory P counts names ls clocks p s
   finished =
-      let silent = silent_parts s.ended s.last
-      (recursion_from_All IsSilent (all_silent s.ended s.last) (subst (All IsSilent) silent_now life.silent)) in
       record {
         actor = is.actor ∙ sym (ap (λ (w : ClientLife). w.actor) closed.client) ∙ sym of.actor;
         moments = of.moments ∙ moments_now;
         story = record {
           own = own_now;
           limits = limits_now;
-          busy = busy_in r.client;
+          prompt = is.prompt;
+          busy = busy_in P r.client;
           does = is.does;
           timely = is.timely;
           answers = is.answers;
           placed = placed_now;
           noted = subst (All IsOwnNote) moments_now
               (All-from_recursion IsOwnNote t.client.moments (own_notes t.client.actor t.client.moments life.moments_own life.notes_own));
-          silent = (All-from_recursion AllSilent s.ended silent.0, silent.1);
+          silent = silent_parts [] s.ended s.last (subst (AreOfRefused []) silent_now life.silent);
         };
       }

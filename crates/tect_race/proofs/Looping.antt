@@ -21,6 +21,7 @@ use Rattle.race_ends.specs.declared.ended.EndedPart.{EndedPart}
 use Rattle.race_ends.specs.HaveRun.{clocks_of, HasStory, HaveAnswers, HaveRun}
 use Rattle.world_runs.specs.Standing.{IsInState}
 use Rattle.tect_ids.specs.Places.{HasPlaces}
+use Rattle.program_forms.specs.Kinds.{Programs}
 use Rattle.tect_race.specs.Lines.{Ran}
 use Rattle.tect_race.specs.Workers.{RacersRan, AllClosed, Closed}
 use Rattle.tect_race.specs.Done.{AreNew, IsScript}
@@ -39,18 +40,19 @@ by_recursion : {A : Type 0} → (P : A → Type 0) (xs : List A) → ((i : ℕ) 
 by_recursion P [] h = tt
 by_recursion P (x ∷ xs) h = (h 0 x refl, by_recursion P xs (λ i y e. h (suc i) y e))
 
-module _ (counts : Counts) (names : List (List ℕ)) where
-  abbrev Idle : Racer → Type 0
+module _ {S : Type 0} (P : Programs S) (counts : Counts) (names : List (List ℕ)) where
+  abbrev Idle : Racer S → Type 0
   Idle r = (a : ℕ) × (r.client ≡ idle_life a counts) × (r.answers.items ≡ [])
 
-  stands_new : (r : Racer) → Idle r → Stands counts names [] [] r (no_story r.client.actor)
+  stands_new : (r : Racer S) → Idle r → Stands P counts names [] [] r (no_story r.client.actor)
   stands_new r (a, life, none) = record {
     counts_are = ap (λ (w : ClientLife). w.counts) life;
     actor = refl;
     moments = sym (ap (λ (w : ClientLife). w.moments) life);
     silent = sym (ap (λ (w : ClientLife). w.silent) life);
     events = sym (ap events_in life);
-    does = (refl, ap busy_in life);
+    prompt = tt;
+    does = (refl, ap (busy_in P) life);
     timely = All-nil (λ m. 0 < stamp_of m);
     below = All-nil (λ m. stamp_of m ≤ r.client.clock);
     floor = omega arith;
@@ -59,24 +61,24 @@ module _ (counts : Counts) (names : List (List ℕ)) where
     parts = refl;
   }
 
-  all_new : (rs : List Racer) → AllByRecursion Idle rs → AllStand counts names [] [] rs (map (λ r. no_story r.client.actor) rs)
+  all_new : (rs : List (Racer S)) → AllByRecursion Idle rs → AllStand P counts names [] [] rs (map (λ r. no_story r.client.actor) rs)
   all_new [] h = tt
   all_new (r ∷ rs) h = (stands_new r h.0, all_new rs h.1)
 
-  pub stood_new : (ls : List Line) (rs : List Racer) → AreNew counts (length names) rs → IsScript (length names) ls
-      → Stood counts names [] ls 0 rs []
+  pub stood_new : (ls : List Line) (rs : List (Racer S)) → AreNew counts (length names) rs → IsScript P (length names) ls
+      → Stood P counts names [] ls 0 rs []
   stood_new ls rs new script = record {
     all = new.count;
     ready = record {
       own = λ i r e. ap (λ (w : ClientLife). w.actor) (new.lives i r e);
       ready = λ i r e.
           let life = new.lives i r e in
-          let number : (state_in r.client).number ≡ 0 = ap (λ (w : ClientLife). (state_in w).number) life in
+          let number : (state_in P r.client).number ≡ 0 = ap (λ (w : ClientLife). (state_in P w).number) life in
           record {
             counts_are = ap (λ (w : ClientLife). w.counts) life;
             states = all_idle;
             in_turn = script.in_turn;
-            state = (ap (λ (w : ClientLife). (state_in w).running) life, ap (λ (w : ClientLife). (state_in w).stopped) life);
+            state = (ap (λ (w : ClientLife). (state_in P w).running) life, ap (λ (w : ClientLife). (state_in P w).stopped) life);
             few = (let f = script.few in omega arith);
           };
     };
@@ -112,28 +114,28 @@ no_dumps n (lines.Store counts ∷ ls) h = absurd h.0
 no_dumps n (lines.Sweep ∷ ls) h = absurd h.0
 no_dumps n (lines.Lose disk ∷ ls) h = absurd h.0
 
-same_actor : (k : ℕ) (r t : Racer) → Closed k r t → t.client.actor ≡ r.client.actor
-same_actor k r t closed = ap (λ (w : ClientLife). w.actor) closed.client
+same_actor : {S : Type 0} (P : Programs S) (k : ℕ) (r t : Racer S) → Closed P k r t → t.client.actor ≡ r.client.actor
+same_actor P k r t closed = ap (λ (w : ClientLife). w.actor) closed.client
 
-ready_closed : (counts : Counts) (ls : List Line) (k : ℕ) (r t : Racer) → Closed k r t → IsReady counts (lines.Dump ∷ ls) r
-    → IsReady counts ls t
-ready_closed counts ls k r t closed ready = record {
+ready_closed : {S : Type 0} (P : Programs S) (counts : Counts) (ls : List Line) (k : ℕ) (r t : Racer S) → Closed P k r t → IsReady P counts (lines.Dump ∷ ls) r
+    → IsReady P counts ls t
+ready_closed P counts ls k r t closed ready = record {
   counts_are = ap (λ (w : ClientLife). w.counts) closed.client ∙ ready.counts_are;
   states = ready.states;
   in_turn = ready.in_turn;
-  state = subst (λ (w : ClientLife). IsInState (ready.states w.actor) (state_in w)) (sym closed.client) ready.state;
-  few = (let f = ready.few in let n = ap (λ (w : ClientLife). (state_in w).number) closed.client in omega arith);
+  state = subst (λ (w : ClientLife). IsInState (ready.states w.actor) (state_in P w)) (sym closed.client) ready.state;
+  few = (let f = ready.few in let n = ap (λ (w : ClientLife). (state_in P w).number) closed.client in omega arith);
 }
 
-ready_all : (counts : Counts) (ls : List Line) (k : ℕ) (rs ts : List Racer) → AllClosed k rs ts → AreRacers counts (lines.Dump ∷ ls) rs
-    → AreRacers counts ls ts
-ready_all counts ls k rs ts closed racers = record {
+ready_all : {S : Type 0} (P : Programs S) (counts : Counts) (ls : List Line) (k : ℕ) (rs ts : List (Racer S)) → AllClosed P k rs ts → AreRacers P counts (lines.Dump ∷ ls) rs
+    → AreRacers P counts ls ts
+ready_all P counts ls k rs ts closed racers = record {
   own = λ i t e.
-      let r = also_at ts rs i t e (sym (zip_length (Closed k) rs ts closed)) in
-      ap (λ (w : ClientLife). w.actor) (zip_at (Closed k) rs ts i r.0 t closed r.1 e).client ∙ racers.own i r.0 r.1;
+      let r = also_at ts rs i t e (sym (zip_length (Closed P k) rs ts closed)) in
+      ap (λ (w : ClientLife). w.actor) (zip_at (Closed P k) rs ts i r.0 t closed r.1 e).client ∙ racers.own i r.0 r.1;
   ready = λ i t e.
-      let r = also_at ts rs i t e (sym (zip_length (Closed k) rs ts closed)) in
-      ready_closed counts ls k r.0 t (zip_at (Closed k) rs ts i r.0 t closed r.1 e) (racers.ready i r.0 r.1);
+      let r = also_at ts rs i t e (sym (zip_length (Closed P k) rs ts closed)) in
+      ready_closed P counts ls k r.0 t (zip_at (Closed P k) rs ts i r.0 t closed r.1 e) (racers.ready i r.0 r.1);
 }
 
 lengths_of : (n m : ℕ) (ss : List Story) → n ≡ m → AllByRecursion (λ s. length s.ended ≡ n) ss → AllByRecursion (λ s. length s.ended ≡ m) ss
@@ -147,10 +149,10 @@ length_clocks : (es : List EndedPart) → length (clocks_of es) ≡ length es
 length_clocks [] = refl
 length_clocks (x ∷ xs) = ap suc (length_clocks xs)
 
-module _ (counts : Counts) (names : List (List ℕ)) (ls : List Line) (clocks : List ℕ) (k : ℕ) (low : k < 2 ^ 63) where
-  all_finished : (rs ts : List Racer) (ps : List Pass) (ss : List Story) → AllStand counts names ls clocks rs ss → AllClosed k rs ts
+module _ {S : Type 0} (P : Programs S) (counts : Counts) (names : List (List ℕ)) (ls : List Line) (clocks : List ℕ) (k : ℕ) (low : k < 2 ^ 63) where
+  all_finished : (rs ts : List (Racer S)) (ps : List Pass) (ss : List Story) → AllStand P counts names ls clocks rs ss → AllClosed P k rs ts
       → AllByRecursion (λ r. r.client.clock ≤ k) rs → AllZip IsPassOf ts ps
-      → AllZip (HasStory counts names ls clocks) ps ss
+      → AllZip (HasStory P counts names ls clocks) ps ss
   all_finished [] [] [] [] a r high of = tt
   all_finished [] (t ∷ ts) ps ss a r high of = absurd r
   all_finished (x ∷ rs) [] ps ss a r high of = absurd r
@@ -159,7 +161,7 @@ module _ (counts : Counts) (names : List (List ℕ)) (ls : List Line) (clocks : 
   all_finished [] ts ps (s ∷ ss) a r high of = absurd a
   all_finished (x ∷ rs) ts ps [] a r high of = absurd a
   all_finished (x ∷ rs) (t ∷ ts) (p ∷ ps) (s ∷ ss) a r high of =
-      (finished counts names ls clocks k x t s a.0 r.0 high.0 low p of.0, all_finished rs ts ps ss a.1 r.1 high.1 of.1)
+      (finished P counts names ls clocks k x t s a.0 r.0 high.0 low p of.0, all_finished rs ts ps ss a.1 r.1 high.1 of.1)
 
 later_is : (ps : List Part) → later_parts ps ≡ elim ps [ [] ↦ [] | p ∷ qs ↦ qs ]
 later_is [] = refl
@@ -202,35 +204,35 @@ have_answers (x ∷ xs) last ss l h f = (
   have_answers xs last (map rest_of ss) (rest_lengths (length xs) ss l) (subst (HaveEnded xs) (rests_of ss) h.1) (f ∙ sym (lasts_of ss)),
 )
 
-module _ (counts : Counts) (names : List (List ℕ)) (done left part : List Line) (clock : ℕ) (rs ts us : List Racer) (es : List EndedPart)
-    (stood : Stood counts names done left clock rs es) (ran : RacersRan names part rs ts) where
-  abbrev grown : (vs : List Story) × AllStand counts names (done ++ part) (clocks_of es) ts vs
+module _ {S : Type 0} (P : Programs S) (counts : Counts) (names : List (List ℕ)) (done left part : List Line) (clock : ℕ) (rs ts us : List (Racer S)) (es : List EndedPart)
+    (stood : Stood P counts names done left clock rs es) (ran : RacersRan P names part rs ts) where
+  abbrev grown : (vs : List Story) × AllStand P counts names (done ++ part) (clocks_of es) ts vs
       × (map (λ s. s.ended) vs ≡ map (λ s. s.ended) stood.stories)
-  grown = all_grown counts names done part (clocks_of es) rs ts stood.stories stood.stand ran
+  grown = all_grown P counts names done part (clocks_of es) rs ts stood.stories stood.stand ran
 
   lengths : AllByRecursion (λ s. length s.ended ≡ length es) grown.0
   lengths = lengths_of (length (clocks_of es)) (length es) grown.0 (length_clocks es)
-      (all_parts counts names (done ++ part) (clocks_of es) ts grown.0 grown.1)
+      (all_parts P counts names (done ++ part) (clocks_of es) ts grown.0 grown.1)
 
   ended_still : HaveEnded es (map (λ s. s.ended) grown.0)
   ended_still = subst (HaveEnded es) (sym grown.2) stood.ended
 
   pub as_many : length ts ≡ length names
-  as_many = zip_length (Ran names part) rs ts ran ∙ stood.all
+  as_many = zip_length (Ran P names part) rs ts ran ∙ stood.all
 
-  pub stood_on : (later : List Line) (e : EndedPart) → AreRacers counts (lines.Dump ∷ later) ts
-      → AllByRecursion (IsOfClient (length names)) part → All (λ r. r.client.clock ≤ e.clock) ts → AllClosed e.clock ts us
+  pub stood_on : (later : List Line) (e : EndedPart) → AreRacers P counts (lines.Dump ∷ later) ts
+      → AllByRecursion (IsOfClient (length names)) part → All (λ r. r.client.clock ≤ e.clock) ts → AllClosed P e.clock ts us
       → e.answers.items ≡ flat_map (λ r. r.answers.items) ts
-      → Stood counts names ((done ++ part) ++ lines.Dump ∷ []) later e.clock us (es ++ e ∷ [])
+      → Stood P counts names ((done ++ part) ++ lines.Dump ∷ []) later e.clock us (es ++ e ∷ [])
   stood_on later e ready own high closed told = record {
-    all = zip_length (Closed e.clock) ts us closed ∙ as_many;
-    ready = ready_all counts later e.clock ts us closed ready;
+    all = zip_length (Closed P e.clock) ts us closed ∙ as_many;
+    ready = ready_all P counts later e.clock ts us closed ready;
     stories = map dumped grown.0;
-    stand = subst (λ (ks : List ℕ). AllStand counts names ((done ++ part) ++ lines.Dump ∷ []) ks us (map dumped grown.0))
+    stand = subst (λ (ks : List ℕ). AllStand P counts names ((done ++ part) ++ lines.Dump ∷ []) ks us (map dumped grown.0))
         (sym (clocks-append es e))
-        (all_dumped counts names (done ++ part) (clocks_of es) e.clock ts us grown.0 grown.1
+        (all_dumped P counts names (done ++ part) (clocks_of es) e.clock ts us grown.0 grown.1
         (recursion_from_All (λ r. r.client.clock ≤ e.clock) ts high) closed);
-    ended = ended_on es e grown.0 lengths ended_still (told ∙ all_told counts names (done ++ part) (clocks_of es) ts grown.0 grown.1);
+    ended = ended_on es e grown.0 lengths ended_still (told ∙ all_told P counts names (done ++ part) (clocks_of es) ts grown.0 grown.1);
     dumps = (
         let a = count-append (done ++ part) (lines.Dump ∷ []) in
         let b = count-append done part in
@@ -243,22 +245,22 @@ module _ (counts : Counts) (names : List (List ℕ)) (done left part : List Line
   }
 
   pub run_ended : (later : List Line) (k : ℕ) (ps : List Pass) (last : List ReportLine) → HasPlaces counts
-      → All (IsLineOf (length names)) (done ++ part) → AreRacers counts later ts → AllByRecursion (IsOfClient (length names)) part
-      → k < 2 ^ 63 → All (λ r. r.client.clock ≤ k) ts → AllClosed k ts us → AllZip IsPassOf us ps
-      → last ≡ flat_map (λ r. r.answers.items) ts → HaveRun counts names (done ++ part) ps es last
+      → All (IsLineOf (length names)) (done ++ part) → AreRacers P counts later ts → AllByRecursion (IsOfClient (length names)) part
+      → k < 2 ^ 63 → All (λ r. r.client.clock ≤ k) ts → AllClosed P k ts us → AllZip IsPassOf us ps
+      → last ≡ flat_map (λ r. r.answers.items) ts → HaveRun P counts names (done ++ part) ps es last
   run_ended later k ps last places asked ready own low high closed taken told = record {
     places = places;
     asked = asked;
     dumps = (let b = count-append done part in let n = no_dumps (length names) part own in let d = stood.dumps in omega arith);
-    number = zip_length IsPassOf us ps taken ∙ zip_length (Closed k) ts us closed ∙ as_many;
+    number = zip_length IsPassOf us ps taken ∙ zip_length (Closed P k) ts us closed ∙ as_many;
     numbered = λ i p e.
         let u = also_at ps us i p e (sym (zip_length IsPassOf us ps taken)) in
-        let r = also_at us ts i u.0 u.1 (sym (zip_length (Closed k) ts us closed)) in
-        (zip_at IsPassOf us ps i u.0 p taken u.1 e).actor ∙ same_actor k r.0 u.0 (zip_at (Closed k) ts us i r.0 u.0 closed r.1 u.1)
+        let r = also_at us ts i u.0 u.1 (sym (zip_length (Closed P k) ts us closed)) in
+        (zip_at IsPassOf us ps i u.0 p taken u.1 e).actor ∙ same_actor P k r.0 u.0 (zip_at (Closed P k) ts us i r.0 u.0 closed r.1 u.1)
         ∙ ready.own i r.0 r.1;
     stories = grown.0;
     each = all_finished counts names (done ++ part) (clocks_of es) k low ts us ps grown.0 grown.1 closed
         (recursion_from_All (λ r. r.client.clock ≤ k) ts high) taken;
     answers = have_answers es last grown.0 lengths ended_still
-        (told ∙ all_told counts names (done ++ part) (clocks_of es) ts grown.0 grown.1);
+        (told ∙ all_told P counts names (done ++ part) (clocks_of es) ts grown.0 grown.1);
   }

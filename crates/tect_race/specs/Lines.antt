@@ -2,6 +2,7 @@
 use Rattle.std.specs.Prelude.{◌≡◌, ◌≢◌, ℕ, ◌⊎◌, List, filter}
 use Rattle.tect_ids.specs.declared.script.Line.{Line}
 use Rattle.tect_ids.specs.declared.script.Line.TheVariants as lines
+use Rattle.program_forms.specs.Kinds.{Programs}
 use Rattle.entry_words.specs.declared.entry.Moment.{Moment}
 use Rattle.world_runs.specs.declared.event.Event.{Event}
 use Rattle.world_runs.specs.Races.{line_concerns}
@@ -11,15 +12,15 @@ use Rattle.players.specs.Lives.{busy_in, news_events}
 use Rattle.players.specs.Lines.{Adds, Plays}
 
 -- It did its lines among these.
-pub record Ran (names : List (List ℕ)) (ls : List Line) (old new : Racer) : Type 0 where
+pub record Ran {S : Type 0} (P : Programs S) (names : List (List ℕ)) (ls : List Line) (old new : Racer S) : Type 0 where
   pub news : List Moment
   pub more : List Event
-  pub adds : Adds names old new news more
-  pub does : DoesLines old.client.actor (busy_in old.client) (filter (line_concerns old.client.actor) ls) (news_events news more)
-      (busy_in new.client)
+  pub adds : Adds P names old new news more
+  pub does : DoesLines old.client.actor (busy_in P old.client) (filter (line_concerns old.client.actor) ls) (news_events news more)
+      (busy_in P new.client)
 
 -- It did the line if that is its own, and else nothing.
-abbrev pub PlaysOrRests : List (List ℕ) → Line → Racer → Racer → Type 0
-PlaysOrRests names (lines.Client client actor act) old new =
-    ((actor ≢ old.client.actor) × (new ≡ old)) ⊎ ((actor ≡ old.client.actor) × Plays names act old new)
-PlaysOrRests names line old new = ⊥
+abbrev pub PlaysOrRests : {S : Type 0} → Programs S → List (List ℕ) → Line → Racer S → Racer S → Type 0
+PlaysOrRests P names (lines.Client client actor act) old new =
+    ((actor ≢ old.client.actor) × (new ≡ old)) ⊎ ((actor ≡ old.client.actor) × Plays P names act old new)
+PlaysOrRests P names line old new = ⊥

@@ -4,6 +4,6 @@ use Rattle.passes.specs.declared.pass.Pass.{Pass}
 use Rattle.players.specs.declared.racer.Racer.{Racer}
 
 -- it is what the client noted
-pub record IsPassOf (r : Racer) (p : Pass) : Type 0 where
+pub record IsPassOf {S : Type 0} (r : Racer S) (p : Pass) : Type 0 where
   pub actor : p.actor ≡ r.client.actor
   pub moments : p.moments.items ≡ r.client.moments

@@ -4,6 +4,7 @@ use Rattle.std.specs.List.{All}
 use Rattle.tect_ids.specs.declared.ids.Counts.{Counts}
 use Rattle.tect_ids.specs.declared.script.Line.{Line}
 use Rattle.tect_ids.specs.declared.script.Line.TheVariants as lines
+use Rattle.program_forms.specs.Kinds.{Programs}
 use Rattle.world_runs.specs.ClientStates.{ClientStates, FitStatesFrom}
 use Rattle.world_runs.specs.Standing.{IsInState}
 use Rattle.clients.specs.Lives.{state_in}
@@ -16,49 +17,52 @@ IsOfClient clients (lines.Client client actor act) = (1 ≤ actor) × (actor ≤
 IsOfClient clients line = ⊥
 
 -- The lines fit the state that its last line left it at, and its ops stay few.
-pub record IsReady (counts : Counts) (ls : List Line) (r : Racer) : Type 0 where
+pub record IsReady {S : Type 0} (P : Programs S) (counts : Counts) (ls : List Line) (r : Racer S) : Type 0 where
   pub counts_are : r.client.counts ≡ counts
   pub states : ClientStates
-  pub in_turn : FitStatesFrom states ls
-  pub state : IsInState (states r.client.actor) (state_in r.client)
-  pub few : (state_in r.client).number + length ls < 2 ^ 31
+  pub in_turn : FitStatesFrom P states ls
+  pub state : IsInState (states r.client.actor) (state_in P r.client)
+  pub few : (state_in P r.client).number + length ls < 2 ^ 31
 
 -- Of so many clients the worker has those whose number, from 0, leaves its own when it is divided by that of all workers, in
 -- order; each is ready for these lines.
-pub record IsWorker (counts : Counts) (clients worker_count : ℕ) (ls : List Line) (c : Worker) : Type 0 where
+pub record IsWorker {S : Type 0} (P : Programs S) (counts : Counts) (clients worker_count : ℕ) (ls : List Line) (c : Worker S) : Type 0
+  where
   pub number : c.number < worker_count
   pub filled : (slot : ℕ) → (slot < length c.racers.items) ↔ (slot * worker_count + c.number < clients)
-  pub own : (slot : ℕ) (r : Racer) → slice_get c.racers.items slot ≡ Some r → r.client.actor ≡ slot * worker_count + c.number + 1
-  pub ready : (slot : ℕ) (r : Racer) → slice_get c.racers.items slot ≡ Some r → IsReady counts ls r
+  pub own : (slot : ℕ) (r : Racer S) → slice_get c.racers.items slot ≡ Some r → r.client.actor ≡ slot * worker_count + c.number + 1
+  pub ready : (slot : ℕ) (r : Racer S) → slice_get c.racers.items slot ≡ Some r → IsReady P counts ls r
 
 -- all clients, in order, each ready for these lines
-pub record AreRacers (counts : Counts) (ls : List Line) (rs : List Racer) : Type 0 where
-  pub own : (i : ℕ) (r : Racer) → slice_get rs i ≡ Some r → r.client.actor ≡ i + 1
-  pub ready : (i : ℕ) (r : Racer) → slice_get rs i ≡ Some r → IsReady counts ls r
+pub record AreRacers {S : Type 0} (P : Programs S) (counts : Counts) (ls : List Line) (rs : List (Racer S)) : Type 0 where
+  pub own : (i : ℕ) (r : Racer S) → slice_get rs i ≡ Some r → r.client.actor ≡ i + 1
+  pub ready : (i : ℕ) (r : Racer S) → slice_get rs i ≡ Some r → IsReady P counts ls r
 
 -- so many workers
-pub record AreWorkers (counts : Counts) (clients worker_count : ℕ) (ls : List Line) (cs : List Worker) : Type 0 where
+pub record AreWorkers {S : Type 0} (P : Programs S) (counts : Counts) (clients worker_count : ℕ) (ls : List Line) (cs : List (Worker S))
+    : Type 0 where
   pub count : length cs ≡ worker_count
-  pub numbers : (k : ℕ) (c : Worker) → slice_get cs k ≡ Some c → c.number ≡ k
-  pub workers : All (IsWorker counts clients worker_count ls) cs
+  pub numbers : (k : ℕ) (c : Worker S) → slice_get cs k ≡ Some c → c.number ≡ k
+  pub workers : All (IsWorker P counts clients worker_count ls) cs
 
 -- client number i is of the worker i % workers, and stands at i / workers
-pub record AreAssigned (worker_count : ℕ) (rs : List Racer) (cs : List Worker) : Type 0 where
+pub record AreAssigned {S : Type 0} (worker_count : ℕ) (rs : List (Racer S)) (cs : List (Worker S)) : Type 0 where
   pub count : length cs ≡ worker_count
-  pub numbers : (k : ℕ) (c : Worker) → slice_get cs k ≡ Some c → c.number ≡ k
-  pub each : (k : ℕ) (c : Worker) → slice_get cs k ≡ Some c → (slot : ℕ)
+  pub numbers : (k : ℕ) (c : Worker S) → slice_get cs k ≡ Some c → c.number ≡ k
+  pub each : (k : ℕ) (c : Worker S) → slice_get cs k ≡ Some c → (slot : ℕ)
       → slice_get c.racers.items slot ≡ slice_get rs (slot * worker_count + k)
 
 -- so many clients are the workers', each where it stands
-pub record CanBeCollected (clients : ℕ) (cs : List Worker) : Type 0 where
-  pub numbers : (k : ℕ) (c : Worker) → slice_get cs k ≡ Some c → c.number ≡ k
-  pub filled : (k : ℕ) (c : Worker) → slice_get cs k ≡ Some c → (slot : ℕ)
+pub record CanBeCollected {S : Type 0} (clients : ℕ) (cs : List (Worker S)) : Type 0 where
+  pub numbers : (k : ℕ) (c : Worker S) → slice_get cs k ≡ Some c → c.number ≡ k
+  pub filled : (k : ℕ) (c : Worker S) → slice_get cs k ≡ Some c → (slot : ℕ)
       → (slot < length c.racers.items) ↔ (slot * length cs + k < clients)
 
 -- Of all clients those before have still to be taken from the workers, and those behind were, the last one first.
-pub record AreCollected (worker_count : ℕ) (left : ℕ) (all : List Racer) (cs : List Worker) (rs : List Racer) : Type 0 where
-  pub before : List Racer
-  pub behind : List Racer
+pub record AreCollected {S : Type 0} (worker_count : ℕ) (left : ℕ) (all : List (Racer S)) (cs : List (Worker S)) (rs : List (Racer S))
+    : Type 0 where
+  pub before : List (Racer S)
+  pub behind : List (Racer S)
   pub whole : all ≡ before ++ behind
   pub left_are : length before ≡ left
   pub assigned : AreAssigned worker_count before cs

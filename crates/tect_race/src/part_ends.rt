@@ -4,12 +4,13 @@ ghost use Rattle.tect_race.specs.Workers.{AllClosed, Ended};
 
 use entry_words::CLOCK_LIMIT;
 use players::Racer;
+use program_calls::Programs;
 use race_ends::{EndedPart, RaceFault};
 use std::alloc::Global;
 use tect_ids::{NoMemory, ReportLine};
 
 /// The greatest of the clients' clocks and `floor`.
-fn greatest_clock(racers: &[Racer], floor: u64) -> u64
+fn greatest_clock<P: Programs + Drop>(racers: &[Racer<P>], floor: u64) -> u64
     ensures floor { floor ≤ result }
     ensures all { All (λ r. r.client.clock ≤ result) racers.now }
     ensures one { Contains (floor ∷ map (λ r. r.client.clock) racers.now) result }
@@ -22,9 +23,9 @@ fn greatest_clock(racers: &[Racer], floor: u64) -> u64
 }
 
 /// Takes out the client's answers, and raises its clock.
-fn close(racer: &mut Racer, clock: u64, answers: &mut Vec<ReportLine>) -> Result<(), NoMemory>
+fn close<P: Programs + Drop>(racer: &mut Racer<P>, clock: u64, answers: &mut Vec<ReportLine>) -> Result<(), NoMemory>
     requires { clock + 1 < 2 ^ 64 }
-    ensures { OnOk result (Ended clock racer.old racer.new answers.old.items answers.new.items) }
+    ensures { OnOk result (Ended P.rules clock racer.old racer.new answers.old.items answers.new.items) }
 {
     answers.append(&mut racer.answers)?;
     racer.client.raise(clock);
@@ -33,9 +34,9 @@ fn close(racer: &mut Racer, clock: u64, answers: &mut Vec<ReportLine>) -> Result
 }
 
 /// Takes out the answers of all clients, one client after another, and raises their clocks.
-fn close_all(alloc: Global, racers: &mut [Racer], clock: u64) -> Result<Vec<ReportLine>, NoMemory>
+fn close_all<P: Programs + Drop>(alloc: Global, racers: &mut [Racer<P>], clock: u64) -> Result<Vec<ReportLine>, NoMemory>
     requires { clock + 1 < 2 ^ 64 }
-    ensures closed { OnOk result (AllClosed clock racers.old racers.new) }
+    ensures closed { OnOk result (AllClosed P.rules clock racers.old racers.new) }
     ensures answers { IfOk result (λ lines. lines.items ≡ flat_map (λ r. r.answers.items) racers.old) }
 {
     let mut answers = Vec::new(alloc);
@@ -47,10 +48,10 @@ fn close_all(alloc: Global, racers: &mut [Racer], clock: u64) -> Result<Vec<Repo
 
 /// Ends a part, at a clock that no client's exceeds and that is not below `floor`. There is no memory where it has come to the
 /// limit of clocks.
-pub fn end_part(alloc: Global, racers: &mut [Racer], floor: u64) -> Result<EndedPart, RaceFault>
+pub fn end_part<P: Programs + Drop>(alloc: Global, racers: &mut [Racer<P>], floor: u64) -> Result<EndedPart, RaceFault>
     ensures clock { IfOk result (λ part. (floor ≤ part.clock) × (part.clock < 2 ^ 63)) }
     ensures highest { IfOk result (λ part. All (λ r. r.client.clock ≤ part.clock) racers.old) }
-    ensures closed { IfOk result (λ part. AllClosed part.clock racers.old racers.new) }
+    ensures closed { IfOk result (λ part. AllClosed P.rules part.clock racers.old racers.new) }
     ensures answers { IfOk result (λ part. part.answers.items ≡ flat_map (λ r. r.answers.items) racers.old) }
     ensures fault { IfErr result (λ fault. fault ≡ RaceFault.NoMemory) }
 {

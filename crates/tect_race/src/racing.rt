@@ -6,6 +6,7 @@ ghost use Rattle.world_runs.specs.Playable.{IsPlayable};
 use crate::rounds::{Run, run_script};
 use crate::workers::Shared;
 use place_locks::Places;
+use program_calls::Programs;
 use race_ends::{RaceFault, Raced, finish};
 use std::alloc::Global;
 use std::sync::Wait;
@@ -13,7 +14,7 @@ use std::thread::Threads;
 use tect_edge::Gate;
 use tect_ids::Plan;
 
-/// Runs the script of a plan on so many workers. Client number i, from 0, is of the worker `i % workers`, which does the lines of
+/// Runs the script of a plan on so many workers, by the programs `P`. Client number i, from 0, is of the worker `i % workers`, which does the lines of
 /// its clients in the order of the script. Between two dumps each worker that has a line there works in a thread of its own, one of
 /// them in the caller's; for a worker that has none no thread is started. What a thread that could not start would have done is
 /// done all the same. The gate is told of each commit, with the number of the worker.
@@ -28,18 +29,18 @@ use tect_ids::Plan;
 /// There is no memory where memory is wanting, and where a client's clock has come to 2^63. A race is split where what its clients
 /// kept and what its places kept are not the same transactions, and astray where at a place another machine was found than the one
 /// that it was started with.
-pub fn race<R: Threads + Wait + Sync, G: Gate + Sync>(
+pub fn race<P: Programs + Drop + Send, R: Threads + Wait + Sync, G: Gate + Sync>(
     rt: &R,
     alloc: Global,
     plan: &Plan,
     workers: u32,
     gate: &G,
 ) -> Result<Raced, RaceFault>
-    requires plan { IsPlayable plan.now }
+    requires plan { IsPlayable P.rules plan.now }
     requires clients { length plan.now.clients ≤ 64 }
     requires workers { (1 ≤ workers) × (workers ≤ 64) }
-    ensures raced { IfOk result (λ raced. IsRaced plan.now raced.places.items raced.passes.items raced.report.items) }
-    ensures fault { IfErr result (IsRaceFault plan.now.counts) }
+    ensures raced { IfOk result (λ raced. IsRaced P.rules plan.now raced.places.items raced.passes.items raced.report.items) }
+    ensures fault { IfErr result (IsRaceFault P.rules plan.now) }
 {
     let places = Places::start(alloc, plan.counts)?;
     let run = {
@@ -52,12 +53,12 @@ pub fn race<R: Threads + Wait + Sync, G: Gate + Sync>(
             worker_count: workers,
             gate,
         };
-        run_script(&shared, plan.counts)?
+        run_script::<P, R, G>(&shared, plan.counts)?
     };
     let Run {
         passes,
         ended,
         last,
     } = run;
-    finish(alloc, plan, places, passes, ended, last)
+    finish::<P>(alloc, plan, places, passes, ended, last)
 }

@@ -13,6 +13,7 @@ use crate::workers::Shared;
 use clients::Client;
 use passes::Pass;
 use players::Racer;
+use program_calls::Programs;
 use race_ends::{EndedPart, RaceFault};
 use std::alloc::Global;
 use std::sync::Wait;
@@ -31,15 +32,15 @@ pub struct Run {
 /// How far a race has come: its clients, the parts that dumps ended, the number of the first line behind the last of these
 /// dumps, and the clock at which it came.
 #[derive(Drop)]
-struct Progress {
-    racers: Vec<Racer>,
+struct Progress<P: Programs> {
+    racers: Vec<Racer<P>>,
     ended: Vec<EndedPart>,
     start: usize,
     clock: u64,
 }
 
 /// So many clients, before they did anything.
-fn new_racers(alloc: Global, counts: Counts, clients: usize) -> Result<Vec<Racer>, NoMemory>
+fn new_racers<P: Programs + Drop>(alloc: Global, counts: Counts, clients: usize) -> Result<Vec<Racer<P>>, NoMemory>
     requires places { HasPlaces counts }
     requires few { clients ≤ 64 }
     ensures { IfOk result (λ racers. AreNew counts clients racers.items) }
@@ -55,16 +56,16 @@ fn new_racers(alloc: Global, counts: Counts, clients: usize) -> Result<Vec<Racer
 }
 
 /// All clients do the lines up to the dump of that number, which ends the part when all of them have ended.
-fn end_at_dump<R: Threads + Wait + Sync, G: Gate + Sync>(
+fn end_at_dump<P: Programs + Drop + Send, R: Threads + Wait + Sync, G: Gate + Sync>(
     shared: &Shared<'_, R, G>,
-    progress: Progress,
+    progress: Progress<P>,
     dump: usize,
-) -> Result<Progress, RaceFault>
+) -> Result<Progress<P>, RaceFault>
     requires places { HasPlaces shared.now.places.now }
     requires workers { 0 < shared.now.worker_count }
     requires dump { slice_get shared.now.lines.now dump ≡ Some Line.Dump }
-    requires come { HasCome shared.now.places.now shared.now.clients.now shared.now.lines.now dump progress }
-    ensures dumped { IfOk result (HasCome shared.now.places.now shared.now.clients.now shared.now.lines.now (dump + 1)) }
+    requires come { HasCome P.rules shared.now.places.now shared.now.clients.now shared.now.lines.now dump progress }
+    ensures dumped { IfOk result (HasCome P.rules shared.now.places.now shared.now.clients.now shared.now.lines.now (dump + 1)) }
     ensures fault { IfErr result (IsLossOf shared.now.places.now) }
 {
     let Progress {
@@ -88,7 +89,7 @@ fn end_at_dump<R: Threads + Wait + Sync, G: Gate + Sync>(
 }
 
 /// The passes of the clients, in their order.
-fn take_passes(alloc: Global, racers: Vec<Racer>) -> Result<Vec<Pass>, NoMemory>
+fn take_passes<P: Programs + Drop>(alloc: Global, racers: Vec<Racer<P>>) -> Result<Vec<Pass>, NoMemory>
     ensures { IfOk result (λ passes. AllZip IsPassOf racers.items passes.items) }
 {
     let mut passes = Vec::new(alloc);
@@ -101,16 +102,16 @@ fn take_passes(alloc: Global, racers: Vec<Racer>) -> Result<Vec<Pass>, NoMemory>
 }
 
 /// All clients do the lines behind the last dump, and the script ends when all of them have ended.
-fn end_script<R: Threads + Wait + Sync, G: Gate + Sync>(
+fn end_script<P: Programs + Drop + Send, R: Threads + Wait + Sync, G: Gate + Sync>(
     shared: &Shared<'_, R, G>,
-    progress: Progress,
+    progress: Progress<P>,
 ) -> Result<Run, RaceFault>
     requires places { HasPlaces shared.now.places.now }
     requires workers { 0 < shared.now.worker_count }
-    requires script { IsScript (length shared.now.clients.now) shared.now.lines.now }
-    requires come { HasCome shared.now.places.now shared.now.clients.now shared.now.lines.now (length shared.now.lines.now) progress }
+    requires script { IsScript P.rules (length shared.now.clients.now) shared.now.lines.now }
+    requires come { HasCome P.rules shared.now.places.now shared.now.clients.now shared.now.lines.now (length shared.now.lines.now) progress }
     ensures run { IfOk result
-        (λ run. HaveRun shared.now.places.now shared.now.clients.now shared.now.lines.now run.passes.items run.ended.items run.last.items) }
+        (λ run. HaveRun P.rules shared.now.places.now shared.now.clients.now shared.now.lines.now run.passes.items run.ended.items run.last.items) }
     ensures fault { IfErr result (IsLossOf shared.now.places.now) }
 {
     let Progress {
@@ -130,7 +131,7 @@ fn end_script<R: Threads + Wait + Sync, G: Gate + Sync>(
 }
 
 /// Does all lines: those between two dumps by all workers, and each dump when all of them have ended.
-pub fn run_script<R: Threads + Wait + Sync, G: Gate + Sync>(
+pub fn run_script<P: Programs + Drop + Send, R: Threads + Wait + Sync, G: Gate + Sync>(
     shared: &Shared<'_, R, G>,
     counts: Counts,
 ) -> Result<Run, RaceFault>
@@ -138,12 +139,12 @@ pub fn run_script<R: Threads + Wait + Sync, G: Gate + Sync>(
     requires places { HasPlaces counts }
     requires workers { 0 < shared.now.worker_count }
     requires clients { length shared.now.clients.now ≤ 64 }
-    requires script { IsScript (length shared.now.clients.now) shared.now.lines.now }
+    requires script { IsScript P.rules (length shared.now.clients.now) shared.now.lines.now }
     ensures run { IfOk result
-        (λ run. HaveRun counts shared.now.clients.now shared.now.lines.now run.passes.items run.ended.items run.last.items) }
+        (λ run. HaveRun P.rules counts shared.now.clients.now shared.now.lines.now run.passes.items run.ended.items run.last.items) }
     ensures fault { IfErr result (IsLossOf shared.now.places.now) }
 {
-    let mut progress = Progress {
+    let mut progress: Progress<P> = Progress {
         racers: new_racers(shared.alloc, counts, shared.clients.len())?,
         ended: Vec::new(shared.alloc),
         start: 0,

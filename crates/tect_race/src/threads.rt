@@ -8,6 +8,7 @@ ghost use Rattle.race_ends.specs.Faults.{IsLossOf};
 
 use crate::workers::{Shared, Worker, assign, collect, run_worker};
 use players::Racer;
+use program_calls::Programs;
 use race_ends::RaceFault;
 use std::alloc::Global;
 use std::sync::Wait;
@@ -28,7 +29,7 @@ fn is_of(line: &Line, worker: u32, worker_count: u32) -> bool
 }
 
 /// Whether one of the worker's clients has a line in the part.
-fn is_busy(worker: &Worker, part: &[Line], worker_count: u32) -> bool
+fn is_busy<P: Programs + Drop>(worker: &Worker<P>, part: &[Line], worker_count: u32) -> bool
     requires { worker.now.number < worker_count }
     ensures { result ≡ has_line worker_count part.now worker.now }
 {
@@ -42,12 +43,12 @@ fn is_busy(worker: &Worker, part: &[Line], worker_count: u32) -> bool
 
 /// Puts the workers, in their order, into batches, one for each thread: as many as there are workers with a line in the part, and
 /// one if there is none.
-fn into_batches(
+fn into_batches<P: Programs + Drop>(
     alloc: Global,
-    workers: Vec<Worker>,
+    workers: Vec<Worker<P>>,
     part: &[Line],
     worker_count: u32,
-) -> Result<Vec<Vec<Worker>>, NoMemory>
+) -> Result<Vec<Vec<Worker<P>>>, NoMemory>
     requires { All (λ worker. worker.number < worker_count) workers.items }
     ensures { IfOk result (λ batches. AreBatches worker_count part.now workers.items batches.items) }
 {
@@ -68,19 +69,19 @@ fn into_batches(
 }
 
 /// The workers of a batch, one after another, do their lines among those from `start` up to `end`.
-fn run_batch<R: Wait, G: Gate>(
+fn run_batch<P: Programs + Drop, R: Wait, G: Gate>(
     shared: &Shared<'_, R, G>,
-    batch: Vec<Worker>,
+    batch: Vec<Worker<P>>,
     start: usize,
     end: usize,
-) -> Result<Vec<Worker>, RaceFault>
+) -> Result<Vec<Worker<P>>, RaceFault>
     requires places { HasPlaces shared.now.places.now }
     requires part { (start ≤ end) × (end ≤ length shared.now.lines.now) }
     requires clients { All (IsOfClient (length shared.now.clients.now)) (slice_range shared.now.lines.now start end) }
     requires ready { All
-        (IsWorker shared.now.places.now (length shared.now.clients.now) shared.now.worker_count (drop start shared.now.lines.now))
+        (IsWorker P.rules shared.now.places.now (length shared.now.clients.now) shared.now.worker_count (drop start shared.now.lines.now))
         batch.items }
-    ensures { BatchCame shared.now.places.now shared.now.clients.now shared.now.worker_count (slice_range shared.now.lines.now start end)
+    ensures { BatchCame P.rules shared.now.places.now shared.now.clients.now shared.now.worker_count (slice_range shared.now.lines.now start end)
         (drop end shared.now.lines.now) batch.items result }
 {
     let mut done = Vec::new(shared.alloc);
@@ -94,10 +95,10 @@ fn run_batch<R: Wait, G: Gate>(
 }
 
 /// The workers of all batches, in order, that came to the end, or the fault of the first batch that did not.
-fn all_ended<R: Wait, G: Gate>(
+fn all_ended<P: Programs + Drop, R: Wait, G: Gate>(
     shared: &Shared<'_, R, G>,
-    ran: Vec<Result<Vec<Worker>, RaceFault>>,
-) -> Result<Vec<Worker>, RaceFault>
+    ran: Vec<Result<Vec<Worker<P>>, RaceFault>>,
+) -> Result<Vec<Worker<P>>, RaceFault>
     requires { All (λ batch. IfErr batch (IsLossOf shared.now.places.now)) ran.items }
     ensures ended { IfOk result (λ workers. All (λ batch. IsOk batch) ran.items) }
     ensures joined { IfOk result (λ workers. workers.items ≡ flat_map ended_workers ran.items) }
@@ -114,21 +115,21 @@ fn all_ended<R: Wait, G: Gate>(
 }
 
 /// All workers do their lines among those from `start` up to `end`, each that has one in a thread of its own. All have ended then.
-fn run_workers<R: Threads + Wait + Sync, G: Gate + Sync>(
+fn run_workers<P: Programs + Drop + Send, R: Threads + Wait + Sync, G: Gate + Sync>(
     shared: &Shared<'_, R, G>,
-    workers: Vec<Worker>,
+    workers: Vec<Worker<P>>,
     start: usize,
     end: usize,
-) -> Result<Vec<Worker>, RaceFault>
+) -> Result<Vec<Worker<P>>, RaceFault>
     requires places { HasPlaces shared.now.places.now }
     requires part { (start ≤ end) × (end ≤ length shared.now.lines.now) }
     requires clients { All (IsOfClient (length shared.now.clients.now)) (slice_range shared.now.lines.now start end) }
-    requires ready { AreWorkers shared.now.places.now (length shared.now.clients.now) shared.now.worker_count
+    requires ready { AreWorkers P.rules shared.now.places.now (length shared.now.clients.now) shared.now.worker_count
         (drop start shared.now.lines.now) workers.items }
     ensures ran { IfOk result
-        (λ now. WorkersRan shared.now.clients.now (slice_range shared.now.lines.now start end) workers.items now.items) }
+        (λ now. WorkersRan P.rules shared.now.clients.now (slice_range shared.now.lines.now start end) workers.items now.items) }
     ensures ready { IfOk result
-        (λ now. AreWorkers shared.now.places.now (length shared.now.clients.now) shared.now.worker_count (drop end shared.now.lines.now)
+        (λ now. AreWorkers P.rules shared.now.places.now (length shared.now.clients.now) shared.now.worker_count (drop end shared.now.lines.now)
         now.items) }
     ensures fault { IfErr result (IsLossOf shared.now.places.now) }
 {
@@ -140,7 +141,7 @@ fn run_workers<R: Threads + Wait + Sync, G: Gate + Sync>(
     let worker_count = shared.worker_count;
     let gate = shared.gate;
     let batches = into_batches(alloc, workers, &lines[start..end], worker_count)?;
-    let work = |batch: Vec<Worker>| {
+    let work = |batch: Vec<Worker<P>>| {
         let shared = Shared {
             rt,
             alloc,
@@ -159,21 +160,21 @@ fn run_workers<R: Threads + Wait + Sync, G: Gate + Sync>(
 }
 
 /// All clients do their lines among those from `start` up to `end`.
-pub fn run_part<R: Threads + Wait + Sync, G: Gate + Sync>(
+pub fn run_part<P: Programs + Drop + Send, R: Threads + Wait + Sync, G: Gate + Sync>(
     shared: &Shared<'_, R, G>,
-    racers: Vec<Racer>,
+    racers: Vec<Racer<P>>,
     start: usize,
     end: usize,
-) -> Result<Vec<Racer>, RaceFault>
+) -> Result<Vec<Racer<P>>, RaceFault>
     requires places { HasPlaces shared.now.places.now }
     requires part { (start ≤ end) × (end ≤ length shared.now.lines.now) }
     requires workers { 0 < shared.now.worker_count }
     requires all { length racers.items ≡ length shared.now.clients.now }
     requires clients { All (IsOfClient (length shared.now.clients.now)) (slice_range shared.now.lines.now start end) }
-    requires ready { AreRacers shared.now.places.now (drop start shared.now.lines.now) racers.items }
-    ensures ran { IfOk result (λ now. RacersRan shared.now.clients.now (slice_range shared.now.lines.now start end) racers.items
+    requires ready { AreRacers P.rules shared.now.places.now (drop start shared.now.lines.now) racers.items }
+    ensures ran { IfOk result (λ now. RacersRan P.rules shared.now.clients.now (slice_range shared.now.lines.now start end) racers.items
         now.items) }
-    ensures ready { IfOk result (λ now. AreRacers shared.now.places.now (drop end shared.now.lines.now) now.items) }
+    ensures ready { IfOk result (λ now. AreRacers P.rules shared.now.places.now (drop end shared.now.lines.now) now.items) }
     ensures fault { IfErr result (IsLossOf shared.now.places.now) }
 {
     let clients = racers.len();

@@ -9,6 +9,7 @@ ghost use Rattle.tect_race.specs.Faults.{race_result};
 
 use place_locks::{Locked, Places};
 use players::{Racer, RacerFault, play_act};
+use program_calls::Programs;
 use race_ends::RaceFault;
 use std::alloc::Global;
 use std::sync::Wait;
@@ -30,13 +31,13 @@ pub struct Shared<'a, R: Wait, G: Gate> {
 /// A worker, and the clients that it runs: client number i, from 0, is of the worker `i % worker_count`, and stands at
 /// `i / worker_count`.
 #[derive(Drop)]
-pub struct Worker {
+pub struct Worker<P: Programs> {
     pub number: u32,
-    pub racers: Vec<Racer>,
+    pub racers: Vec<Racer<P>>,
 }
 
 /// So many workers, with no client.
-fn idle_workers(alloc: Global, worker_count: u32) -> Result<Vec<Worker>, NoMemory>
+fn idle_workers<P: Programs + Drop>(alloc: Global, worker_count: u32) -> Result<Vec<Worker<P>>, NoMemory>
     ensures { IfOk result (λ workers. AreAssigned worker_count [] workers.items) }
 {
     let mut workers = Vec::new(alloc);
@@ -50,7 +51,7 @@ fn idle_workers(alloc: Global, worker_count: u32) -> Result<Vec<Worker>, NoMemor
 }
 
 /// Gives each client to its worker.
-pub fn assign(alloc: Global, racers: Vec<Racer>, worker_count: u32) -> Result<Vec<Worker>, NoMemory>
+pub fn assign<P: Programs + Drop>(alloc: Global, racers: Vec<Racer<P>>, worker_count: u32) -> Result<Vec<Worker<P>>, NoMemory>
     requires { 0 < worker_count }
     ensures { IfOk result (λ workers. AreAssigned worker_count racers.items workers.items) }
 {
@@ -65,7 +66,7 @@ pub fn assign(alloc: Global, racers: Vec<Racer>, worker_count: u32) -> Result<Ve
 }
 
 /// Takes the clients of all workers together again, in their order.
-pub fn collect(alloc: Global, workers: Vec<Worker>, clients: usize) -> Result<Vec<Racer>, NoMemory>
+pub fn collect<P: Programs + Drop>(alloc: Global, workers: Vec<Worker<P>>, clients: usize) -> Result<Vec<Racer<P>>, NoMemory>
     requires some { 0 < length workers.items }
     requires can { CanBeCollected clients workers.items }
     ensures all { IfOk result (λ all. length all.items ≡ clients) }
@@ -96,16 +97,16 @@ fn raced(played: Result<(), RacerFault>) -> Result<(), RaceFault>
 }
 
 /// Does the line of a client, if the client is the worker's.
-fn play_line<R: Wait, G: Gate>(
+fn play_line<P: Programs + Drop, R: Wait, G: Gate>(
     shared: &Shared<'_, R, G>,
-    worker: &mut Worker,
+    worker: &mut Worker<P>,
     line: &Line,
 ) -> Result<(), RaceFault>
     requires places { HasPlaces shared.now.places.now }
     requires client { IsOfClient (length shared.now.clients.now) line.now }
     requires ready { (later : List ScriptLine)
-        × IsWorker shared.now.places.now (length shared.now.clients.now) shared.now.worker_count (line.now ∷ later) worker.old }
-    ensures plays { OnOk result (WorkerPlays shared.now.clients.now line.now worker.old worker.new) }
+        × IsWorker P.rules shared.now.places.now (length shared.now.clients.now) shared.now.worker_count (line.now ∷ later) worker.old }
+    ensures plays { OnOk result (WorkerPlays P.rules shared.now.clients.now line.now worker.old worker.new) }
     ensures fault { IfErr result (IsLossOf shared.now.places.now) }
 {
     let Line::Client { actor, act, .. } = line else {
@@ -133,18 +134,18 @@ fn play_line<R: Wait, G: Gate>(
 }
 
 /// Does the lines of the worker's clients among those from `start` up to `end`.
-pub fn run_worker<R: Wait, G: Gate>(
+pub fn run_worker<P: Programs + Drop, R: Wait, G: Gate>(
     shared: &Shared<'_, R, G>,
-    worker: Worker,
+    worker: Worker<P>,
     start: usize,
     end: usize,
-) -> Result<Worker, RaceFault>
+) -> Result<Worker<P>, RaceFault>
     requires places { HasPlaces shared.now.places.now }
     requires part { (start ≤ end) × (end ≤ length shared.now.lines.now) }
     requires clients { All (IsOfClient (length shared.now.clients.now)) (slice_range shared.now.lines.now start end) }
-    requires ready { IsWorker shared.now.places.now (length shared.now.clients.now) shared.now.worker_count
+    requires ready { IsWorker P.rules shared.now.places.now (length shared.now.clients.now) shared.now.worker_count
         (drop start shared.now.lines.now) worker }
-    ensures { WorkerCame shared.now.places.now shared.now.clients.now shared.now.worker_count (slice_range shared.now.lines.now start end)
+    ensures { WorkerCame P.rules shared.now.places.now shared.now.clients.now shared.now.worker_count (slice_range shared.now.lines.now start end)
         (drop end shared.now.lines.now) worker result }
 {
     let mut worker = worker;

@@ -15,37 +15,37 @@ use Rattle.race_ends.proofs.Order.{order_rises, started_stand}
 use Rattle.race_ends.proofs.ending.finish.Goals as goal
 
 pub gather_all-requires-clause-places : goal.gather_all-requires-clause-places
-gather_all-requires-clause-places c =
+gather_all-requires-clause-places g c =
     subst (λ (ks : List AnyKept). StandInOrder 0 ks) (sym c.as_slice.ensures.value)
     (started_stand c.args.places c.in_ok-kepts.kepts.items c.in_ok-kepts.ensures.all)
 
 pub gather_all-requires-clause-actors : goal.gather_all-requires-clause-actors
-gather_all-requires-clause-actors c =
+gather_all-requires-clause-actors g c =
     let plan = c.args.plan.now in
     subst (λ (ps : List Pass). HaveDifferentActors ps) (sym c.as_slice-2.ensures.value)
-    (differ plan.counts plan.clients plan.lines c.args.passes.items c.args.ended.items c.args.last.items c.requires.run)
+    (differ g.P.Programs.rules plan.counts plan.clients plan.lines c.args.passes.items c.args.ended.items c.args.last.items c.requires.run)
 
 pub returns-in_err-entries-clause-fault : goal.returns-in_err-entries-clause-fault
-returns-in_err-entries-clause-fault c =
+returns-in_err-entries-clause-fault g c =
     let plan = c.args.plan.now in
     let kepts = c.in_ok-kepts.kepts.items in
     let passes = c.args.passes.items in
     let started = subst (λ (counts : Counts). AreStarted counts kepts) c.requires.places c.in_ok-kepts.ensures.all in
-    let actors = differ plan.counts plan.clients plan.lines passes c.args.ended.items c.args.last.items c.requires.run in
     let split = subst (λ (ks : List AnyKept). IsSplitOf ks passes c.in_err-entries.field-0.0) c.as_slice.ensures.value
     (subst (λ (ps : List Pass). IsSplitOf c.as_slice.result.now ps c.in_err-entries.field-0.0) c.as_slice-2.ensures.value
     c.in_err-entries.ensures.split) in
     let p = err_from_is_err_and c.from_residual-in_err-entries.result c.from_residual-in_err-entries.ensures.1 in
-    rw (p.1, p.2) (split_is_fault plan.counts kepts passes c.in_err-entries.field-0.0 started actors split)
+    rw (p.1, p.2) (split_is_fault g.P.Programs.rules plan passes c.args.ended.items c.args.last.items c.requires.run kepts started
+    c.in_err-entries.field-0.0 split)
 
 pub tell-requires-clause-rising : goal.tell-requires-clause-rising
-tell-requires-clause-rising c =
+tell-requires-clause-rising g c =
     let entries = c.in_ok-entries.entries.items in
     let order = c.in_ok-entries.ensures.gathered.order in
     rw c.as_slice-3.ensures.value (order_rises (map (λ m. m.now) entries) order)
 
 pub tell-requires-clause-dumps : goal.tell-requires-clause-dumps
-tell-requires-clause-dumps c =
+tell-requires-clause-dumps g c =
     let plan = c.args.plan.now in
     let kepts = c.in_ok-kepts.kepts.items in
     let passes = c.args.passes.items in
@@ -53,10 +53,10 @@ tell-requires-clause-dumps c =
     let gathered = gathered_behind c.as_slice.result.now kepts c.as_slice-2.result.now passes entries c.as_slice.ensures.value
     c.as_slice-2.ensures.value c.in_ok-entries.ensures.gathered in
     rw c.as_slice-3.ensures.value
-    (dumps plan.counts plan.clients plan.lines passes c.args.ended.items c.args.last.items c.requires.run kepts entries gathered)
+    (dumps g.P.Programs.rules plan.counts plan.clients plan.lines passes c.args.ended.items c.args.last.items c.requires.run kepts entries gathered)
 
 pub returns-clause-raced : goal.returns-clause-raced
-returns-clause-raced c =
+returns-clause-raced g c =
     let plan = c.args.plan.now in
     let kepts = c.in_ok-kepts.kepts.items in
     let passes = c.args.passes.items in
@@ -66,5 +66,5 @@ returns-clause-raced c =
     c.as_slice-2.ensures.value c.in_ok-entries.ensures.gathered in
     let ended = c.args.ended.items in
     let last = c.args.last.items in
-    raced plan passes ended last c.requires.run kepts started entries gathered c.in_ok-report.report.items
+    raced g.P.Programs.rules plan passes ended last c.requires.run kepts started entries gathered c.in_ok-report.report.items
     (c.in_ok-report.ensures ∙ ap (λ ms. told_by ended last (map (λ m. m.now) ms)) c.as_slice-3.ensures.value)

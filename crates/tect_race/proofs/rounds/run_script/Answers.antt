@@ -15,12 +15,12 @@ lines-init g c =
     let names = c.args.shared.now.clients.now in
     let ls : List Line = c.args.shared.now.lines.now in
     let racers = c.in_ok-new_racers.field-0.items in
-    let stood = subst (λ (es : List EndedPart). Stood c.args.counts names [] ls 0 racers es) (sym c.new.ensures.items)
-    (stood_new c.args.counts names ls racers c.in_ok-new_racers.ensures c.requires.script) in
+    let stood = subst (λ (es : List EndedPart). Stood g.P.Programs.rules c.args.counts names [] ls 0 racers es) (sym c.new.ensures.items)
+    (stood_new g.P.Programs.rules c.args.counts names ls racers c.in_ok-new_racers.ensures c.requires.script) in
     record {
       low = omega arith;
       part = none_yet (IsOfClient (length names)) ls 0;
-      stood = subst (λ w. Stood w names [] ls 0 racers c.new.result.items) c.requires.counts stood;
+      stood = subst (λ w. Stood g.P.Programs.rules w names [] ls 0 racers c.new.result.items) c.requires.counts stood;
     }
 
 pub lines-preserved : goal.lines-preserved
@@ -30,11 +30,11 @@ lines-preserved g c =
     let ls : List Line = c.args.shared.now.lines.now in
     let next = c.lines.number + 1 in
     elim c.if-matches.branch [
-      | then-matches+in_ok-progress w ↦ subst (HasCome counts names ls next) (sym w.progress-is) w.in_ok-progress.ensures.dumped
+      | then-matches+in_ok-progress w ↦ subst (HasCome g.P.Programs.rules counts names ls next) (sym w.progress-is) w.in_ok-progress.ensures.dumped
       | else-matches w ↦
-          let come = come_past counts names ls c.lines.progress c.lines.number c.line-item.result c.lines-test.true c.line-item.is
+          let come = come_past g.P.Programs.rules counts names ls c.lines.progress c.lines.number c.line-item.result c.lines-test.true c.line-item.is
           (elim c.match-matches.branch
           [ in-Dump v ↦ absurd (false≢true (sym w.if-matches.false ∙ v.matches-is)) | in_default v ↦ v.in_default.not-Dump ])
           c.requires.script.asked c.lines.invariant in
-          subst (HasCome counts names ls next) (sym w.progress-is) come
+          subst (HasCome g.P.Programs.rules counts names ls next) (sym w.progress-is) come
     ]

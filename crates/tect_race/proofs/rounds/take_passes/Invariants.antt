@@ -3,4 +3,4 @@ use Rattle.tect_race.specs.Passes.{IsPassOf}
 use Rattle.tect_race.proofs.rounds.take_passes.Given as goal
 
 abbrev pub invariant-racers : goal.invariant-racers
-invariant-racers l = AllZip IsPassOf l.yielded l.passes.items
+invariant-racers g l = AllZip IsPassOf l.yielded l.passes.items

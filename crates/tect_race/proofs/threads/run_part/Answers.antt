@@ -37,7 +37,7 @@ pub returns-clause-ran : goal.returns-clause-ran
 returns-clause-ran g c =
     let p : In_ok-done g = (goal.at.returns-clause-ran g c).In_ok-done in
     let shared = p.args.shared.now in
-    racers_ran shared.worker_count p.requires.workers shared.clients.now _ p.args.racers.items c.in_ok-collected.collected.items
+    racers_ran g.P.Programs.rules shared.worker_count p.requires.workers shared.clients.now _ p.args.racers.items c.in_ok-collected.collected.items
     p.in_ok-assigned.assigned.items p.in_ok-done.done.items p.in_ok-assigned.ensures
     (still_assigned g c p c.in_ok-collected.ensures.assigned)
     (c.in_ok-collected.ensures.all ∙ p.len-clients.ensures ∙ p.args.racers.ok.0) p.in_ok-done.ensures.ran

@@ -6,10 +6,10 @@ use Rattle.tect_race.proofs.Assigning.{worker_within, assigned_on}
 use Rattle.tect_race.proofs.workers.assign.Goals as goal
 
 pub racers-preserved : goal.racers-preserved
-racers-preserved c =
+racers-preserved g c =
     let count : c.racers.assigned ≡ length c.racers.yielded = c.racers.invariant.count in
-    let old : Worker = c.index_mut.result.now in
-    let new : Worker = record { number = c.index_mut.result.now.number; racers = c.push.new.self } in
+    let old : Worker g.row.P.Denot = c.index_mut.result.now in
+    let new : Worker g.row.P.Denot = record { number = c.index_mut.result.now.number; racers = c.push.new.self } in
     let within = worker_within c.args.worker_count c.requires c.racers.yielded c.racers.yielded c.racers.workers.items
     c.racers.invariant.assigned in
     let here : slice_get c.racers.workers.items (length c.racers.yielded % c.args.worker_count) ≡ Some old =

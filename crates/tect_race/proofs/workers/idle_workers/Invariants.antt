@@ -3,4 +3,4 @@ use Rattle.tect_race.specs.Ready.{AreAssigned}
 use Rattle.tect_race.proofs.workers.idle_workers.Given as goal
 
 abbrev pub invariant-each : goal.invariant-each
-invariant-each l = AreAssigned l.number [] l.workers.items
+invariant-each g l = AreAssigned l.number [] l.workers.items

@@ -8,7 +8,7 @@ use Rattle.tect_race.proofs.workers.play_line.Goals as goal
 pub returns-then-number-shared : goal.returns-then-number-shared
 returns-then-number-shared g c = record {
   fault = tt;
-  plays = line_rests c.args.shared.now.places.now c.args.shared.now.clients.now (length c.args.shared.now.clients.now)
+  plays = line_rests g.P.Programs.rules c.args.shared.now.places.now c.args.shared.now.clients.now (length c.args.shared.now.clients.now)
       c.args.shared.now.worker_count c.args.line.now c.in-Client.client c.in-Client.actor c.in-Client.act c.args.worker.now
       c.in-Client.is c.requires.client c.requires.ready c.if-number-shared.true;
 }
