@@ -46,7 +46,7 @@ batches_are : (n m : ℕ) (busy : Bool) → (busy ≡ false → n ≡ 0) → n +
 batches_are n m true first count = omega arith
 batches_are n m false first count = let z : n ≡ 0 = first refl in omega arith
 
-pub cut_none : (worker_count : ℕ) (ls : List Line) → IsCut worker_count ls [] [] [] false
+pub cut_none : {S : Type 0} (worker_count : ℕ) (ls : List Line) → IsCut {S = S} worker_count ls [] [] [] false
 cut_none worker_count ls = record {
   joined = refl;
   alone = λ k d l. absurd (omega arith);

@@ -259,7 +259,7 @@ module _ {S : Type 0} (P : Programs S) (counts : Counts) (names : List (List ℕ
         (zip_at IsPassOf us ps i u.0 p taken u.1 e).actor ∙ same_actor P k r.0 u.0 (zip_at (Closed P k) ts us i r.0 u.0 closed r.1 u.1)
         ∙ ready.own i r.0 r.1;
     stories = grown.0;
-    each = all_finished counts names (done ++ part) (clocks_of es) k low ts us ps grown.0 grown.1 closed
+    each = all_finished P counts names (done ++ part) (clocks_of es) k low ts us ps grown.0 grown.1 closed
         (recursion_from_All (λ r. r.client.clock ≤ k) ts high) taken;
     answers = have_answers es last grown.0 lengths ended_still
         (told ∙ all_told P counts names (done ++ part) (clocks_of es) ts grown.0 grown.1);

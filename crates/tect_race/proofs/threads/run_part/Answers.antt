@@ -7,7 +7,7 @@ use Rattle.tect_race.proofs.threads.run_part.Goals.{In_ok-done, In_ok-collected}
 pub run_workers-requires-clause-ready : goal.run_workers-requires-clause-ready
 run_workers-requires-clause-ready g c κs within =
     let shared = c.args.shared.now in
-    workers_ready shared.worker_count c.requires.workers shared.places.now (length shared.clients.now) (drop c.args.start shared.lines.now)
+    workers_ready g.P.Programs.rules shared.worker_count c.requires.workers shared.places.now (length shared.clients.now) (drop c.args.start shared.lines.now)
     c.args.racers.items c.in_ok-assigned.assigned.items c.requires.all c.requires.ready c.in_ok-assigned.ensures
 
 pub collect-requires-clause-some : goal.collect-requires-clause-some
@@ -23,7 +23,7 @@ collect-requires-clause-can g c =
     let p : In_ok-done g = (goal.at.collect-requires-clause-can g c).In_ok-done in
     let shared = p.args.shared.now in
     subst (λ n. CanBeCollected n p.in_ok-done.done.items) (sym (as_many g p))
-    (can_collect shared.worker_count p.requires.workers shared.places.now (length shared.clients.now) (drop p.args.end shared.lines.now)
+    (can_collect g.P.Programs.rules shared.worker_count p.requires.workers shared.places.now (length shared.clients.now) (drop p.args.end shared.lines.now)
     p.in_ok-done.done.items p.in_ok-done.ensures.ready)
 
 -- the clients that were collected are those of the workers
@@ -46,6 +46,6 @@ pub returns-clause-ready : goal.returns-clause-ready
 returns-clause-ready g c =
     let p : In_ok-done g = (goal.at.returns-clause-ready g c).In_ok-done in
     let shared = p.args.shared.now in
-    racers_ready shared.worker_count p.requires.workers shared.places.now (length shared.clients.now) (drop p.args.end shared.lines.now)
+    racers_ready g.P.Programs.rules shared.worker_count p.requires.workers shared.places.now (length shared.clients.now) (drop p.args.end shared.lines.now)
     c.in_ok-collected.collected.items p.in_ok-done.done.items (still_assigned g c p c.in_ok-collected.ensures.assigned)
     p.in_ok-done.ensures.ready

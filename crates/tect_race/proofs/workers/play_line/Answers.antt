@@ -15,31 +15,31 @@ returns-then-number-shared g c = record {
 
 pub play_act-played-requires-clause-counts : goal.play_act-played-requires-clause-counts
 play_act-played-requires-clause-counts g c =
-    line_counts c.args.shared.now.places.now c.args.shared.now.clients.now (length c.args.shared.now.clients.now)
+    line_counts g.P.Programs.rules c.args.shared.now.places.now c.args.shared.now.clients.now (length c.args.shared.now.clients.now)
     c.args.shared.now.worker_count c.args.line.now c.in-Client.client c.in-Client.actor c.in-Client.act c.args.worker.now
     c.in-Client.is c.requires.client c.requires.ready c.if-number-shared.false c.index_mut.result.now c.index_mut.ensures.value
 
 pub play_act-played-requires-clause-client : goal.play_act-played-requires-clause-client
 play_act-played-requires-clause-client g c =
-    line_client c.args.shared.now.places.now c.args.shared.now.clients.now (length c.args.shared.now.clients.now)
+    line_client g.P.Programs.rules c.args.shared.now.places.now c.args.shared.now.clients.now (length c.args.shared.now.clients.now)
     c.args.shared.now.worker_count c.args.line.now c.in-Client.client c.in-Client.actor c.in-Client.act c.args.worker.now
     c.in-Client.is c.requires.client c.requires.ready c.if-number-shared.false c.index_mut.result.now c.index_mut.ensures.value
 
 pub play_act-played-requires-clause-few : goal.play_act-played-requires-clause-few
 play_act-played-requires-clause-few g c =
-    line_few c.args.shared.now.places.now c.args.shared.now.clients.now (length c.args.shared.now.clients.now)
+    line_few g.P.Programs.rules c.args.shared.now.places.now c.args.shared.now.clients.now (length c.args.shared.now.clients.now)
     c.args.shared.now.worker_count c.args.line.now c.in-Client.client c.in-Client.actor c.in-Client.act c.args.worker.now
     c.in-Client.is c.requires.client c.requires.ready c.if-number-shared.false c.index_mut.result.now c.index_mut.ensures.value
 
 pub play_act-played-requires-clause-takes : goal.play_act-played-requires-clause-takes
 play_act-played-requires-clause-takes g c =
-    line_takes c.args.shared.now.places.now c.args.shared.now.clients.now (length c.args.shared.now.clients.now)
+    line_takes g.P.Programs.rules c.args.shared.now.places.now c.args.shared.now.clients.now (length c.args.shared.now.clients.now)
     c.args.shared.now.worker_count c.args.line.now c.in-Client.client c.in-Client.actor c.in-Client.act c.args.worker.now
     c.in-Client.is c.requires.client c.requires.ready c.if-number-shared.false c.index_mut.result.now c.index_mut.ensures.value
 
 pub returns-clause-plays : goal.returns-clause-plays
 returns-clause-plays g c =
-    line_plays c.args.shared.now.places.now c.args.shared.now.clients.now (length c.args.shared.now.clients.now)
+    line_plays g.P.Programs.rules c.args.shared.now.places.now c.args.shared.now.clients.now (length c.args.shared.now.clients.now)
     c.args.shared.now.worker_count c.args.line.now c.in-Client.client c.in-Client.actor c.in-Client.act c.args.worker.now
     c.in-Client.is c.requires.client c.requires.ready c.if-number-shared.false c.index_mut.result.now c.index_mut.ensures.value
     c.play_act-played.result c.raced.result (played_too c.play_act-played.result c.raced.result c.raced.ensures) c.play_act-played.new.racer
