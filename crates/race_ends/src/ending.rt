@@ -9,7 +9,7 @@ use crate::ended::EndedPart;
 use crate::fault::RaceFault;
 use crate::report::tell;
 use entry_words::{Moment, Refused};
-use merge_runs::{GatherFault, gather};
+use merge_runs::{GatherFault, gather_lent};
 use passes::Pass;
 use place_kit::AnyKept;
 use place_locks::Places;
@@ -80,7 +80,7 @@ fn gather_all<'a>(
     ensures gathered { IfOk result (λ v. IsGathered kepts.now passes.now (map (λ m. m.now) v.items)) }
     ensures split { IfErr result (IsSplitOf kepts.now passes.now) }
 {
-    match gather(alloc, kepts, passes) {
+    match gather_lent(alloc, kepts, passes) {
         Ok(entries) => Ok(entries),
         Err(GatherFault::NoMemory) => Err(RaceFault::NoMemory),
         Err(

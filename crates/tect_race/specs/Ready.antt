@@ -28,10 +28,10 @@ pub record IsReady {S : Type 0} (P : Programs S) (counts : Counts) (ls : List Li
 -- order; each is ready for these lines.
 pub record IsWorker {S : Type 0} (P : Programs S) (counts : Counts) (clients worker_count : ℕ) (ls : List Line) (c : Worker S) : Type 0
   where
-  pub number : c.number < worker_count
-  pub filled : (slot : ℕ) → (slot < length c.racers.items) ↔ (slot * worker_count + c.number < clients)
-  pub own : (slot : ℕ) (r : Racer S) → slice_get c.racers.items slot ≡ Some r → r.client.actor ≡ slot * worker_count + c.number + 1
-  pub ready : (slot : ℕ) (r : Racer S) → slice_get c.racers.items slot ≡ Some r → IsReady P counts ls r
+    pub number : c.number < worker_count
+    pub filled : (slot : ℕ) → (slot < length c.racers.items) ↔ (slot * worker_count + c.number < clients)
+    pub own : (slot : ℕ) (r : Racer S) → slice_get c.racers.items slot ≡ Some r → r.client.actor ≡ slot * worker_count + c.number + 1
+    pub ready : (slot : ℕ) (r : Racer S) → slice_get c.racers.items slot ≡ Some r → IsReady P counts ls r
 
 -- all clients, in order, each ready for these lines
 pub record AreRacers {S : Type 0} (P : Programs S) (counts : Counts) (ls : List Line) (rs : List (Racer S)) : Type 0 where

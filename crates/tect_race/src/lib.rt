@@ -5,8 +5,6 @@
 mod part_ends;
 mod racing;
 mod rounds;
-#[cfg(test)]
-mod tests;
 mod threads;
 mod workers;
 

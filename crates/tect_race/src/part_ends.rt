@@ -23,7 +23,11 @@ fn greatest_clock<P: Programs + Drop>(racers: &[Racer<P>], floor: u64) -> u64
 }
 
 /// Takes out the client's answers, and raises its clock.
-fn close<P: Programs + Drop>(racer: &mut Racer<P>, clock: u64, answers: &mut Vec<ReportLine>) -> Result<(), NoMemory>
+fn close<P: Programs + Drop>(
+    racer: &mut Racer<P>,
+    clock: u64,
+    answers: &mut Vec<ReportLine>,
+) -> Result<(), NoMemory>
     requires { clock + 1 < 2 ^ 64 }
     ensures { OnOk result (Ended P.rules clock racer.old racer.new answers.old.items answers.new.items) }
 {
@@ -34,7 +38,11 @@ fn close<P: Programs + Drop>(racer: &mut Racer<P>, clock: u64, answers: &mut Vec
 }
 
 /// Takes out the answers of all clients, one client after another, and raises their clocks.
-fn close_all<P: Programs + Drop>(alloc: Global, racers: &mut [Racer<P>], clock: u64) -> Result<Vec<ReportLine>, NoMemory>
+fn close_all<P: Programs + Drop>(
+    alloc: Global,
+    racers: &mut [Racer<P>],
+    clock: u64,
+) -> Result<Vec<ReportLine>, NoMemory>
     requires { clock + 1 < 2 ^ 64 }
     ensures closed { OnOk result (AllClosed P.rules clock racers.old racers.new) }
     ensures answers { IfOk result (λ lines. lines.items ≡ flat_map (λ r. r.answers.items) racers.old) }
@@ -48,7 +56,11 @@ fn close_all<P: Programs + Drop>(alloc: Global, racers: &mut [Racer<P>], clock: 
 
 /// Ends a part, at a clock that no client's exceeds and that is not below `floor`. There is no memory where it has come to the
 /// limit of clocks.
-pub fn end_part<P: Programs + Drop>(alloc: Global, racers: &mut [Racer<P>], floor: u64) -> Result<EndedPart, RaceFault>
+pub fn end_part<P: Programs + Drop>(
+    alloc: Global,
+    racers: &mut [Racer<P>],
+    floor: u64,
+) -> Result<EndedPart, RaceFault>
     ensures clock { IfOk result (λ part. (floor ≤ part.clock) × (part.clock < 2 ^ 63)) }
     ensures highest { IfOk result (λ part. All (λ r. r.client.clock ≤ part.clock) racers.old) }
     ensures closed { IfOk result (λ part. AllClosed P.rules part.clock racers.old racers.new) }

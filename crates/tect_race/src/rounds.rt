@@ -40,7 +40,11 @@ struct Progress<P: Programs> {
 }
 
 /// So many clients, before they did anything.
-fn new_racers<P: Programs + Drop>(alloc: Global, counts: Counts, clients: usize) -> Result<Vec<Racer<P>>, NoMemory>
+fn new_racers<P: Programs + Drop>(
+    alloc: Global,
+    counts: Counts,
+    clients: usize,
+) -> Result<Vec<Racer<P>>, NoMemory>
     requires places { HasPlaces counts }
     requires few { clients ≤ 64 }
     ensures { IfOk result (λ racers. AreNew counts clients racers.items) }
@@ -89,7 +93,10 @@ fn end_at_dump<P: Programs + Drop + Send, R: Threads + Wait + Sync, G: Gate + Sy
 }
 
 /// The passes of the clients, in their order.
-fn take_passes<P: Programs + Drop>(alloc: Global, racers: Vec<Racer<P>>) -> Result<Vec<Pass>, NoMemory>
+fn take_passes<P: Programs + Drop>(
+    alloc: Global,
+    racers: Vec<Racer<P>>,
+) -> Result<Vec<Pass>, NoMemory>
     ensures { IfOk result (λ passes. AllZip IsPassOf racers.items passes.items) }
 {
     let mut passes = Vec::new(alloc);

@@ -37,7 +37,10 @@ pub struct Worker<P: Programs> {
 }
 
 /// So many workers, with no client.
-fn idle_workers<P: Programs + Drop>(alloc: Global, worker_count: u32) -> Result<Vec<Worker<P>>, NoMemory>
+fn idle_workers<P: Programs + Drop>(
+    alloc: Global,
+    worker_count: u32,
+) -> Result<Vec<Worker<P>>, NoMemory>
     ensures { IfOk result (λ workers. AreAssigned worker_count [] workers.items) }
 {
     let mut workers = Vec::new(alloc);
@@ -51,7 +54,11 @@ fn idle_workers<P: Programs + Drop>(alloc: Global, worker_count: u32) -> Result<
 }
 
 /// Gives each client to its worker.
-pub fn assign<P: Programs + Drop>(alloc: Global, racers: Vec<Racer<P>>, worker_count: u32) -> Result<Vec<Worker<P>>, NoMemory>
+pub fn assign<P: Programs + Drop>(
+    alloc: Global,
+    racers: Vec<Racer<P>>,
+    worker_count: u32,
+) -> Result<Vec<Worker<P>>, NoMemory>
     requires { 0 < worker_count }
     ensures { IfOk result (λ workers. AreAssigned worker_count racers.items workers.items) }
 {
@@ -66,7 +73,11 @@ pub fn assign<P: Programs + Drop>(alloc: Global, racers: Vec<Racer<P>>, worker_c
 }
 
 /// Takes the clients of all workers together again, in their order.
-pub fn collect<P: Programs + Drop>(alloc: Global, workers: Vec<Worker<P>>, clients: usize) -> Result<Vec<Racer<P>>, NoMemory>
+pub fn collect<P: Programs + Drop>(
+    alloc: Global,
+    workers: Vec<Worker<P>>,
+    clients: usize,
+) -> Result<Vec<Racer<P>>, NoMemory>
     requires some { 0 < length workers.items }
     requires can { CanBeCollected clients workers.items }
     ensures all { IfOk result (λ all. length all.items ≡ clients) }
