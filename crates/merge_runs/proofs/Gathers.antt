@@ -12,7 +12,9 @@ use Rattle.place_kit.specs.Kept.{history_of, place_of}
 use Rattle.entry_words.specs.Moments.{is_at, is_of, trail_of}
 use Rattle.merge_runs.specs.Merged.{IsInOrder, moments_of, trails, IsStored, HaveDifferentActors, StandInOrder}
 use Rattle.merge_runs.specs.Merged.{RestrictsToTrails, RestrictsToHistories}
+use Rattle.merge_runs.specs.MergedRuns.{IsOneHistory}
 use Rattle.merge_runs.specs.Splits.{IsStoredMoment}
+use Rattle.merge_runs.proofs.Agreement.{agreement, stored_trails}
 use Rattle.merge_runs.proofs.Order.{In}
 use Rattle.merge_runs.proofs.Members.{in_permutation, in_flat, flat_in, in_from_contains}
 use Rattle.merge_runs.proofs.Trails.{all_in, in_all, in_trails}
@@ -50,3 +52,17 @@ module _ (ks : List AnyKept) (ps : List Pass) (ms : List Moment) (stands : Stand
 
   pub restricts_to_trails : RestrictsToTrails ps ms
   restricts_to_trails = in_all (λ p. filter (is_of p.actor) ms ≡ moments_of p) ps (λ p i. restrict_trail ps ms perm order actors p i)
+
+-- what was merged is one history
+pub one_history : (ks : List AnyKept) (ps : List Pass) (ms : List Moment) → StandInOrder 0 ks → HaveDifferentActors ps
+    → IsPermutation (flat_map moments_of ps) ms → IsInOrder ms
+    → All (λ k. All (Contains (trails ps)) (history_of k)) ks → All (λ p. All (IsStoredMoment ks) (moments_of p)) ps
+    → IsOneHistory ks ps ms
+one_history ks ps ms stands actors perm order here there = record {
+  agree = agreement ks ps stands actors here there;
+  whole = perm;
+  order = order;
+  trails = restricts_to_trails ks ps ms stands actors perm order here there;
+  histories = restricts_to_histories ks ps ms stands actors perm order here there;
+  stored = stored_trails ks ps there;
+}

@@ -20,9 +20,15 @@ pub struct Merged {
 
 impl Model for Merged {
     ghost use Rattle.std.specs.Prelude.{All, map};
+    ghost use Rattle.std.specs.Coded.{codes};
+    ghost use Rattle.entry_words.specs.contracts.entry.Moment as moment;
+    ghost use Rattle.passes.specs.contracts.pass.Pass as pass;
+    ghost use Rattle.place_kit.specs.contracts.any.AnyKept as kept;
     ghost use Rattle.merge_runs.specs.MergedRuns.{MergedRuns, IsSpot, moment_at};
 
     ghost Value = { MergedRuns };
+
+    ghost coded = { Prim.hlevel (codes, kept.the_row.coded, pass.the_row.coded, moment.the_row.coded) };
 
     ghost view = { λ m. record {
       places = m.places.items;

@@ -63,11 +63,7 @@ fn keyed_moments<'a>(alloc: Global, passes: &'a [Pass]) -> Result<Vec<Keyed<'a>>
 }
 
 // The moments of the pass that stands there.
-fn append<'a>(
-    all: &mut Vec<Keyed<'a>>,
-    passes: &'a [Pass],
-    pass: usize,
-) -> Result<(), NoMemory>
+fn append<'a>(all: &mut Vec<Keyed<'a>>, passes: &'a [Pass], pass: usize) -> Result<(), NoMemory>
     requires within { pass < length passes.now }
     requires spots { All (IsAt passes.now) all.old.items }
     ensures moments { OnOk result (map moment_in all.new.items ≡ map moment_in all.old.items ++ moments_at passes.now pass) }

@@ -8,8 +8,7 @@ pub returns-in-Some : goal.returns-in-Some
 returns-in-Some c =
     let ms = c.args.moments.now in
     let m = c.moment-item.result in
-    let e = c.in-Some.entry.now in
-    (
+    let e = c.in-Some.entry.now in (
       contains_from_in (trail_of ms) e (act_of_in ms e m c.in-Some.ensures.0 (in_from_contains ms m
           (c.loop-moment.moment-index, c.loop-moment-test.true, sym c.moment-item.is))),
       c.in-Some.ensures.1,
