@@ -21,8 +21,8 @@ use store_rules::AnyReply;
 use tect_calls::{Asked, Memory, place};
 use tect_ids::{Answer, Command, NoMemory, OpId};
 
-/// A running command with the tokens that its next request needs, which are those of the op as which it began. Contracts see the
-/// program alone.
+/// A running command with the tokens that its next request needs, which are those of the op as which it began. As another op it has
+/// none: then `next` and `hear` answer as for want of memory. Contracts see the program alone.
 #[derive(Drop)]
 pub struct Running {
     alloc: Global,

@@ -34,5 +34,5 @@ returns-in-Err-HistoryFull-clause-step g c before is =
     (rw c.in-Err-HistoryFull.field-0-is at c.in-Err-HistoryFull.ensures.done)
     (c.in-Err-HistoryFull.ensures.err, only.0, only.1 ∙ ap (λ (n : Counts). request_place n c.args.asked) c.requires.same) refl
     c.fail-in-Err-HistoryFull.ensures.actor
-    (first_of (rw c.in-Err-HistoryFull.field-0-is at c.fail-in-Err-HistoryFull.ensures.pass, c.fail-in-Err-HistoryFull.ensures.pass))
-    (first_of (rw c.in-Err-HistoryFull.field-0-is at c.fail-in-Err-HistoryFull.ensures.step, c.fail-in-Err-HistoryFull.ensures.step))
+    c.fail-in-Err-HistoryFull.ensures.pass
+    c.fail-in-Err-HistoryFull.ensures.step
