@@ -18,7 +18,8 @@ use Rattle.world_runs.specs.Actors.{Actor, Running}
 use Rattle.world_runs.specs.Follows.{Begins as BeginsAs, IsBeginOf}
 use Rattle.world_runs.specs.Races.{own_lines}
 use Rattle.world_runs.specs.OwnRuns.{own_next}
-use Rattle.clients.specs.Lives.{ClientLife, state_in, op_in, next_op_in, IsLife, begun_life, refused_life, Begins, stopped_with, stopped_life}
+use Rattle.clients.specs.Lives.{ClientLife, state_in, op_in, next_op_in, IsLife, begun_life}
+use Rattle.clients.specs.Lives.{refused_life, Begins, stopped_with, stopped_life}
 use Rattle.clients.specs.Refused.{RunsIn}
 use Rattle.players.specs.Lives.{news_events}
 use Rattle.players.specs.Steps.{Grows}
@@ -103,7 +104,8 @@ pub record Starts {S : Type 0} (op : OpId) (s t : Actor S) : Type 0 where
 happening_starts : {S : Type 0} (P : Programs S) (counts : Counts) (op other : OpId) (c : Command) (s : Actor S) (h : Happening)
     → other ≡ op → BeginsAs c h → Starts op s (own_next P counts s (Own other h))
 happening_starts P counts op other c s (Began d) own is = record { number = ap (λ (o : OpId). o.number) own; stopped = refl; some = refl }
-happening_starts P counts op other c s (NotBegun d) own is = record { number = ap (λ (o : OpId). o.number) own; stopped = refl; some = refl }
+happening_starts P counts op other c s
+    (NotBegun d) own is = record { number = ap (λ (o : OpId). o.number) own; stopped = refl; some = refl }
 happening_starts P counts op other c s (Acted q x h) own is = absurd is
 happening_starts P counts op other c s (Ended a) own is = absurd is
 happening_starts P counts op other c s Stopped own is = absurd is
@@ -132,7 +134,8 @@ pub record LifeStopped {S : Type 0} (P : Programs S) (old new : ClientLife) : Ty
   pub grows : Grows old new news more
   pub events : news_events news more ≡ Own (op_in P old) Stopped ∷ []
 
-stopped_by : {S : Type 0} (P : Programs S) (old new : ClientLife) (silent : List Event) → old.silent ≡ silent → new ≡ stopped_with P old silent → LifeStopped P old new
+stopped_by : {S : Type 0} (P : Programs S) (old new : ClientLife) (silent : List Event) → old.silent ≡ silent
+    → new ≡ stopped_with P old silent → LifeStopped P old new
 stopped_by P old new [] none is =
     let m : Moment = Local (old.clock + 1) old.actor (notes.Stopped (op_in P old)) in
     let clock : new.clock ≡ old.clock + 1 = ap (λ (w : ClientLife). w.clock) is in

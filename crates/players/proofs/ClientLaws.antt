@@ -22,7 +22,8 @@ use Rattle.players.specs.Growing.{GrewBy}
 use Rattle.players.specs.Lives.{news_events}
 use Rattle.players.specs.Steps.{Grows}
 use Rattle.players.specs.Players.{IsPlayer, HasBegun, StepsOnce}
-use Rattle.players.proofs.Growths.{grows_actor, grows_counts, grows_events, grows_state, grows_at_once, grows_none, grows_both, added_events}
+use Rattle.players.proofs.Growths.{grows_actor, grows_counts, grows_events, grows_state, grows_at_once}
+use Rattle.players.proofs.Growths.{grows_none, grows_both, added_events}
 use Rattle.players.proofs.Begun.{has_begun, has_stopped}
 use Rattle.players.proofs.OneStep.{steps_once}
 use Rattle.players.proofs.Running.{busy_some}

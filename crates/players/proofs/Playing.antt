@@ -255,11 +255,13 @@ module _ {S : Type 0} (P : Programs S) {L A : Type 0} (counts : A → Counts) (f
         }
 
   -- the command is stopped
-  pub stops : (names : List (List ℕ)) (p q : L) (a b : A) → fits p a → IsSome (state p a).running → grows p a q b (Own (op p a) Stopped ∷ [])
+  pub stops : (names : List (List ℕ)) (p q : L) (a b : A) → fits p a → IsSome (state p a).running → grows p a q b
+      (Own (op p a) Stopped ∷ [])
       → (line : ReportLine)
       → line ≡ answer_line names (history q b) (op q b) answers.Stopped → Plays names acts.Stop p a q b (Some line)
   stops names p q a b fit running grown line is =
-      let state_is : state q b ≡ own_next P (counts a) (state p a) (Own (op p a) Stopped) = laws.next_state p q a b (Own (op p a) Stopped ∷ []) grown
+      let state_is : state q b ≡ own_next P (counts a) (state p a) (Own (op p a) Stopped) = laws.next_state p q a b
+      (Own (op p a) Stopped ∷ []) grown
       in
       let number : (state q b).number ≡ (state p a).number = ap (λ (s : Actor S). s.number) state_is in
       let none : (state q b).running ≡ None = ap (λ (s : Actor S). s.running) state_is in

@@ -37,11 +37,13 @@ module _ {S : Type 0} (w : ℕ) (pos : 0 < w) (rs : List (Racer S)) where
   }
 
   -- one client more
-  pub assigned_on : (cs : List (Worker S)) (r : Racer S) (c d : Worker S) → AreAssigned w rs cs → slice_get cs at ≡ Some c → d.number ≡ c.number
+  pub assigned_on : (cs : List (Worker S)) (r : Racer S) (c d : Worker S) → AreAssigned w rs cs → slice_get cs at ≡ Some c
+      → d.number ≡ c.number
       → d.racers.items ≡ c.racers.items ++ r ∷ [] → AreAssigned w (rs ++ r ∷ []) (set cs at d)
   assigned_on cs r c d a e number items =
       reassigned rs (rs ++ r ∷ []) cs c d a e number
-      (subst (λ (ys : List (Racer S)). IsShare w pos (rs ++ r ∷ []) at ys) (sym items) (share_more w pos rs r c.racers.items (a.each at c e)))
+      (subst (λ (ys : List (Racer S)). IsShare w pos (rs ++ r ∷ []) at ys) (sym items)
+      (share_more w pos rs r c.racers.items (a.each at c e)))
       (share_stays w pos rs r)
 
   -- one client less
@@ -94,12 +96,14 @@ collectable clients cs some can =
       },
     )
 
-pub collected_none : {S : Type 0} (w clients : ℕ) (all : List (Racer S)) (cs : List (Worker S)) → length all ≡ clients → AreAssigned w all cs
+pub collected_none : {S : Type 0} (w clients : ℕ) (all : List (Racer S)) (cs : List (Worker S)) → length all ≡ clients
+    → AreAssigned w all cs
     → AreCollected w clients all cs []
 collected_none w clients all cs e a = record
     { before = all; behind = []; whole = sym (append-nil all); left_are = e; assigned = a; taken = refl }
 
-pub collected_all : {S : Type 0} (w : ℕ) (all : List (Racer S)) (cs : List (Worker S)) (rs : List (Racer S)) → AreCollected w 0 all cs rs → reverse rs ≡ all
+pub collected_all : {S : Type 0} (w : ℕ) (all : List (Racer S)) (cs : List (Worker S)) (rs : List (Racer S)) → AreCollected w 0 all cs rs
+    → reverse rs ≡ all
 collected_all w all cs rs is =
     ap (λ (l : List (Racer _)). reverse l) is.taken ∙ reverse-reverse is.behind ∙ sym
     (is.whole ∙ ap (λ l. l ++ is.behind) (none is.before is.left_are))

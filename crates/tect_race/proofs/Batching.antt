@@ -23,11 +23,13 @@ all_back P [] ys all = all
 all_back P (x ∷ xs) ys all = all_back P xs ys (All-tail P x (xs ++ ys) all)
 
 -- what all workers meet those of each batch meet
-pub each_batch : {S : Type 0} (P : Worker S → Type 0) (bs : List (Vec (Worker S) Global)) → All P (flat_map (λ (b : Vec (Worker S) Global). b.items) bs)
+pub each_batch : {S : Type 0} (P : Worker S → Type 0) (bs : List (Vec (Worker S) Global)) → All P
+    (flat_map (λ (b : Vec (Worker S) Global). b.items) bs)
     → All (λ b. All P b.items) bs
 each_batch P [] all = All-nil (λ (b : Vec (Worker _) Global). All P b.items)
 each_batch P (b ∷ bs) all =
-    All-cons (λ (b : Vec (Worker _) Global). All P b.items) b bs (all_front P b.items (flat_map (λ (b : Vec (Worker _) Global). b.items) bs) all)
+    All-cons (λ (b : Vec (Worker _) Global). All P b.items) b bs
+    (all_front P b.items (flat_map (λ (b : Vec (Worker _) Global). b.items) bs) all)
     (each_batch P bs (all_back P b.items (flat_map (λ (b : Vec (Worker _) Global). b.items) bs) all))
 
 pub zip_append : {A B : Type 0} → (R : A → B → Type 0) (xs us : List A) (ys vs : List B) → AllZip R xs ys → AllZip R us vs
@@ -46,7 +48,8 @@ module _ {S : Type 0} (P : Programs S) (counts : Counts) (names : List (List ℕ
   Came batch r = BatchCame P counts names w ls later batch.items r
 
   pub all_came : (bs : List (Vec (Worker S) Global)) (rs : List (Result (Vec (Worker S) Global) RaceFault)) → length rs ≡ length bs
-      → ((i : ℕ) (b : Vec (Worker S) Global) (r : Result (Vec (Worker S) Global) RaceFault) → i < length bs → Came (get_or bs i b) (get_or rs i r))
+      → ((i : ℕ) (b : Vec (Worker S) Global) (r : Result (Vec (Worker S) Global) RaceFault) → i < length bs → Came (get_or bs i b)
+      (get_or rs i r))
       → AllZip Came bs rs
   all_came bs rs l h =
       zip_from Came bs rs l (λ i b r e f.
@@ -74,7 +77,8 @@ module _ {S : Type 0} (P : Programs S) (counts : Counts) (names : List (List ℕ
   ended_of b (Ok d) came ok = came.so
   ended_of b (Err e) came ok = absurd (cc)
 
-  all_ended : (bs : List (Vec (Worker S) Global)) (rs : List (Result (Vec (Worker S) Global) RaceFault)) → AllZip Came bs rs → All (λ r. IsOk r) rs
+  all_ended : (bs : List (Vec (Worker S) Global)) (rs : List (Result (Vec (Worker S) Global) RaceFault)) → AllZip Came bs rs
+      → All (λ r. IsOk r) rs
       → AllZip (WorkerEnds P counts names w ls later) (flat_map (λ (b : Vec (Worker S) Global). b.items) bs) (flat_map ended_workers rs)
   all_ended [] [] z ok = tt
   all_ended [] (r ∷ rs) z ok = absurd z
@@ -90,5 +94,6 @@ module _ {S : Type 0} (P : Programs S) (counts : Counts) (names : List (List ℕ
       → AllZip (WorkerEnds P counts names w ls later) cs ds
   workers_ended cs ds bs rs are z ok is =
       subst (λ (l : List (Worker S)). AllZip (WorkerEnds P counts names w ls later) l ds) are.joined
-      (subst (λ (l : List (Worker S)). AllZip (WorkerEnds P counts names w ls later) (flat_map (λ (b : Vec (Worker S) Global). b.items) bs) l)
+      (subst (λ (l : List (Worker S)). AllZip (WorkerEnds P counts names w ls later)
+      (flat_map (λ (b : Vec (Worker S) Global). b.items) bs) l)
       (sym is) (all_ended bs rs z ok))

@@ -111,14 +111,16 @@ module _ {S : Type 0} (P : Programs S) (w : ℕ) (pos : 0 < w) where
 
 -- ---- what the workers came to
 
-pub ended_ran : {S : Type 0} (P : Programs S) (counts : Counts) (names : List (List ℕ)) (w : ℕ) (ls later : List Line) (cs ds : List (Worker S))
+pub ended_ran : {S : Type 0} (P : Programs S) (counts : Counts) (names : List (List ℕ)) (w : ℕ) (ls later : List Line)
+    (cs ds : List (Worker S))
     → AllZip (WorkerEnds P counts names w ls later) cs ds → WorkersRan P names ls cs ds
 ended_ran P counts names w ls later [] [] z = tt
 ended_ran P counts names w ls later [] (d ∷ ds) z = absurd z
 ended_ran P counts names w ls later (c ∷ cs) [] z = absurd z
 ended_ran P counts names w ls later (c ∷ cs) (d ∷ ds) z = ((z.0).ran, ended_ran P counts names w ls later cs ds z.1)
 
-pub ended_ready : {S : Type 0} (P : Programs S) (counts : Counts) (names : List (List ℕ)) (w : ℕ) (ls ks later : List Line) (cs ds : List (Worker S))
+pub ended_ready : {S : Type 0} (P : Programs S) (counts : Counts) (names : List (List ℕ)) (w : ℕ) (ls ks later : List Line)
+    (cs ds : List (Worker S))
     → AreWorkers P counts (length names) w ks cs → AllZip (WorkerEnds P counts names w ls later) cs ds
     → AreWorkers P counts (length names) w later ds
 ended_ready P counts names w ls ks later cs ds workers z =

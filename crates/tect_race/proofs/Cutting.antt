@@ -14,7 +14,8 @@ one_if true = 1
 one_if false = 0
 
 -- These workers are cut so far: into the batches that are done, and one more, which has a worker with a line or is the first one.
-pub record IsCut {S : Type 0} (worker_count : ℕ) (ls : List Line) (cs : List (Worker S)) (done : List (Vec (Worker S) Global)) (batch : List (Worker S))
+pub record IsCut {S : Type 0} (worker_count : ℕ) (ls : List Line) (cs : List (Worker S)) (done : List (Vec (Worker S) Global))
+    (batch : List (Worker S))
     (busy : Bool) : Type 0 where
   pub joined : flat_map (λ (b : Vec (Worker S) Global). b.items) done ++ batch ≡ cs
   pub alone : All (λ b. busy_count worker_count ls b.items ≤ 1) done
@@ -104,7 +105,8 @@ module _ {S : Type 0} (worker_count : ℕ) (ls : List Line) where
         let n : length done + one_if busy ≡ busy_count worker_count ls cs = is.count in
         record {
           joined = ap (λ l. flat_map (λ (b : Vec (Worker S) Global). b.items) done ++ l) i ∙ sym
-              (append_assoc (flat_map (λ (b : Vec (Worker S) Global). b.items) done) batch.items (c ∷ [])) ∙ ap (λ l. l ++ c ∷ []) is.joined;
+              (append_assoc (flat_map (λ (b : Vec (Worker S) Global). b.items) done) batch.items (c ∷ []))
+              ∙ ap (λ l. l ++ c ∷ []) is.joined;
           alone = is.alone;
           last = omega arith;
           count = omega arith;

@@ -34,7 +34,8 @@ pub last_is : (low k : ℕ) (clocks : List ℕ) → last_clock low (clocks ++ k 
 last_is low k [] = refl
 last_is low k (j ∷ js) = last_is j k js
 
-module _ {S : Type 0} (P : Programs S) (counts : Counts) (names : List (List ℕ)) (done : List Line) (clocks : List ℕ) (r t : Racer S) (s : Story)
+module _ {S : Type 0} (P : Programs S) (counts : Counts) (names : List (List ℕ)) (done : List Line) (clocks : List ℕ) (r t : Racer S)
+    (s : Story)
     (is : Stands P counts names done clocks r s)
     (k : ℕ) (high : r.client.clock ≤ k) (closed : Closed P k r t) where
   clock_is : t.client.clock ≡ k
@@ -44,7 +45,8 @@ module _ {S : Type 0} (P : Programs S) (counts : Counts) (names : List (List ℕ
       (with_dumps (s.ended ++ s.last ∷ []) no_part) (busy_in P t.client)
   does_dump =
       let same : busy_in P t.client ≡ busy_in P r.client = ap (busy_in P) closed.client in
-      let all = does_lines-append s.actor None (busy_in P r.client) (busy_in P r.client) (filter (line_concerns s.actor) done) (lines.Dump ∷ [])
+      let all = does_lines-append s.actor None (busy_in P r.client) (busy_in P r.client) (filter (line_concerns s.actor) done)
+      (lines.Dump ∷ [])
       (with_dumps s.ended s.last) (Dumped ∷ []) is.does ([], refl, (refl, refl)) in
       rw (filter-append (line_concerns s.actor) done (lines.Dump ∷ []), dumps_dumped s.ended s.last, same) all
 
@@ -69,7 +71,8 @@ module _ {S : Type 0} (P : Programs S) (counts : Counts) (names : List (List ℕ
 
 -- ---- all clients
 
-pub all_grown : {S : Type 0} (P : Programs S) (counts : Counts) (names : List (List ℕ)) (done ls : List Line) (clocks : List ℕ) (rs ts : List (Racer S)) (ss : List Story)
+pub all_grown : {S : Type 0} (P : Programs S) (counts : Counts) (names : List (List ℕ)) (done ls : List Line) (clocks : List ℕ)
+    (rs ts : List (Racer S)) (ss : List Story)
     → AllStand P counts names done clocks rs ss → RacersRan P names ls rs ts
     → (us : List Story) × AllStand P counts names (done ++ ls) clocks ts us × (map (λ s. s.ended) us ≡ map (λ s. s.ended) ss)
 all_grown P counts names done ls clocks [] [] [] a r = ([], tt, refl)
@@ -85,7 +88,8 @@ all_grown P counts names done ls clocks (x ∷ rs) (t ∷ ts) (s ∷ ss) a r =
           rest.2,
     )
 
-pub all_dumped : {S : Type 0} (P : Programs S) (counts : Counts) (names : List (List ℕ)) (done : List Line) (clocks : List ℕ) (k : ℕ) (rs ts : List (Racer S))
+pub all_dumped : {S : Type 0} (P : Programs S) (counts : Counts) (names : List (List ℕ)) (done : List Line) (clocks : List ℕ) (k : ℕ)
+    (rs ts : List (Racer S))
     (ss : List Story) → AllStand P counts names done clocks rs ss
     → AllByRecursion (λ r. r.client.clock ≤ k) rs → AllClosed P k rs ts
     → AllStand P counts names (done ++ lines.Dump ∷ []) (clocks ++ k ∷ []) ts (map dumped ss)
@@ -98,7 +102,8 @@ all_dumped P counts names done clocks k (x ∷ rs) (t ∷ ts) (s ∷ ss) a h r =
     (stands_dumped P counts names done clocks x t s a.0 k h.0 r.0, all_dumped P counts names done clocks k rs ts ss a.1 h.1 r.1)
 
 -- the clients' answers are those of their last parts
-pub all_told : {S : Type 0} (P : Programs S) (counts : Counts) (names : List (List ℕ)) (done : List Line) (clocks : List ℕ) (rs : List (Racer S)) (ss : List Story)
+pub all_told : {S : Type 0} (P : Programs S) (counts : Counts) (names : List (List ℕ)) (done : List Line) (clocks : List ℕ)
+    (rs : List (Racer S)) (ss : List Story)
     → AllStand P counts names done clocks rs ss
     → flat_map (λ r. r.answers.items) rs ≡ flat_map (λ s. s.last.answers) ss
 all_told P counts names done clocks [] [] a = refl
@@ -108,7 +113,8 @@ all_told P counts names done clocks (r ∷ rs) (s ∷ ss) a =
     ap (λ l. l ++ flat_map (λ (x : Racer _). x.answers.items) rs) (a.0).told ∙ ap (λ l. (s.last).answers ++ l)
     (all_told P counts names done clocks rs ss a.1)
 
-pub all_parts : {S : Type 0} (P : Programs S) (counts : Counts) (names : List (List ℕ)) (done : List Line) (clocks : List ℕ) (rs : List (Racer S)) (ss : List Story)
+pub all_parts : {S : Type 0} (P : Programs S) (counts : Counts) (names : List (List ℕ)) (done : List Line) (clocks : List ℕ)
+    (rs : List (Racer S)) (ss : List Story)
     → AllStand P counts names done clocks rs ss
     → AllByRecursion (λ s. length s.ended ≡ length clocks) ss
 all_parts P counts names done clocks [] [] a = tt

@@ -49,7 +49,8 @@ drop_past_sym zero (x ∷ xs) d = cc
 drop_past_sym (suc i) [] d = refl
 drop_past_sym (suc i) (x ∷ xs) d = drop_past_sym i xs d
 
-pub drop_on : {S : Type 0} (i : ℕ) (xs ys : List (Racer S)) (t : Racer S) → drop i ys ≡ drop i xs → drop (suc i) (set ys i t) ≡ drop (suc i) xs
+pub drop_on : {S : Type 0} (i : ℕ) (xs ys : List (Racer S)) (t : Racer S) → drop i ys ≡ drop i xs → drop (suc i)
+    (set ys i t) ≡ drop (suc i) xs
 drop_on zero [] [] t d = refl
 drop_on zero [] (y ∷ ys) t d = cc
 drop_on zero (x ∷ xs) [] t d = cc

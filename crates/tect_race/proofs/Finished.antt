@@ -30,7 +30,8 @@ silent_parts before (x ∷ xs) p h = (
   silent_parts (before ++ x.silent) xs p (of_refused-rest before x.silent (all_silent xs p) h),
 )
 
-module _ {S : Type 0} (P : Programs S) (counts : Counts) (names : List (List ℕ)) (ls : List Line) (clocks : List ℕ) (k : ℕ) (r t : Racer S) (s : Story)
+module _ {S : Type 0} (P : Programs S) (counts : Counts) (names : List (List ℕ)) (ls : List Line) (clocks : List ℕ) (k : ℕ)
+    (r t : Racer S) (s : Story)
     (is : Stands P counts names ls clocks r s) (closed : Closed P k r t) (high : r.client.clock ≤ k) (low : k < 2 ^ 63)
     (p : Pass) (of : IsPassOf t p) where
   abbrev life : IsLife P t.client

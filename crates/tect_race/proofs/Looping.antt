@@ -117,7 +117,8 @@ no_dumps n (lines.Lose disk ∷ ls) h = absurd h.0
 same_actor : {S : Type 0} (P : Programs S) (k : ℕ) (r t : Racer S) → Closed P k r t → t.client.actor ≡ r.client.actor
 same_actor P k r t closed = ap (λ (w : ClientLife). w.actor) closed.client
 
-ready_closed : {S : Type 0} (P : Programs S) (counts : Counts) (ls : List Line) (k : ℕ) (r t : Racer S) → Closed P k r t → IsReady P counts (lines.Dump ∷ ls) r
+ready_closed : {S : Type 0} (P : Programs S) (counts : Counts) (ls : List Line) (k : ℕ) (r t : Racer S) → Closed P k r t
+    → IsReady P counts (lines.Dump ∷ ls) r
     → IsReady P counts ls t
 ready_closed P counts ls k r t closed ready = record {
   counts_are = ap (λ (w : ClientLife). w.counts) closed.client ∙ ready.counts_are;
@@ -127,7 +128,8 @@ ready_closed P counts ls k r t closed ready = record {
   few = (let f = ready.few in let n = ap (λ (w : ClientLife). (state_in P w).number) closed.client in omega arith);
 }
 
-ready_all : {S : Type 0} (P : Programs S) (counts : Counts) (ls : List Line) (k : ℕ) (rs ts : List (Racer S)) → AllClosed P k rs ts → AreRacers P counts (lines.Dump ∷ ls) rs
+ready_all : {S : Type 0} (P : Programs S) (counts : Counts) (ls : List Line) (k : ℕ) (rs ts : List (Racer S)) → AllClosed P k rs ts
+    → AreRacers P counts (lines.Dump ∷ ls) rs
     → AreRacers P counts ls ts
 ready_all P counts ls k rs ts closed racers = record {
   own = λ i t e.
@@ -149,7 +151,8 @@ length_clocks : (es : List EndedPart) → length (clocks_of es) ≡ length es
 length_clocks [] = refl
 length_clocks (x ∷ xs) = ap suc (length_clocks xs)
 
-module _ {S : Type 0} (P : Programs S) (counts : Counts) (names : List (List ℕ)) (ls : List Line) (clocks : List ℕ) (k : ℕ) (low : k < 2 ^ 63) where
+module _ {S : Type 0} (P : Programs S) (counts : Counts) (names : List (List ℕ)) (ls : List Line) (clocks : List ℕ) (k : ℕ)
+    (low : k < 2 ^ 63) where
   all_finished : (rs ts : List (Racer S)) (ps : List Pass) (ss : List Story) → AllStand P counts names ls clocks rs ss → AllClosed P k rs ts
       → AllByRecursion (λ r. r.client.clock ≤ k) rs → AllZip IsPassOf ts ps
       → AllZip (HasStory P counts names ls clocks) ps ss
@@ -204,7 +207,8 @@ have_answers (x ∷ xs) last ss l h f = (
   have_answers xs last (map rest_of ss) (rest_lengths (length xs) ss l) (subst (HaveEnded xs) (rests_of ss) h.1) (f ∙ sym (lasts_of ss)),
 )
 
-module _ {S : Type 0} (P : Programs S) (counts : Counts) (names : List (List ℕ)) (done left part : List Line) (clock : ℕ) (rs ts us : List (Racer S)) (es : List EndedPart)
+module _ {S : Type 0} (P : Programs S) (counts : Counts) (names : List (List ℕ)) (done left part : List Line) (clock : ℕ)
+    (rs ts us : List (Racer S)) (es : List EndedPart)
     (stood : Stood P counts names done left clock rs es) (ran : RacersRan P names part rs ts) where
   abbrev grown : (vs : List Story) × AllStand P counts names (done ++ part) (clocks_of es) ts vs
       × (map (λ s. s.ended) vs ≡ map (λ s. s.ended) stood.stories)

@@ -11,10 +11,12 @@ use Rattle.race_runs.specs.Gathered.{IsLineOf}
 use Rattle.tect_race.specs.Done.{IsScript}
 use Rattle.world_runs.specs.Playable.{IsWithin, IsPlayable}
 
-asked : {S : Type 0} (P : Programs S) (n : ℕ) (states : ClientStates) (ls : List Line) → FitStatesFrom P states ls → AllByRecursion (IsWithin n) ls
+asked : {S : Type 0} (P : Programs S) (n : ℕ) (states : ClientStates) (ls : List Line) → FitStatesFrom P states ls
+    → AllByRecursion (IsWithin n) ls
     → AllByRecursion (IsLineOf n) ls
 asked P n states [] t w = tt
-asked P n states (lines.Client client actor act ∷ ls) t w = ((t.0, (w.0).0), asked P n (with_state states actor (state_left_at act)) ls t.3 w.1)
+asked P n states (lines.Client client actor act ∷ ls) t w =
+    ((t.0, (w.0).0), asked P n (with_state states actor (state_left_at act)) ls t.3 w.1)
 asked P n states (lines.Dump ∷ ls) t w = (tt, asked P n states ls t w.1)
 asked P n states (lines.Store counts ∷ ls) t w = absurd t
 asked P n states (lines.Sweep ∷ ls) t w = absurd t

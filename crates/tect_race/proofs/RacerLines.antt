@@ -34,7 +34,8 @@ use Rattle.tect_race.specs.Ready.{IsReady}
 
 -- ---- growths
 
-module _ {S : Type 0} (P : Programs S) (names : List (List ℕ)) (a b : Racer S) (n : List Moment) (m : List Event) (first : Adds P names a b n m) where
+module _ {S : Type 0} (P : Programs S) (names : List (List ℕ)) (a b : Racer S) (n : List Moment) (m : List Event)
+    (first : Adds P names a b n m) where
   pub grows : Grows a.client b.client n m
   grows = record { life = first.life; late = first.late; stamps = first.stamps }
 
@@ -53,7 +54,8 @@ module _ {S : Type 0} (P : Programs S) (names : List (List ℕ)) (a b : Racer S)
   pub adds_events : events_in b.client ≡ events_in a.client ++ news_events n m
   adds_events = grows_events a.client b.client n m grows
 
-module _ {S : Type 0} (P : Programs S) (names : List (List ℕ)) (a b c : Racer S) (n p : List Moment) (m q : List Event) (first : Adds P names a b n m)
+module _ {S : Type 0} (P : Programs S) (names : List (List ℕ)) (a b c : Racer S) (n p : List Moment) (m q : List Event)
+    (first : Adds P names a b n m)
     (second : Adds P names b c p q) where
   both : Grows a.client c.client (n ++ p) (m ++ q)
   both = grows_both a.client b.client c.client n p m q (grows P names a b n m first) (grows P names b c p q second)
@@ -117,7 +119,8 @@ filter_one actor other client act ls b e =
     filter-append (line_concerns actor) ls (lines.Client client other act ∷ [])
     ∙ ap (λ (t : Bool). filter (line_concerns actor) ls ++ (if t then lines.Client client other act ∷ [] else [])) e
 
-rests_on : {S : Type 0} (P : Programs S) (names : List (List ℕ)) (ls : List Line) (client : List ℕ) (actor : ℕ) (act : Act) (r s t : Racer S) → Ran P names ls r s
+rests_on : {S : Type 0} (P : Programs S) (names : List (List ℕ)) (ls : List Line) (client : List ℕ) (actor : ℕ) (act : Act)
+    (r s t : Racer S) → Ran P names ls r s
     → actor ≢ s.client.actor → t ≡ s
     → Ran P names (ls ++ lines.Client client actor act ∷ []) r t
 rests_on P names ls client actor act r s t ran other same =
@@ -129,11 +132,13 @@ rests_on P names ls client actor act r s t ran other same =
       news = ran.news;
       more = ran.more;
       adds = ran.adds;
-      does = subst (λ (ks : List Line). DoesLines r.client.actor (busy_in P r.client) ks (news_events ran.news ran.more) (busy_in P s.client))
+      does = subst (λ (ks : List Line). DoesLines r.client.actor (busy_in P r.client) ks (news_events ran.news ran.more)
+          (busy_in P s.client))
           (sym e) ran.does;
     })
 
-plays_on : {S : Type 0} (P : Programs S) (names : List (List ℕ)) (ls : List Line) (client : List ℕ) (actor : ℕ) (act : Act) (r s t : Racer S) → Ran P names ls r s
+plays_on : {S : Type 0} (P : Programs S) (names : List (List ℕ)) (ls : List Line) (client : List ℕ) (actor : ℕ) (act : Act)
+    (r s t : Racer S) → Ran P names ls r s
     → actor ≡ s.client.actor → Plays P names act s t
     → Ran P names (ls ++ lines.Client client actor act ∷ []) r t
 plays_on P names ls client actor act r s t ran is plays =
@@ -163,7 +168,8 @@ plays_on P names ls client actor act r s t ran is plays =
       does = rw (e, f) all;
     }
 
-pub ran_on : {S : Type 0} (P : Programs S) (names : List (List ℕ)) (ls : List Line) (line : Line) (r s t : Racer S) → Ran P names ls r s → PlaysOrRests P names line s t
+pub ran_on : {S : Type 0} (P : Programs S) (names : List (List ℕ)) (ls : List Line) (line : Line) (r s t : Racer S) → Ran P names ls r s
+    → PlaysOrRests P names line s t
     → Ran P names (ls ++ line ∷ []) r t
 ran_on P names ls (lines.Client client actor act) r s t ran (inl w) = rests_on P names ls client actor act r s t ran w.0 w.1
 ran_on P names ls (lines.Client client actor act) r s t ran (inr w) = plays_on P names ls client actor act r s t ran w.0 w.1
@@ -183,7 +189,8 @@ set_here : (states : ClientStates) (actor other : ℕ) (state : ClientState) →
 set_here states actor other state is =
     ap (λ (b : Bool). if b then state else states other) (ap (λ k. eqb other k) is ∙ same_number other)
 
-pub ready_on : {S : Type 0} (P : Programs S) (names : List (List ℕ)) (counts : Counts) (line : Line) (later : List Line) (r t : Racer S) → IsReady P counts (line ∷ later) r
+pub ready_on : {S : Type 0} (P : Programs S) (names : List (List ℕ)) (counts : Counts) (line : Line) (later : List Line) (r t : Racer S)
+    → IsReady P counts (line ∷ later) r
     → PlaysOrRests P names line r t → IsReady P counts later t
 ready_on P names counts (lines.Client client actor act) later r t ready (inl w) =
     subst (λ (x : Racer _). IsReady P counts later x) (sym w.1) (record {

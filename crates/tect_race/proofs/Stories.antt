@@ -124,7 +124,8 @@ weaker a b ms le all = λ k d l. (let h = all k d l in omega arith)
 
 -- ---- a part is done
 
-module _ {S : Type 0} (P : Programs S) (counts : Counts) (names : List (List ℕ)) (done ls : List Line) (clocks : List ℕ) (r t : Racer S) (s : Story)
+module _ {S : Type 0} (P : Programs S) (counts : Counts) (names : List (List ℕ)) (done ls : List Line) (clocks : List ℕ) (r t : Racer S)
+    (s : Story)
     (is : Stands P counts names done clocks r s) (ran : Ran P names ls r t) where
   abbrev es : List Event
   es = news_events ran.news ran.more

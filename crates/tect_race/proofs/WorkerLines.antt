@@ -26,7 +26,8 @@ worker_ran_none P names c = record {
   each = λ slot r t e f. subst (λ (x : Racer _). Ran P names [] r x) (same_at c.racers.items slot r t e f) (ran_none P names r);
 }
 
-pub worker_ran_on : {S : Type 0} (P : Programs S) (names : List (List ℕ)) (ls : List Line) (line : Line) (a b c : Worker S) → WorkerRan P names ls a b
+pub worker_ran_on : {S : Type 0} (P : Programs S) (names : List (List ℕ)) (ls : List Line) (line : Line) (a b c : Worker S)
+    → WorkerRan P names ls a b
     → WorkerPlays P names line b c → WorkerRan P names (ls ++ line ∷ []) a c
 worker_ran_on P names ls line a b c ran plays = record {
   number = plays.number ∙ ran.number;
@@ -36,7 +37,8 @@ worker_ran_on P names ls line a b c ran plays = record {
       ran_on P names ls line r s.0 t (ran.each slot r s.0 e s.1) (plays.each slot s.0 t s.1 f);
 }
 
-plays_actor : {S : Type 0} (P : Programs S) (names : List (List ℕ)) (line : Line) (r t : Racer S) → PlaysOrRests P names line r t → t.client.actor ≡ r.client.actor
+plays_actor : {S : Type 0} (P : Programs S) (names : List (List ℕ)) (line : Line) (r t : Racer S) → PlaysOrRests P names line r t
+    → t.client.actor ≡ r.client.actor
 plays_actor P names (lines.Client client actor act) r t (inl w) = ap (λ (x : Racer _). x.client.actor) w.1
 plays_actor P names (lines.Client client actor act) r t (inr w) = adds_actor P names r t (w.1).news (w.1).more (w.1).adds
 plays_actor P names lines.Dump r t w = absurd w
@@ -44,8 +46,10 @@ plays_actor P names (lines.Store counts) r t w = absurd w
 plays_actor P names lines.Sweep r t w = absurd w
 plays_actor P names (lines.Lose disk) r t w = absurd w
 
-pub worker_ready_on : {S : Type 0} (P : Programs S) (counts : Counts) (names : List (List ℕ)) (clients worker_count : ℕ) (line : Line) (later : List Line) (c d : Worker S)
-    → IsWorker P counts clients worker_count (line ∷ later) c → WorkerPlays P names line c d → IsWorker P counts clients worker_count later d
+pub worker_ready_on : {S : Type 0} (P : Programs S) (counts : Counts) (names : List (List ℕ)) (clients worker_count : ℕ) (line : Line)
+    (later : List Line) (c d : Worker S)
+    → IsWorker P counts clients worker_count (line ∷ later) c → WorkerPlays P names line c d
+    → IsWorker P counts clients worker_count later d
 worker_ready_on P counts names clients worker_count line later c d is plays = record {
   number = subst (λ k. k < worker_count) (sym plays.number) is.number;
   filled = λ slot. (
@@ -63,10 +67,12 @@ worker_ready_on P counts names clients worker_count line later c d is plays = re
 
 -- ---- a line of a client of another worker
 
-module _ {S : Type 0} (P : Programs S) (counts : Counts) (names : List (List ℕ)) (clients worker_count : ℕ) (client : List ℕ) (actor : ℕ) (act : Act) (later : List Line)
+module _ {S : Type 0} (P : Programs S) (counts : Counts) (names : List (List ℕ)) (clients worker_count : ℕ) (client : List ℕ) (actor : ℕ)
+    (act : Act) (later : List Line)
     (c : Worker S)
     (is : IsWorker P counts clients worker_count (lines.Client client actor act ∷ later) c) (low : 1 ≤ actor) where
-  not_own : (actor - 1) % worker_count ≢ c.number → (slot : ℕ) (r : Racer S) → slice_get c.racers.items slot ≡ Some r → actor ≢ r.client.actor
+  not_own : (actor - 1) % worker_count ≢ c.number → (slot : ℕ) (r : Racer S) → slice_get c.racers.items slot ≡ Some r
+      → actor ≢ r.client.actor
   not_own ne slot r e same =
       let own = is.own slot r e in
       let x : actor - 1 ≡ slot * worker_count + c.number = omega arith in
@@ -126,7 +132,8 @@ on_ok (Ok x) (Err e) k f h = tt
 on_ok (Err e) (Ok y) k f h = let w = k refl in cc
 on_ok (Err e) (Err d) k f h = tt
 
-module _ {S : Type 0} (P : Programs S) (counts : Counts) (names : List (List ℕ)) (clients worker_count : ℕ) (line : Line) (client : List ℕ) (actor : ℕ) (act : Act)
+module _ {S : Type 0} (P : Programs S) (counts : Counts) (names : List (List ℕ)) (clients worker_count : ℕ) (line : Line)
+    (client : List ℕ) (actor : ℕ) (act : Act)
     (c : Worker S)
     (is : line ≡ lines.Client client actor act) (of : IsOfClient clients line)
     (ready : (later : List Line) × IsWorker P counts clients worker_count (line ∷ later) c) where
@@ -171,7 +178,8 @@ module _ {S : Type 0} (P : Programs S) (counts : Counts) (names : List (List ℕ
           let states = racer_ready.states in
           (states actor, subst (λ k. IsInState (states k) (state_in P r.client)) actor_is racer_ready.state, racer_ready.in_turn.2)
 
-      pub line_plays : {E F : Type 0} → (o : Result (Unit {0}) E) (q : Result (Unit {0}) F) → (IsOk q → IsOk o) → (t : Racer S) (d : Worker S)
+      pub line_plays : {E F : Type 0} → (o : Result (Unit {0}) E) (q : Result (Unit {0}) F) → (IsOk q → IsOk o) → (t : Racer S)
+          (d : Worker S)
           → d.number ≡ c.number → d.racers.items ≡ set c.racers.items ((actor - 1) / worker_count) t
           → OnOk o (Plays P names act r t) → OnOk q (WorkerPlays P names line c d)
       line_plays o q k t d number items =

@@ -34,7 +34,8 @@ pub record WorkerEnds {S : Type 0} (P : Programs S) (counts : Counts) (names : L
   pub ready : IsWorker P counts (length names) worker_count later new
 
 -- so it came to the end, or to a fault
-abbrev pub WorkerComes : {S : Type 0} → Programs S → Counts → List (List ℕ) → ℕ → List Line → List Line → Worker S → Result (Worker S) RaceFault
+abbrev pub WorkerComes : {S : Type 0} → Programs S → Counts → List (List ℕ) → ℕ → List Line → List Line → Worker S → Result
+    (Worker S) RaceFault
     → Type 0
 WorkerComes P counts names worker_count ls later old (Ok new) = WorkerEnds P counts names worker_count ls later old new
 WorkerComes P counts names worker_count ls later old (Err e) = IsLossOf counts e

@@ -14,10 +14,10 @@ use std::thread::Threads;
 use tect_edge::Gate;
 use tect_ids::Plan;
 
-/// Runs the script of a plan on so many workers, by the programs `P`. Client number i, from 0, is of the worker `i % workers`, which does the lines of
-/// its clients in the order of the script. Between two dumps each worker that has a line there works in a thread of its own, one of
-/// them in the caller's; for a worker that has none no thread is started. What a thread that could not start would have done is
-/// done all the same. The gate is told of each commit, with the number of the worker.
+/// Runs the script of a plan on so many workers, by the programs `P`. Client number i, from 0, is of the worker `i % workers`, which
+/// does the lines of its clients in the order of the script. Between two dumps each worker that has a line there works in a thread
+/// of its own, one of them in the caller's; for a worker that has none no thread is started. What a thread that could not start
+/// would have done is done all the same. The gate is told of each commit, with the number of the worker.
 ///
 /// At a dump, and at the end, all workers have ended. A dump comes at the greatest clock of all clients, and each client's clock is
 /// raised to it, so that what is stamped up to it was done before the dump, and all else after it.

@@ -116,9 +116,11 @@ fn end_script<P: Programs + Drop + Send, R: Threads + Wait + Sync, G: Gate + Syn
     requires places { HasPlaces shared.now.places.now }
     requires workers { 0 < shared.now.worker_count }
     requires script { IsScript P.rules (length shared.now.clients.now) shared.now.lines.now }
-    requires come { HasCome P.rules shared.now.places.now shared.now.clients.now shared.now.lines.now (length shared.now.lines.now) progress }
+    requires come { HasCome P.rules shared.now.places.now shared.now.clients.now shared.now.lines.now (length shared.now.lines.now)
+        progress }
     ensures run { IfOk result
-        (λ run. HaveRun P.rules shared.now.places.now shared.now.clients.now shared.now.lines.now run.passes.items run.ended.items run.last.items) }
+        (λ run. HaveRun P.rules shared.now.places.now shared.now.clients.now shared.now.lines.now run.passes.items run.ended.items
+        run.last.items) }
     ensures fault { IfErr result (IsLossOf shared.now.places.now) }
 {
     let Progress {

@@ -81,8 +81,8 @@ fn run_batch<P: Programs + Drop, R: Wait, G: Gate>(
     requires ready { All
         (IsWorker P.rules shared.now.places.now (length shared.now.clients.now) shared.now.worker_count (drop start shared.now.lines.now))
         batch.items }
-    ensures { BatchCame P.rules shared.now.places.now shared.now.clients.now shared.now.worker_count (slice_range shared.now.lines.now start end)
-        (drop end shared.now.lines.now) batch.items result }
+    ensures { BatchCame P.rules shared.now.places.now shared.now.clients.now shared.now.worker_count
+        (slice_range shared.now.lines.now start end) (drop end shared.now.lines.now) batch.items result }
 {
     let mut done = Vec::new(shared.alloc);
     'workers: for worker in batch {
@@ -129,8 +129,8 @@ fn run_workers<P: Programs + Drop + Send, R: Threads + Wait + Sync, G: Gate + Sy
     ensures ran { IfOk result
         (λ now. WorkersRan P.rules shared.now.clients.now (slice_range shared.now.lines.now start end) workers.items now.items) }
     ensures ready { IfOk result
-        (λ now. AreWorkers P.rules shared.now.places.now (length shared.now.clients.now) shared.now.worker_count (drop end shared.now.lines.now)
-        now.items) }
+        (λ now. AreWorkers P.rules shared.now.places.now (length shared.now.clients.now) shared.now.worker_count
+        (drop end shared.now.lines.now) now.items) }
     ensures fault { IfErr result (IsLossOf shared.now.places.now) }
 {
     let rt = shared.rt;

@@ -156,8 +156,8 @@ pub fn run_worker<P: Programs + Drop, R: Wait, G: Gate>(
     requires clients { All (IsOfClient (length shared.now.clients.now)) (slice_range shared.now.lines.now start end) }
     requires ready { IsWorker P.rules shared.now.places.now (length shared.now.clients.now) shared.now.worker_count
         (drop start shared.now.lines.now) worker }
-    ensures { WorkerCame P.rules shared.now.places.now shared.now.clients.now shared.now.worker_count (slice_range shared.now.lines.now start end)
-        (drop end shared.now.lines.now) worker result }
+    ensures { WorkerCame P.rules shared.now.places.now shared.now.clients.now shared.now.worker_count
+        (slice_range shared.now.lines.now start end) (drop end shared.now.lines.now) worker result }
 {
     let mut worker = worker;
     let part = &shared.lines[start..end];

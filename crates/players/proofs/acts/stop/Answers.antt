@@ -11,7 +11,8 @@ returns-then-not-is_running-clause-plays g c =
 
 pub returns-clause-plays : goal.returns-clause-plays
 returns-clause-plays g c =
-    stops g.P.Programs.rules g.L.Player.counts g.L.Player.fits g.L.Player.actor g.L.Player.history g.L.Player.state g.L.Player.grows c.note_laws.ensures
+    stops g.P.Programs.rules g.L.Player.counts g.L.Player.fits g.L.Player.actor g.L.Player.history g.L.Player.state g.L.Player.grows
+    c.note_laws.ensures
     c.args.names.now c.args.player.now c.stop.new.self c.args.at.now c.stop.new.at c.requires.fits
     (is_running (g.L.Player.state c.args.player.now c.args.at.now).running c.is_running.result c.is_running.ensures
     c.if-not-is_running.false)

@@ -13,7 +13,8 @@ steps-init g c = (
 
 pub returns-in-Done-clause-end : goal.returns-in-Done-clause-end
 returns-in-Done-clause-end g c =
-    (stepped_end g.P.Programs.rules g.L.Player.counts g.L.Player.fits g.L.Player.actor g.L.Player.history g.L.Player.state g.L.Player.grows c.note_laws.ensures
+    (stepped_end g.P.Programs.rules g.L.Player.counts g.L.Player.fits g.L.Player.actor g.L.Player.history g.L.Player.state
+    g.L.Player.grows c.note_laws.ensures
     c.steps.invariant.0 c.args.player.now c.steps.player c.step.new.self c.args.at.now c.steps.at c.step.new.at c.steps.invariant.1
     c.in-Done.answer
     (subst (λ (t : Turned). StepsOnce (g.L.Player.grows c.steps.player c.steps.at c.step.new.self c.step.new.at)

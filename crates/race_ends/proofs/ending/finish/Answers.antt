@@ -53,7 +53,8 @@ tell-requires-clause-dumps g c =
     let gathered = gathered_behind c.as_slice.result.now kepts c.as_slice-2.result.now passes entries c.as_slice.ensures.value
     c.as_slice-2.ensures.value c.in_ok-entries.ensures.gathered in
     rw c.as_slice-3.ensures.value
-    (dumps g.P.Programs.rules plan.counts plan.clients plan.lines passes c.args.ended.items c.args.last.items c.requires.run kepts entries gathered)
+    (dumps g.P.Programs.rules plan.counts plan.clients plan.lines passes c.args.ended.items c.args.last.items c.requires.run kepts entries
+    gathered)
 
 pub returns-clause-raced : goal.returns-clause-raced
 returns-clause-raced g c =

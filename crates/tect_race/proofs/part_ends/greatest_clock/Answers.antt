@@ -11,7 +11,8 @@ abbrev clocks : {S : Type 0} → List (Racer S) → List ℕ
 clocks rs = map (λ r. r.client.clock) rs
 
 -- the greater of the greatest so far and the next clock
-greater : {S : Type 0} (floor low high : ℕ) (rs : List (Racer S)) (i : ℕ) (r : Racer S) → i < length rs → r ≡ get_or rs i r → high ≡ max low r.client.clock
+greater : {S : Type 0} (floor low high : ℕ) (rs : List (Racer S)) (i : ℕ) (r : Racer S) → i < length rs → r ≡ get_or rs i r
+    → high ≡ max low r.client.clock
     → Contains (floor ∷ clocks (take i rs)) low → Contains (floor ∷ clocks (take (i + 1) rs)) high
 greater floor low high rs i r within is greatest has =
     let whole : floor ∷ clocks (take (i + 1) rs) ≡ (floor ∷ clocks (take i rs)) ++ r.client.clock ∷ [] =
@@ -25,7 +26,8 @@ greater floor low high rs i r within is greatest has =
     ])
 
 -- none is above it
-not_above : {S : Type 0} (low high : ℕ) (rs : List (Racer S)) (i : ℕ) (r : Racer S) → i < length rs → r ≡ get_or rs i r → high ≡ max low r.client.clock
+not_above : {S : Type 0} (low high : ℕ) (rs : List (Racer S)) (i : ℕ) (r : Racer S) → i < length rs → r ≡ get_or rs i r
+    → high ≡ max low r.client.clock
     → All (λ x. x.client.clock ≤ low) (take i rs) → All (λ x. x.client.clock ≤ high) (take (i + 1) rs)
 not_above low high rs i r within is greatest all =
     subst (All (λ x. x.client.clock ≤ high)) (sym (take_more rs i r within ∙ ap (λ (x : Racer _). take i rs ++ x ∷ []) (sym is)))

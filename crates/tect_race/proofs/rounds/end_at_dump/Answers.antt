@@ -22,16 +22,22 @@ returns-clause-dumped g c =
     let e : EndedPart = c.in_ok-part.part in
     let value : c.deref_mut.result.now ≡ ts = c.deref_mut.ensures.value in
     let high : All (λ r. r.client.clock ≤ e.clock) ts = subst (All (λ r. r.client.clock ≤ e.clock)) value c.in_ok-part.ensures.highest in
-    let closed : AllClosed g.P.Programs.rules e.clock ts us = subst (λ (l : List (Racer g.row.P.Denot)). AllClosed g.P.Programs.rules e.clock l us) value c.in_ok-part.ensures.closed in
-    let told = c.in_ok-part.ensures.answers ∙ ap (λ (l : List (Racer g.row.P.Denot)). flat_map (λ (r : Racer g.row.P.Denot). r.answers.items) l) value in
-    let len : length us ≡ c.in_ok-racers.racers.len = zip_length (Closed g.P.Programs.rules e.clock) ts us closed ∙ sym c.in_ok-racers.racers.ok.0 in
-    let stood = come_on g.P.Programs.rules counts names ls c.args.progress ts us c.args.dump e c.requires.dump c.requires.come c.in_ok-racers.ensures.ran
+    let closed : AllClosed g.P.Programs.rules e.clock ts us = subst (λ (l : List
+    (Racer g.row.P.Denot)). AllClosed g.P.Programs.rules e.clock l us) value c.in_ok-part.ensures.closed in
+    let told = c.in_ok-part.ensures.answers
+    ∙ ap (λ (l : List (Racer g.row.P.Denot)). flat_map (λ (r : Racer g.row.P.Denot). r.answers.items) l) value in
+    let len : length us ≡ c.in_ok-racers.racers.len = zip_length (Closed g.P.Programs.rules e.clock) ts us closed
+    ∙ sym c.in_ok-racers.racers.ok.0 in
+    let stood = come_on g.P.Programs.rules counts names ls c.args.progress ts us c.args.dump e c.requires.dump c.requires.come
+    c.in_ok-racers.ensures.ran
     c.in_ok-racers.ensures.ready high closed told in
-    let kept = subst (λ (l : List EndedPart). Stood g.P.Programs.rules counts names (take next ls) (drop next ls) e.clock us l) (sym c.in-Ok.ensures.items)
+    let kept = subst (λ (l : List EndedPart). Stood g.P.Programs.rules counts names (take next ls) (drop next ls) e.clock us l)
+    (sym c.in-Ok.ensures.items)
     stood in
     record {
       low = omega arith;
       part = none_yet (IsOfClient (length names)) ls next;
-      stood = subst (λ (l : List (Racer g.row.P.Denot)). Stood g.P.Programs.rules counts names (take next ls) (drop next ls) e.clock l c.push.new.self.items)
+      stood = subst (λ (l : List (Racer g.row.P.Denot)). Stood g.P.Programs.rules counts names (take next ls)
+          (drop next ls) e.clock l c.push.new.self.items)
           (sym (with_items_is c.in_ok-racers.racers us len)) kept;
     }

@@ -30,9 +30,11 @@ lines-preserved g c =
     let ls : List Line = c.args.shared.now.lines.now in
     let next = c.lines.number + 1 in
     elim c.if-matches.branch [
-      | then-matches+in_ok-progress w ↦ subst (HasCome g.P.Programs.rules counts names ls next) (sym w.progress-is) w.in_ok-progress.ensures.dumped
+      | then-matches+in_ok-progress w ↦ subst (HasCome g.P.Programs.rules counts names ls next)
+          (sym w.progress-is) w.in_ok-progress.ensures.dumped
       | else-matches w ↦
-          let come = come_past g.P.Programs.rules counts names ls c.lines.progress c.lines.number c.line-item.result c.lines-test.true c.line-item.is
+          let come = come_past g.P.Programs.rules counts names ls c.lines.progress c.lines.number c.line-item.result c.lines-test.true
+          c.line-item.is
           (elim c.match-matches.branch
           [ in-Dump v ↦ absurd (false≢true (sym w.if-matches.false ∙ v.matches-is)) | in_default v ↦ v.in_default.not-Dump ])
           c.requires.script.asked c.lines.invariant in

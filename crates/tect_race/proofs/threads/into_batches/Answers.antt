@@ -22,7 +22,8 @@ workers-preserved g c =
     c.push-in-workers.new.self.items v) (sym (has_one g c))
     (elim c.if-busy.branch [
       | then-busy+then-has_busy+in_ok-push w ↦
-          subst (λ (l : List (Vec (Worker g.row.P.Denot) Global)). IsCut c.args.worker_count c.args.part.now (c.workers.yielded ++ c.in-Some.worker ∷ []) l
+          subst (λ (l : List (Vec (Worker g.row.P.Denot) Global)). IsCut c.args.worker_count c.args.part.now
+          (c.workers.yielded ++ c.in-Some.worker ∷ []) l
           c.push-in-workers.new.self.items (c.workers.has_busy || c.is_busy-busy.result))
           (sym (ap (λ (v : Vec (Vec (Worker g.row.P.Denot) Global) Global). v.items) w.batches-is ∙ w.in_ok-push.ensures.items))
           (cut_off c.args.worker_count c.args.part.now c.workers.yielded c.workers.batches.items c.workers.batch c.workers.has_busy was
@@ -31,7 +32,8 @@ workers-preserved g c =
           (λ (l : List (Worker g.row.P.Denot)). l ++ c.in-Some.worker ∷ []) w.new-batch-then-has_busy.ensures.items)
           (ap (λ v. v && c.workers.has_busy) w.if-busy.true ∙ w.if-has_busy.true))
       | else-busy w ↦
-          subst (λ (l : List (Vec (Worker g.row.P.Denot) Global)). IsCut c.args.worker_count c.args.part.now (c.workers.yielded ++ c.in-Some.worker ∷ []) l
+          subst (λ (l : List (Vec (Worker g.row.P.Denot) Global)). IsCut c.args.worker_count c.args.part.now
+          (c.workers.yielded ++ c.in-Some.worker ∷ []) l
           c.push-in-workers.new.self.items (c.workers.has_busy || c.is_busy-busy.result))
           (sym (ap (λ (v : Vec (Vec (Worker g.row.P.Denot) Global) Global). v.items) w.batches-is))
           (cut_in c.args.worker_count c.args.part.now c.workers.yielded c.workers.batches.items c.workers.batch c.workers.has_busy was

@@ -7,7 +7,8 @@ use Rattle.tect_race.proofs.threads.run_part.Goals.{In_ok-done, In_ok-collected}
 pub run_workers-requires-clause-ready : goal.run_workers-requires-clause-ready
 run_workers-requires-clause-ready g c κs within =
     let shared = c.args.shared.now in
-    workers_ready g.P.Programs.rules shared.worker_count c.requires.workers shared.places.now (length shared.clients.now) (drop c.args.start shared.lines.now)
+    workers_ready g.P.Programs.rules shared.worker_count c.requires.workers shared.places.now (length shared.clients.now)
+    (drop c.args.start shared.lines.now)
     c.args.racers.items c.in_ok-assigned.assigned.items c.requires.all c.requires.ready c.in_ok-assigned.ensures
 
 pub collect-requires-clause-some : goal.collect-requires-clause-some
@@ -23,7 +24,8 @@ collect-requires-clause-can g c =
     let p : In_ok-done g = (goal.at.collect-requires-clause-can g c).In_ok-done in
     let shared = p.args.shared.now in
     subst (λ n. CanBeCollected n p.in_ok-done.done.items) (sym (as_many g p))
-    (can_collect g.P.Programs.rules shared.worker_count p.requires.workers shared.places.now (length shared.clients.now) (drop p.args.end shared.lines.now)
+    (can_collect g.P.Programs.rules shared.worker_count p.requires.workers shared.places.now (length shared.clients.now)
+    (drop p.args.end shared.lines.now)
     p.in_ok-done.done.items p.in_ok-done.ensures.ready)
 
 -- the clients that were collected are those of the workers
@@ -37,7 +39,8 @@ pub returns-clause-ran : goal.returns-clause-ran
 returns-clause-ran g c =
     let p : In_ok-done g = (goal.at.returns-clause-ran g c).In_ok-done in
     let shared = p.args.shared.now in
-    racers_ran g.P.Programs.rules shared.worker_count p.requires.workers shared.clients.now _ p.args.racers.items c.in_ok-collected.collected.items
+    racers_ran g.P.Programs.rules shared.worker_count p.requires.workers shared.clients.now _ p.args.racers.items
+    c.in_ok-collected.collected.items
     p.in_ok-assigned.assigned.items p.in_ok-done.done.items p.in_ok-assigned.ensures
     (still_assigned g c p c.in_ok-collected.ensures.assigned)
     (c.in_ok-collected.ensures.all ∙ p.len-clients.ensures ∙ p.args.racers.ok.0) p.in_ok-done.ensures.ran
@@ -46,6 +49,7 @@ pub returns-clause-ready : goal.returns-clause-ready
 returns-clause-ready g c =
     let p : In_ok-done g = (goal.at.returns-clause-ready g c).In_ok-done in
     let shared = p.args.shared.now in
-    racers_ready g.P.Programs.rules shared.worker_count p.requires.workers shared.places.now (length shared.clients.now) (drop p.args.end shared.lines.now)
+    racers_ready g.P.Programs.rules shared.worker_count p.requires.workers shared.places.now (length shared.clients.now)
+    (drop p.args.end shared.lines.now)
     c.in_ok-collected.collected.items p.in_ok-done.done.items (still_assigned g c p c.in_ok-collected.ensures.assigned)
     p.in_ok-done.ensures.ready

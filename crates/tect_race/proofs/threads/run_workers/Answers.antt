@@ -21,8 +21,10 @@ map_vec-requires-sync-F g c κs within =
 
 pub map_vec-requires-after_bounds : goal.map_vec-requires-after_bounds
 map_vec-requires-after_bounds g c κs within i x low is =
-    let all : All (IsWorker g.P.Programs.rules c.args.shared.now.places.now (length c.args.shared.now.clients.now) c.args.shared.now.worker_count
-    (drop c.args.start c.args.shared.now.lines.now)) (flat_map (λ (b : Vec (Worker g.row.P.Denot) Global). b.items) c.in_ok-batches.batches.items) =
+    let all : All (IsWorker g.P.Programs.rules c.args.shared.now.places.now
+    (length c.args.shared.now.clients.now) c.args.shared.now.worker_count
+    (drop c.args.start c.args.shared.now.lines.now))
+    (flat_map (λ (b : Vec (Worker g.row.P.Denot) Global). b.items) c.in_ok-batches.batches.items) =
     subst (λ (l : List (Worker g.row.P.Denot)). All
     (IsWorker g.P.Programs.rules c.args.shared.now.places.now (length c.args.shared.now.clients.now) c.args.shared.now.worker_count
     (drop c.args.start c.args.shared.now.lines.now)) l) (sym c.in_ok-batches.ensures.joined) c.requires.ready.workers in
@@ -52,7 +54,8 @@ came g c =
     let fact : BatchCame g.P.Programs.rules c.args.shared.now.places.now c.args.shared.now.clients.now c.args.shared.now.worker_count
     (slice_range c.args.shared.now.lines.now c.args.start c.args.end) (drop c.args.end c.args.shared.now.lines.now) job.items
     (get_or c.in-Ok.ran.items i r) = search rules in
-    subst (λ (y : Vec (Worker g.row.P.Denot) Global). Came g.P.Programs.rules c.args.shared.now.places.now c.args.shared.now.clients.now c.args.shared.now.worker_count
+    subst (λ (y : Vec (Worker g.row.P.Denot) Global). Came g.P.Programs.rules c.args.shared.now.places.now c.args.shared.now.clients.now
+    c.args.shared.now.worker_count
     (slice_range c.args.shared.now.lines.now c.args.start c.args.end) (drop c.args.end c.args.shared.now.lines.now) y
     (get_or c.in-Ok.ran.items i r)) (sym (e.1.job_is b)) fact)
 

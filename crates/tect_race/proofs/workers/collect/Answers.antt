@@ -22,7 +22,8 @@ clients-init g c =
 some_worker : (g : _) (c : After-pop g) → 0 < c.len-count.result
 some_worker g c = subst (λ k. 0 < k) (sym (c.len-count.ensures ∙ c.args.workers.ok.0)) c.requires.some
 
-found : (g : _) (c : After-pop g) → slice_get c.clients.workers.items ((c.clients.client - 1) % c.len-count.result) ≡ Some c.index_mut.result.now
+found : (g : _) (c : After-pop g) → slice_get c.clients.workers.items
+    ((c.clients.client - 1) % c.len-count.result) ≡ Some c.index_mut.result.now
 found g c =
     slice_get_read c.clients.workers.items (length c.clients.workers.items) ((c.clients.client - 1) % c.len-count.result)
     c.index_mut.result.now refl

@@ -10,7 +10,8 @@ use Rattle.tect_race.proofs.workers.run_worker.Goals as goal
 pub lines-init : goal.lines-init
 lines-init g c = record {
   ran = worker_ran_none g.P.Programs.rules c.args.shared.now.clients.now c.args.worker;
-  ready = subst (λ k. IsWorker g.P.Programs.rules c.args.shared.now.places.now (length c.args.shared.now.clients.now) c.args.shared.now.worker_count
+  ready = subst (λ k. IsWorker g.P.Programs.rules c.args.shared.now.places.now
+      (length c.args.shared.now.clients.now) c.args.shared.now.worker_count
       (drop k c.args.shared.now.lines.now) c.args.worker)
       (let e : c.args.start ≡ c.args.start + 0 = omega arith in e) c.requires.ready;
 }
@@ -29,7 +30,8 @@ lines-preserved g c =
           (sym (more ∙ ap (λ x. take c.lines.line-index part ++ x ∷ []) is))
           (worker_ran_on g.P.Programs.rules c.args.shared.now.clients.now (take c.lines.line-index part) line c.args.worker c.lines.worker
           c.play_line.new.worker c.lines.invariant.ran c.in_ok-play_line.ensures.plays);
-      ready = worker_ready_on g.P.Programs.rules c.args.shared.now.places.now c.args.shared.now.clients.now (length c.args.shared.now.clients.now)
+      ready = worker_ready_on g.P.Programs.rules c.args.shared.now.places.now c.args.shared.now.clients.now
+          (length c.args.shared.now.clients.now)
           c.args.shared.now.worker_count line (drop (c.args.start + (c.lines.line-index + 1)) c.args.shared.now.lines.now)
           c.lines.worker c.play_line.new.worker
           (subst (λ (ls : List Line). IsWorker g.P.Programs.rules c.args.shared.now.places.now (length c.args.shared.now.clients.now)
@@ -49,7 +51,8 @@ returns g c =
       so = record {
         ran = subst (λ (ls : List Line). WorkerRan g.P.Programs.rules c.args.shared.now.clients.now ls c.args.worker c.lines.worker)
             (take_all c.lines.line-index part past) c.lines.invariant.ran;
-        ready = subst (λ k. IsWorker g.P.Programs.rules c.args.shared.now.places.now (length c.args.shared.now.clients.now) c.args.shared.now.worker_count
+        ready = subst (λ k. IsWorker g.P.Programs.rules c.args.shared.now.places.now
+            (length c.args.shared.now.clients.now) c.args.shared.now.worker_count
             (drop k c.args.shared.now.lines.now) c.lines.worker)
             (let q = c.requires.part.0 in let e : c.args.start + c.lines.line-index ≡ c.args.end = omega arith in e)
             c.lines.invariant.ready;

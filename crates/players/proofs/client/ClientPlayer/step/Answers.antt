@@ -12,4 +12,5 @@ returns-in-Ok-clause-step g c =
 pub returns-in-Ok-clause-nearer : goal.returns-in-Ok-clause-nearer
 returns-in-Ok-clause-nearer g c = λ going.
     step_nearer g.P.Programs.rules g.C.Commits.done c.args.at.now c.step.new.at c.args.self.now c.step.new.self c.in-Ok.ensures.life
-    (subst (OwnStep g.P.Programs.rules g.C.Commits.done c.args.at.now c.step.new.at c.args.self.now c.step.new.self) going c.in-Ok.ensures.step)
+    (subst (OwnStep g.P.Programs.rules g.C.Commits.done c.args.at.now c.step.new.at c.args.self.now c.step.new.self) going
+    c.in-Ok.ensures.step)
