@@ -6,7 +6,6 @@ use Rattle.std.specs.Option.{ForSome}
 use Rattle.std.proofs.lemmas.List.Sums.{sum_by-cons}
 use Rattle.tect_ids.specs.declared.ids.Counts.{Counts}
 use Rattle.tect_ids.specs.declared.ids.OpId.{OpId}
-use Rattle.tect_ids.specs.declared.answer.Answer.{Answer}
 use Rattle.tect_ids.specs.declared.command.Command.{Command}
 use Rattle.tect_ids.specs.Keys.{op_eq}
 use Rattle.tect_ids.proofs.KeyTests.{op_eq_cases}
@@ -23,7 +22,7 @@ use Rattle.passes.specs.Commits as passes
 use Rattle.world_runs.specs.declared.event.Event.{Event}
 use Rattle.world_runs.specs.declared.event.Event.TheVariants.{Own}
 use Rattle.world_runs.specs.declared.event.Happening.TheVariants.{Began, NotBegun, Ended, Stopped}
-use Rattle.world_runs.specs.Actors.{Actor, Running, idle_actor, begun, not_begun, program_of, program_answer, ended}
+use Rattle.world_runs.specs.Actors.{Actor, Running, idle_actor, begun, not_begun, program_of, program_answer}
 use Rattle.world_runs.specs.Report.{transactions}
 use Rattle.world_runs.specs.Events.{events_of}
 use Rattle.world_runs.specs.Limits.{event_cost, used}
@@ -31,11 +30,11 @@ use Rattle.world_runs.specs.OwnRuns.{own_state}
 use Rattle.world_runs.specs.Refusals.{AreOfRefused, was_refused}
 use Rattle.world_runs.proofs.Actors.{same_number}
 use Rattle.world_runs.proofs.Limits.{used-append}
-use Rattle.world_runs.proofs.Refusals.{refused-rest, refused-front}
+use Rattle.world_runs.proofs.Refusals.{refused-rest}
 use Rattle.clients.specs.ActorState.{ActorState, op_of, next_op_of}
 use Rattle.clients.specs.ActorCalls.{looked, says_now, let_go, left_behind}
 use Rattle.clients.specs.declared.client.Client.TheInside.{Inside}
-use Rattle.clients.specs.Lives.{events_in, state_in, op_in, next_op_in, RefusesNext}
+use Rattle.clients.specs.Lives.{events_in, RefusesNext}
 use Rattle.clients.specs.Refused.{IsRefused, standing_refused, RunsIn}
 use Rattle.clients.specs.ClientInside.{life_of, told_actor, IsFullOnce, StandsAs, IsClient}
 use Rattle.clients.specs.PassSteps.{ended_by}
@@ -125,7 +124,7 @@ module _ {S : Type 0} (P : Programs S) where
     pub begun_stage : Stage P begins r 0
     begun_stage =
         let number : (own_state P a.counts idle_actor (own_events p)).number ≡ a.state.number
-            = sym (ap (λ (s : Actor S). s.number) stage.state) in
+        = sym (ap (λ (s : Actor S). s.number) stage.state) in
         push_stage P a begins p r t 0 (Local (p.clock + 1) p.actor (notes.Began (next_op_of a) c)) (Own (next_op_of a) (Began c)) stage
         begun_pushed
         (sym (quiet P a.counts (own_events p) (next_op_of a) stage.run (omega (arith, number))) ∙ sym

@@ -11,7 +11,7 @@ use Rattle.program_forms.specs.declared.standing.Standing.{Standing}
 use Rattle.program_forms.specs.declared.standing.Standing.TheVariants.{Goes, Left, NoRoom}
 use Rattle.store_rules.specs.Views.{is_made}
 use Rattle.program_forms.specs.Memories.{Memory, always}
-use Rattle.program_forms.specs.Kinds.{Does, Asks, Says, Kind, Turned, Programs, said_by, turned, turned_by, next_does}
+use Rattle.program_forms.specs.Kinds.{Does, Asks, Says, Kind, Turned, Programs, said_by, turned, turned_by}
 use Rattle.program_calls.specs.Keeping.{KeepsSerial}
 use Rattle.world_runs.specs.Actors.{Actor, Running, asked_in, answer_in, is_said, standing_does, running_does, program_ask, program_answer}
 use Rattle.world_runs.specs.Actors.{memory_after, memory_at_end, standing_heard, went_on, ended}

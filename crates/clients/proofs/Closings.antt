@@ -1,5 +1,5 @@
 -- the fields of a client after what its calls did
-use Rattle.std.proofs.Common.{◌≡◌, ◌≢◌, ◌⊎◌, inl, inr, ℕ, ◌+◌, ◌<◌, ◌^◌, true, false, Option, Some, None, IsSome, IsNone, List, [], ◌∷◌, ◌++◌}
+use Rattle.std.proofs.Common.{◌≡◌, ◌≢◌, ◌⊎◌, inl, inr, ℕ, ◌+◌, ◌<◌, ◌^◌, true, false, Option, Some, None, IsSome, IsNone, [], ◌∷◌, ◌++◌}
 use Rattle.std.proofs.Common.{length, refl, sym, ap, ◌∙◌, subst, arith, is_some}
 use Rattle.std.specs.Prelude.{Result, Ok, Err, IsOk, OnOk, is_err, ◌==◌, vec_len}
 use Rattle.tect_ids.specs.declared.ids.Counts.{Counts}
@@ -7,7 +7,6 @@ use Rattle.tect_ids.specs.declared.ids.OpId.{OpId}
 use Rattle.tect_ids.specs.declared.answer.Answer.{Answer}
 use Rattle.tect_ids.specs.declared.command.Command.{Command}
 use Rattle.store_rules.specs.declared.any.AnyReq.{AnyReq}
-use Rattle.store_rules.specs.declared.any.AnyReply.{AnyReply}
 use Rattle.program_forms.specs.declared.standing.Standing.{Standing}
 use Rattle.program_forms.specs.declared.standing.Standing.TheVariants.{Goes, Left, NoRoom}
 use Rattle.program_forms.specs.Memories.{Memory}
@@ -22,7 +21,7 @@ use Rattle.passes.specs.Commits as passes
 use Rattle.world_runs.specs.declared.event.Event.{Event}
 use Rattle.world_runs.specs.declared.event.Event.TheVariants.{Own}
 use Rattle.world_runs.specs.declared.event.Happening.TheVariants.{Began, Stopped}
-use Rattle.world_runs.specs.Actors.{Actor, Running, idle_actor, begun, has_ended, ended}
+use Rattle.world_runs.specs.Actors.{Actor, Running, idle_actor, begun, has_ended}
 use Rattle.world_runs.specs.Events.{events_of}
 use Rattle.world_runs.specs.Smooth.{OwnEndsAtOnce, IsPromptFrom}
 use Rattle.clients.specs.ActorState.{ActorState, op_of, next_op_of}
@@ -30,12 +29,11 @@ use Rattle.clients.specs.ActorCalls.{looked, left_behind}
 use Rattle.clients.specs.Turns.{turned_by}
 use Rattle.clients.specs.declared.client.Client.TheInside.{Inside}
 use Rattle.clients.specs.declared.steps.Step.{Step}
-use Rattle.clients.specs.declared.turned.Turned.{Turned}
 use Rattle.clients.specs.Lives.{ClientLife, events_in, state_in, op_in, IsLife, RefusesNext}
 use Rattle.clients.specs.Refused.{IsGoing}
 use Rattle.clients.specs.ClientInside.{life_of, told_actor, StandsAs, IsClient}
 use Rattle.clients.specs.Steps.{Tried, Unasked, Did, Denied, OwnStep, WentAstray}
-use Rattle.clients.specs.PassSteps.{Finishes, StepEnds, TookStep, LostStep, after_try, ended_by}
+use Rattle.clients.specs.PassSteps.{Finishes, StepEnds, TookStep, LostStep, after_try}
 use Rattle.clients.proofs.Prompts.{prompt_push, prompt_step}
 use Rattle.clients.proofs.Stages.{own_events, Stage, ended_none, runs_op}
 use Rattle.clients.proofs.OwnSteps.{life_at, step_stage, own_step}
@@ -152,8 +150,11 @@ module _ {S : Type 0} (P : Programs S) where
 
     pub actor_few : KeepsSerial P → l.silent ≡ [] → IsSome (state_in P l).running → a.actor.state.memory.serial + 1 < 2 ^ 32
     actor_few keeps noted runs =
-        omega (arith, serial_few P a (silent_here noted) keeps is,
-        stands_serial P (told_actor P a) a.actor keeps is.stands (runs_here runs))
+        omega (
+          arith,
+          serial_few P a (silent_here noted) keeps is,
+          stands_serial P (told_actor P a) a.actor keeps is.stands (runs_here runs),
+        )
 
   -- ---- a step
 
@@ -256,15 +257,25 @@ module _ {S : Type 0} (P : Programs S) where
       }
 
       lost_is : b.transactions ≡ a.transactions → (let c : Inside S = record a { actor = left_behind (looked P told) } in c ≡ b)
-      lost_is count i = record { counts = sym counts i; actor = sym lost_seen.actor i; pass = sym lost_seen.pass i;
-          refused = sym refused i; transactions = sym count i }
+      lost_is count i = record {
+        counts = sym counts i;
+        actor = sym lost_seen.actor i;
+        pass = sym lost_seen.pass i;
+        refused = sym refused i;
+        transactions = sym count i;
+      }
 
       pub lost_client : b.transactions ≡ a.transactions → IsClient P b
       lost_client count = subst (IsClient P) (lost_is count) lost_same
 
       lost_life : life_of b ≡ l
-      lost_life = (λ i. record { counts = counts i; actor = (lost_seen.actor i).actor; clock = (lost_seen.pass i).clock;
-          moments = (lost_seen.pass i).moments.items; silent = (refused i).items }) ∙ view
+      lost_life = (λ i. record {
+        counts = counts i;
+        actor = (lost_seen.actor i).actor;
+        clock = (lost_seen.pass i).clock;
+        moments = (lost_seen.pass i).moments.items;
+        silent = (refused i).items;
+      }) ∙ view
 
       pub lost_step : WentAstray P done w v l (life_of b) e
       lost_step = subst (λ (x : ClientLife). WentAstray P done w v x (life_of b) e) view (record {

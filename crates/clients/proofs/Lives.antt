@@ -1,6 +1,5 @@
 -- the fields of a client against its life
-use Rattle.std.proofs.Common.{◌≡◌, ℕ, ◌+◌, ◌<◌, ◌^◌, inl, Option, None, IsSome, List, [], ◌∷◌, length, sym, ap, ◌∙◌, subst, arith}
-use Rattle.std.specs.Option.{ForSome}
+use Rattle.std.proofs.Common.{◌≡◌, ◌+◌, ◌<◌, ◌^◌, Option, List, [], length, sym, ap, ◌∙◌, subst, arith}
 use Rattle.std.proofs.lemmas.List.{append-nil, length-map}
 use Rattle.tect_ids.specs.declared.ids.Counts.{Counts}
 use Rattle.tect_ids.specs.Places.{HasPlaces}
@@ -120,7 +119,7 @@ module _ {S : Type 0} (P : Programs S) where
         let stage = stage_of is in
         let few = serials-few P a.counts keeps (own_events a.pass) in
         let serial : (state_in P (life_of a)).memory.serial ≡ (own_state P a.counts idle_actor (own_events a.pass)).memory.serial
-            = ap (λ (s : Actor S). s.memory.serial) stage.state in
+        = ap (λ (s : Actor S). s.memory.serial) stage.state in
         omega (arith, few, serial, a.pass.known.few, length_of a.pass)
 
     pub count_few : IsClient P a → a.transactions + 1 < 2 ^ 64

@@ -1,5 +1,5 @@
 -- the step of an actor with its pass, as a step of its client's life
-use Rattle.std.proofs.Common.{◌≡◌, ℕ, ◌+◌, inl, inr, true, false, Option, Some, None, IsSome, List, [], ◌∷◌, ◌++◌, length, refl, sym, ap, ◌∙◌}
+use Rattle.std.proofs.Common.{◌≡◌, ℕ, ◌+◌, inl, inr, Option, Some, None, IsSome, List, [], ◌∷◌, ◌++◌, length, refl, sym, ap, ◌∙◌}
 use Rattle.std.proofs.Common.{subst, arith, append_assoc}
 use Rattle.std.specs.Prelude.{Result, Ok}
 use Rattle.std.proofs.lemmas.List.{append-nil}
@@ -9,7 +9,6 @@ use Rattle.tect_ids.specs.declared.answer.Answer.{Answer}
 use Rattle.store_rules.specs.declared.any.AnyReq.{AnyReq}
 use Rattle.store_rules.specs.declared.any.AnyReply.{AnyReply}
 use Rattle.store_rules.specs.Places.{request_place}
-use Rattle.program_forms.specs.declared.heard.Heard.{Heard}
 use Rattle.program_forms.specs.declared.standing.Standing.{Standing}
 use Rattle.program_forms.specs.declared.standing.Standing.TheVariants.{Goes, Left, NoRoom}
 use Rattle.program_forms.specs.Lacks.{IsLack}
@@ -26,7 +25,7 @@ use Rattle.passes.proofs.Pushes.{steps_count-len}
 use Rattle.world_runs.specs.declared.event.Event.{Event}
 use Rattle.world_runs.specs.declared.event.Event.TheVariants.{Own}
 use Rattle.world_runs.specs.declared.event.Happening.TheVariants.{Acted}
-use Rattle.world_runs.specs.Actors.{Actor, Running, program_ask, program_answer, idle_actor, went_on}
+use Rattle.world_runs.specs.Actors.{Actor, Running, idle_actor}
 use Rattle.world_runs.specs.Events.{end_event}
 use Rattle.world_runs.specs.OwnRuns.{own_state}
 use Rattle.clients.specs.ActorState.{ActorState, op_of}
@@ -40,7 +39,7 @@ use Rattle.clients.specs.Steps.{Tried, Unasked, Did, Denied, Asks, DidThere, sta
 use Rattle.clients.specs.Steps.{tried_events, end_events, is_later, OwnStep}
 use Rattle.clients.specs.PassSteps.{Finishes, Tries, act_count, after_try, StepEnds, TookStep}
 use Rattle.clients.proofs.Growing.{went_number}
-use Rattle.clients.proofs.Stages.{own_events, Stage, pushed_events, runs_op, went_some, acted_op, acted_pushed, acted_stage, Because}
+use Rattle.clients.proofs.Stages.{own_events, Stage, pushed_events, runs_op, went_some, acted_pushed, acted_stage, Because}
 use Rattle.clients.proofs.Stages.{ended_pushed, ended_stage}
 
 -- its life, where no op was refused

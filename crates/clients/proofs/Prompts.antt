@@ -1,5 +1,5 @@
 -- a client ends a command at once when its last reply gave the answer
-use Rattle.std.proofs.Common.{◌≡◌, ℕ, inl, inr, true, false, Option, Some, None, List, [], ◌∷◌, ◌++◌, refl, sym, ap, ◌∙◌, subst}
+use Rattle.std.proofs.Common.{◌≡◌, ℕ, false, Option, Some, None, List, [], ◌∷◌, ◌++◌, refl, sym, ap, ◌∙◌, subst}
 use Rattle.std.specs.Prelude.{Result}
 use Rattle.std.specs.Option.{ForSome}
 use Rattle.tect_ids.specs.declared.ids.Counts.{Counts}
@@ -15,7 +15,7 @@ use Rattle.entry_words.specs.declared.entry.Refused.{Refused}
 use Rattle.world_runs.specs.declared.event.Event.{Event}
 use Rattle.world_runs.specs.declared.event.Event.TheVariants.{Own}
 use Rattle.world_runs.specs.declared.event.Happening.TheVariants.{Acted}
-use Rattle.world_runs.specs.Actors.{Actor, Running, idle_actor, has_ended, program_of, went_on}
+use Rattle.world_runs.specs.Actors.{Actor, idle_actor, has_ended, program_of, went_on}
 use Rattle.world_runs.specs.Events.{end_event}
 use Rattle.world_runs.specs.Follows.{IsEndOf}
 use Rattle.world_runs.specs.OwnRuns.{own_next, own_state}

@@ -1,6 +1,6 @@
 -- a client one of whose ops was refused: nothing is noted any more
-use Rattle.std.proofs.Common.{◌≡◌, ℕ, ◌<◌, ◌^◌, Bool, true, ◌||◌, inl, Option, Some, None, IsSome, List, [], ◌∷◌, ◌++◌, refl, sym, ap, ◌∙◌, subst}
-use Rattle.std.proofs.Common.{append_assoc, arith}
+use Rattle.std.proofs.Common.{◌≡◌, ℕ, ◌<◌, ◌^◌, true, Option, None, IsSome, List, [], ◌∷◌, ◌++◌, sym, ap, ◌∙◌, subst}
+use Rattle.std.proofs.Common.{append_assoc}
 use Rattle.std.specs.Prelude.{vec_len, vec_capacity}
 use Rattle.std.specs.Option.{ForSome}
 use Rattle.tect_ids.specs.declared.ids.Counts.{Counts}

@@ -14,9 +14,6 @@ use Rattle.store_rules.specs.declared.any.AnyReq.{AnyReq}
 use Rattle.store_rules.specs.declared.any.AnyReply.{AnyReply}
 use Rattle.store_rules.specs.Places.{request_place}
 use Rattle.program_forms.specs.declared.heard.Heard.{Heard}
-use Rattle.program_forms.specs.declared.heard.Heard.TheVariants as hearing
-use Rattle.program_forms.specs.declared.standing.Standing.{Standing}
-use Rattle.program_forms.specs.declared.standing.Standing.TheVariants.{Goes, Left, NoRoom}
 use Rattle.program_forms.specs.Lacks.{IsLack}
 use Rattle.program_forms.specs.Memories.{Memory}
 use Rattle.program_forms.specs.Kinds.{Programs}

@@ -1,5 +1,5 @@
 -- an actor stands as its events tell, but for a request that went astray
-use Rattle.std.proofs.Common.{◌≡◌, ◌⊎◌, inl, inr, ℕ, ◌+◌, Bool, true, false, Option, Some, None, IsSome, is_some, refl, sym, ap, ◌∙◌, subst, arith}
+use Rattle.std.proofs.Common.{◌≡◌, ◌⊎◌, inl, inr, ℕ, Bool, true, false, Option, Some, None, IsSome, is_some, refl, sym, ap, ◌∙◌, subst, arith}
 use Rattle.std.specs.Prelude.{Result}
 use Rattle.tect_ids.specs.declared.ids.Counts.{Counts}
 use Rattle.tect_ids.specs.declared.ids.OpId.{OpId}
@@ -18,8 +18,8 @@ use Rattle.clients.specs.ActorState.{ActorState, op_of}
 use Rattle.clients.specs.ActorCalls.{actor_looked, looked, at_left, left_behind}
 use Rattle.clients.specs.declared.steps.Step.{Step}
 use Rattle.clients.specs.ClientInside.{StandsAs}
-use Rattle.clients.specs.Steps.{Tried, Unasked, Did, Denied, Asks}
-use Rattle.clients.specs.PassSteps.{Finishes, StepEnds, TookStep, LostStep, ended_by, after_try}
+use Rattle.clients.specs.Steps.{Tried, Unasked, Did, Denied}
+use Rattle.clients.specs.PassSteps.{Finishes, StepEnds, TookStep, LostStep, ended_by}
 use Rattle.clients.proofs.Calls.{looked_serial}
 
 module _ {S : Type 0} (P : Programs S) where
@@ -127,15 +127,26 @@ module _ {S : Type 0} (P : Programs S) where
         → (let b : ActorState S = record a { state = record a.state { stopped = true; running = None } } in
         let u : ActorState S = record t { state = record t.state { stopped = true; running = None } } in StandsAs P u b)
     stands_stop (inl is) = inl (λ i. record (is i) { state = record (is i).state { stopped = true; running = None } })
-    stands_stop (inr (inl is)) = inr (inr (refl, refl,
-        (λ i. record (is i) { state = record (is i).state { stopped = true; running = None } })
-        ∙ (λ i. record t { state = record {
-          number = looked_number t.counts t.state.number t.state.memory t.state.stopped t.state.running i;
-          memory = (looked P t).state.memory; stopped = true; running = None } })
-        ∙ ap (λ (m : Memory). let u : ActorState S = record t { state = record t.state { memory = m; stopped = true; running = None } } in u)
-        (sym (ap (λ (z : ActorState S). z.state.memory) is))))
-    stands_stop (inr (inr (stopped, none, is))) = inr (inr (refl, refl,
-        λ i. record (is i) { state = record (is i).state { stopped = true; running = None } }))
+    stands_stop (inr (inl is)) = inr (inr (
+      refl,
+      refl,
+      (λ i. record (is i) { state = record (is i).state { stopped = true; running = None } })
+          ∙ (λ i. record t {
+            state = record {
+              number = looked_number t.counts t.state.number t.state.memory t.state.stopped t.state.running i;
+              memory = (looked P t).state.memory;
+              stopped = true;
+              running = None;
+            };
+          })
+          ∙ ap (λ (m : Memory). let u : ActorState S = record t { state = record t.state { memory = m; stopped = true; running = None } } in u)
+          (sym (ap (λ (z : ActorState S). z.state.memory) is)),
+    ))
+    stands_stop (inr (inr (stopped, none, is))) = inr (inr (
+      refl,
+      refl,
+      λ i. record (is i) { state = record (is i).state { stopped = true; running = None } },
+    ))
 
 -- ---- a step
 

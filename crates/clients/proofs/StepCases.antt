@@ -1,5 +1,5 @@
 -- the steps that the code takes
-use Rattle.std.proofs.Common.{ℕ, ◌≡◌, ◌+◌, ◌<◌, ◌^◌, ◌⊎◌, inl, inr, false, arith, Option, Some, None, List, [], ◌∷◌, ◌++◌, refl, sym, ap, ◌∙◌, subst}
+use Rattle.std.proofs.Common.{ℕ, ◌≡◌, ◌+◌, ◌<◌, ◌^◌, ◌⊎◌, inl, inr, false, arith, Option, Some, None, [], ◌∷◌, ◌++◌, refl, sym, ap, ◌∙◌, subst}
 use Rattle.std.specs.Prelude.{Result, Ok, Err}
 use Rattle.tect_ids.specs.declared.ids.Counts.{Counts}
 use Rattle.tect_ids.specs.declared.ids.OpId.{OpId}
@@ -24,16 +24,16 @@ use Rattle.passes.specs.declared.pass.Pass.{Pass}
 use Rattle.passes.specs.Commits.{IsFull}
 use Rattle.passes.specs.Adding.{entry_at, Committed, NotedEnd}
 use Rattle.passes.proofs.Hearing.{heard_last-act}
-use Rattle.world_runs.specs.Actors.{Actor, Running, program_ask, has_ended, ended}
+use Rattle.world_runs.specs.Actors.{Actor, Running, has_ended, ended}
 use Rattle.clients.specs.declared.turned.Turned.TheVariants.{Going, Done}
 use Rattle.clients.specs.ActorState.{ActorState, op_of}
-use Rattle.clients.specs.ActorCalls.{looked, asks_now, says_now, IsPlainOf, actor_on, gone_on, let_go, Advances}
+use Rattle.clients.specs.ActorCalls.{looked, asks_now, says_now, actor_on, gone_on, let_go, Advances}
 use Rattle.clients.specs.declared.steps.Step.{Step}
-use Rattle.clients.specs.Steps.{Tried, Unasked, Did, Denied, EndsSo}
+use Rattle.clients.specs.Steps.{Unasked, Did, Denied, EndsSo}
 use Rattle.clients.specs.PassSteps.{heard_by, ended_by, Entered, Finishes, Tries, MarkedLeft, Marks, SettlesSo, EndsHere, HearsSo, StepEnds}
 use Rattle.clients.specs.PassSteps.{after_try, TookStep}
 use Rattle.program_calls.specs.Keeping.{KeepsSerial}
-use Rattle.clients.proofs.Calls.{looked_serial, looked_asks, looked_says, looked_plain, looked_on, looked_end, looked_op, gone_op, says_end, says_answers}
+use Rattle.clients.proofs.Calls.{looked_serial, looked_asks, looked_says, looked_plain, looked_on, looked_end, looked_op, says_end, says_answers}
 
 module _ {S : Type 0} (P : Programs S) where
   -- ---- how the command goes on at the reply
@@ -80,8 +80,10 @@ module _ {S : Type 0} (P : Programs S) where
       middle = p;
       marks = refl;
       ends = done_ends y z is.1 is.2 either;
-      finishes = (after ∙ ap let_go is.0 ∙ says_end P (gone_on P a q x hearing.Whole) z is.1,
-          subst (λ (o : OpId). NotedEnd p r (Ended o y)) (ap op_of is.0) noted);
+      finishes = (
+        after ∙ ap let_go is.0 ∙ says_end P (gone_on P a q x hearing.Whole) z is.1,
+        subst (λ (o : OpId). NotedEnd p r (Ended o y)) (ap op_of is.0) noted,
+      );
     }
 
     pub hears_left : (k : Pass) (e : Wanting) → Advances P a m q x (Err e) → MarkedLeft p k → b ≡ let_go m
@@ -91,8 +93,10 @@ module _ {S : Type 0} (P : Programs S) where
       middle = k;
       marks = marked;
       ends = inr refl;
-      finishes = (after ∙ ap let_go is ∙ left_ends a q x,
-          subst (λ (o : OpId). NotedEnd k r (Ended o answers.NoMemory)) (ap op_of is) noted);
+      finishes = (
+        after ∙ ap let_go is ∙ left_ends a q x,
+        subst (λ (o : OpId). NotedEnd k r (Ended o answers.NoMemory)) (ap op_of is) noted,
+      );
     }
 
   -- ---- the pass

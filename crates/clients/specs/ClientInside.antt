@@ -8,14 +8,14 @@ use Rattle.passes.specs.declared.pass.Pass.{Pass}
 use Rattle.passes.specs.Commits.{IsFullForBegin}
 use Rattle.program_forms.specs.Kinds.{Programs}
 use Rattle.world_runs.specs.declared.event.Event.{Event}
-use Rattle.world_runs.specs.Actors.{Actor, idle_actor}
+use Rattle.world_runs.specs.Actors.{idle_actor}
 use Rattle.world_runs.specs.Report.{transactions}
 use Rattle.world_runs.specs.Events.{own, IsPlaced}
 use Rattle.world_runs.specs.OwnRuns.{OwnRun}
 use Rattle.world_runs.specs.Limits.{OwnLimits}
 use Rattle.world_runs.specs.Refusals.{AreOfRefused}
 use Rattle.world_runs.specs.Smooth.{OwnEndsAtOnce}
-use Rattle.clients.specs.ActorState.{ActorState, op_of}
+use Rattle.clients.specs.ActorState.{ActorState}
 use Rattle.clients.specs.ActorCalls.{looked, left_behind}
 use Rattle.clients.specs.declared.client.Client.TheInside.{Inside}
 use Rattle.clients.specs.Lives.{ClientLife, events_in, state_in, op_in}

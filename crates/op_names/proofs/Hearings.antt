@@ -1,12 +1,11 @@
 -- what a running command comes to at a reply is what its program says
-use Rattle.std.proofs.Common.{◌≡◌, ℕ, ◌+◌, true, false, if◌then◌else◌, Option, Some, None, [], ◌∷◌, refl, sym, ap, ◌∙◌, subst}
-use Rattle.std.specs.Prelude.{Ok, Err}
+use Rattle.std.proofs.Common.{◌≡◌, ℕ, ◌+◌, true, false, if◌then◌else◌, Option, Some, [], ◌∷◌, refl, sym, ap, ◌∙◌, subst}
+use Rattle.std.specs.Prelude.{Ok}
 use Rattle.tect_ids.specs.declared.ids.Place.{Place}
 use Rattle.tect_ids.specs.declared.command.Command.{Command}
 use Rattle.tect_ids.specs.declared.command.Command.TheVariants as commands
 use Rattle.tect_ids.specs.declared.ids.Counts.{Counts}
 use Rattle.tect_ids.specs.declared.ids.OpId.{OpId}
-use Rattle.tect_ids.specs.declared.ids.NoMemory.{NoMemory}
 use Rattle.tect_ids.specs.declared.answer.Answer.{Answer}
 use Rattle.store_rules.specs.declared.any.AnyReq.{AnyReq}
 use Rattle.store_rules.specs.declared.any.AnyReply.{AnyReply}
@@ -32,9 +31,12 @@ says_in p a smooth is c m op = says_as_phase c m op p smooth ∙ sym is
 pub heard_ok : (c : Counts) (m n : Memory) (op : OpId) (p next r : Program) (q : AnyReq) (x : AnyReply) (a : Option Answer)
     → next ≡ program_hears c m op p q x → IsSmooth next.command next.phase → a ≡ phase_answer next.phase → GoesOn next r a → IsPlain a
     → n ≡ always m q x → Hears programs c m n op p r q x (Ok a)
-heard_ok c m n op p next r q x a goes smooth is on plain memory =
-    (subst (λ (s : Program). SaysIn programs s a) goes (says_in next a smooth is), plain,
-        subst (λ (s : Program). GoesOn s r a) goes on, memory)
+heard_ok c m n op p next r q x a goes smooth is on plain memory = (
+  subst (λ (s : Program). SaysIn programs s a) goes (says_in next a smooth is),
+  plain,
+  subst (λ (s : Program). GoesOn s r a) goes on,
+  memory,
+)
 
 -- ---- what a reply does to the actor's memory
 

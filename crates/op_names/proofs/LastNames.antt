@@ -1,6 +1,6 @@
 -- the last name of a path, by its place
-use Rattle.std.proofs.Common.{◌≡◌, ◌≢◌, ℕ, zero, suc, ◌+◌, ◌-◌, ◌<◌, ◌≤◌, Bool, true, false, List, [], ◌∷◌, length, take, get_or}
-use Rattle.std.proofs.Common.{slice_index_or, Option, Some, None, refl, sym, ap, ◌∙◌, arith}
+use Rattle.std.proofs.Common.{◌≡◌, ℕ, suc, ◌-◌, ◌<◌, ◌≤◌, false, List, [], ◌∷◌, length, take}
+use Rattle.std.proofs.Common.{slice_index_or, Some, refl, ap, ◌∙◌, arith}
 use Rattle.tect_ids.specs.Keys.{name_eq}
 use Rattle.tect_ids.proofs.KeyTests.{name_eq_cases}
 use Rattle.program_rules.specs.Paths.{but_last, last_name}

@@ -29,7 +29,7 @@ use Rattle.program_rules.specs.Paths.{last_name}
 use Rattle.program_rules.specs.Programs.{own_hold, at_last, new_path, first_ask, grant_ask, release_ask, phase_ask, first_phase, phase_hear}
 use Rattle.program_rules.specs.Programs.{refusal, walked, looked, checked, entries_heard, unbound_heard, source_heard, first_hear}
 use Rattle.program_rules.specs.Programs.{then_release, bound_heard, swapped_heard}
-use Rattle.op_names.specs.Needs.{needed, old_hold, GivesOther, Shows}
+use Rattle.op_names.specs.Needs.{needed, GivesOther, Shows}
 
 -- ---- another name
 

@@ -1,6 +1,4 @@
 -- What a command comes to at a reply, in the words of the code.
-use Rattle.std.specs.Prelude.{◌≡◌, Option, Result, Ok, Err}
-use Rattle.tect_ids.specs.declared.ids.NoMemory.{NoMemory}
 use Rattle.tect_ids.specs.declared.ids.OpId.{OpId}
 use Rattle.store_rules.specs.declared.any.AnyReq.{AnyReq}
 use Rattle.store_rules.specs.declared.any.AnyReply.{AnyReply}

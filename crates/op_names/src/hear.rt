@@ -293,12 +293,7 @@ fn walk_heard_of(
 }
 
 /// The program goes on as that op at the reply to its request. For want of memory it stays as it was.
-pub fn hear(
-    program: &mut Program,
-    alloc: Global,
-    op: OpId,
-    heard: &Heard,
-) -> Result<(), NoMemory>
+pub fn hear(program: &mut Program, alloc: Global, op: OpId, heard: &Heard) -> Result<(), NoMemory>
     ensures ok { OnOk result (program.new ≡ record program.old {
       phase = phase_hear heard.now.place op heard.now.number program.old.command program.old.phase heard.now.reply.now;
     }) }

@@ -1,5 +1,4 @@
-use Rattle.std.proofs.Common.{◌∙◌, sym, ap, Some}
-use Rattle.clients.specs.ActorCalls.{Advances}
+use Rattle.std.proofs.Common.{ap}
 use Rattle.clients.proofs.StepCases.{hears_going, hears_done, hears_left}
 use Rattle.clients.proofs.steps.hear.Goals as goal
 

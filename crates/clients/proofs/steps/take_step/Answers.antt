@@ -1,4 +1,4 @@
-use Rattle.std.proofs.Common.{◌∙◌, ap, refl}
+use Rattle.std.proofs.Common.{refl}
 use Rattle.clients.proofs.StepCases.{unasked_step, wanting_step, looked_few}
 use Rattle.clients.proofs.steps.take_step.Goals as goal
 

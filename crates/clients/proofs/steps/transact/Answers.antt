@@ -1,4 +1,4 @@
-use Rattle.std.proofs.Common.{◌∙◌, ap, subst, refl, sym, Ok, Err}
+use Rattle.std.proofs.Common.{◌∙◌, ap, subst, refl, Ok, Err}
 use Rattle.tect_ids.specs.declared.ids.Counts.{Counts}
 use Rattle.tect_ids.specs.declared.answer.Answer.TheVariants as answers
 use Rattle.store_rules.specs.Places.{request_place}

@@ -1,4 +1,4 @@
-use Rattle.std.proofs.Common.{rules, ◌∙◌, ap, arith}
+use Rattle.std.proofs.Common.{rules, ◌∙◌, arith}
 use Rattle.tect_ids.specs.Keys.{name_eq}
 use Rattle.op_names.proofs.LastNames.{last_compared, nothing_compared}
 use Rattle.op_names.proofs.hear.ends_with.Goals as goal

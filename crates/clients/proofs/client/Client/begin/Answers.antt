@@ -17,8 +17,11 @@ returns-clause-ok g c =
     elim c.if-is_full_for_begin.branch [
       | then-is_full_for_begin w ↦
           rw (w.self-is, w.begun-is) (on_ok_map w.refuse-begun.result
-          (λ e. inr (refuses_here g.P.Programs.rules c.self.inside c.args.self.now c.self.invariant c.self.view_is
-          (w.if-is_full_for_begin.ensures.0 refl), e))
+          (λ e. inr (
+            refuses_here g.P.Programs.rules c.self.inside c.args.self.now c.self.invariant c.self.view_is
+                (w.if-is_full_for_begin.ensures.0 refl),
+            e,
+          ))
           w.refuse-begun.ensures.ok)
       | else-is_full_for_begin w ↦
           rw (w.self-is, w.begun-is) (on_ok_map w.note_begin-begun.result

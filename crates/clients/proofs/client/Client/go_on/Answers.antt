@@ -1,7 +1,7 @@
-use Rattle.std.proofs.Common.{◌∙◌, sym, refl, ◌+◌, subst}
+use Rattle.std.proofs.Common.{sym, refl, ◌+◌, subst}
 use Rattle.clients.specs.ClientInside.{life_of}
 use Rattle.clients.specs.Steps.{OwnStep}
-use Rattle.clients.proofs.Closings.{turned_client, turned_step, actor_few, actor_counts, actor_runs, pass_runs}
+use Rattle.clients.proofs.Closings.{turned_client, turned_step, actor_few}
 use Rattle.clients.proofs.client.Client.go_on.Goals as goal
 
 pub take_step-requires-clause-few : goal.take_step-requires-clause-few
