@@ -1,5 +1,5 @@
 -- What the calls on an actor make of the world, as steps of a player.
-use Rattle.std.proofs.Common.{◌≡◌, ℕ, zero, suc, ◌+◌, ◌<◌, ◌≤◌, true, false, eqb, Option, Some, None, List, [], ◌∷◌, ◌++◌, refl, sym, ap}
+use Rattle.std.proofs.Common.{◌≡◌, ℕ, ◌<◌, ◌≤◌, true, false, eqb, List, [], ◌∷◌, ◌++◌, refl, sym, ap}
 use Rattle.std.proofs.Common.{subst, ◌∙◌, arith}
 use Rattle.tect_ids.specs.declared.ids.OpId.{OpId}
 use Rattle.tect_ids.specs.declared.answer.Answer.{Answer}
@@ -12,7 +12,7 @@ use Rattle.world_runs.specs.declared.event.Happening.{Happening}
 use Rattle.world_runs.specs.declared.event.Happening.TheVariants.{Began, NotBegun, Acted, Ended, Stopped, Failed}
 use Rattle.world_runs.specs.Actors.{has_ended}
 use Rattle.world_runs.specs.Events.{own}
-use Rattle.world_runs.specs.Follows.{Acts, IsActOf, IsBeginOf, IsEndOf, tries}
+use Rattle.world_runs.specs.Follows.{Acts, IsActOf, IsBeginOf, IsEndOf}
 use Rattle.world_runs.specs.Moments.{WorldState, after, running}
 use Rattle.world_runs.specs.Smooth.{IsPrompt, EndIsNext, EndsAtOnce}
 use Rattle.world_runs.specs.Races.{is_own}
@@ -20,7 +20,7 @@ use Rattle.world_runs.proofs.Actors.{own-append, own-here}
 use Rattle.clients.specs.declared.turned.Turned.{Turned}
 use Rattle.clients.specs.declared.turned.Turned.TheVariants.{Going, Done}
 use Rattle.tect_world.specs.Life.{Life, present, grown, last_op, next_op, room_at}
-use Rattle.tect_world.specs.Steps.{Stepped, WentOn}
+use Rattle.tect_world.specs.Steps.{Stepped}
 use Rattle.tect_world.specs.Steps as world_steps
 use Rattle.tect_world.proofs.Lives.{present-grown}
 use Rattle.tect_world.proofs.Running.{went_nearer}

@@ -55,7 +55,11 @@ fn tell_mark<'a, P: Programs + Drop>(
     ensures counts { length counts.new.items ≡ length clients.now }
 {
     match mark {
-        Mark::Actor(actor) => tell_next(told, &mut counts[actor as usize - 1], &clients[actor as usize - 1]),
+        Mark::Actor(actor) => tell_next(
+            told,
+            &mut counts[actor as usize - 1],
+            &clients[actor as usize - 1],
+        ),
         Mark::Dump => Ok(()),
     }
 }

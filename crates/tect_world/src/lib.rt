@@ -9,4 +9,3 @@ mod world;
 
 pub use clients::Turned;
 pub use world::World;
-
