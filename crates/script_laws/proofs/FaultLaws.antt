@@ -30,10 +30,10 @@ use Rattle.script_laws.proofs.ScriptLaws.{right, faulty, measured_right, IsTold,
 use Rattle.script_laws.proofs.PlanLaws.{IsStore, store_by}
 use Rattle.script_laws.proofs.WrongLaws.{line_wrong, line_large}
 
-fault_same : (A : Type 0) (x y : ScriptFault) → faulty A x ≡ Err y → x ≡ y
+pub fault_same : (A : Type 0) (x y : ScriptFault) → faulty A x ≡ Err y → x ≡ y
 fault_same A x y e = cc
 
-right_faulty : {A P : Type 0} (x : A) (fault : ScriptFault) → right x ≡ Err fault → P
+pub right_faulty : {A P : Type 0} (x : A) (fault : ScriptFault) → right x ≡ Err fault → P
 right_faulty x fault e = absurd cc
 
 -- ---- one text
@@ -369,8 +369,11 @@ store_wrong_at n (b ∷ line) [] fault few is = by
     by (inr (found, ok, e)) =
         let m = measured_right n (b ∷ line) _ found ok in
         here_store n (b ∷ line) [] fault
-        (inr (stands b line [], inr (inr
-        (m.number, m.size, inl (store_is (b ∷ line) found (store_by n (b ∷ line) found m.is), refl, sym (fault_same Plan _ fault e))))))
+        (inr (
+          stands b line [],
+          inr (inr
+              (m.number, m.size, inl (store_is (b ∷ line) found (store_by n (b ∷ line) found m.is), refl, sym (fault_same Plan _ fault e)))),
+        ))
 store_wrong_at n p (q ∷ qs) fault few is = by
     (go_on_wrong (store_text_read n p) (λ found. StoreGone n p (q ∷ qs) found) fault (sym (store_step n p (q ∷ qs) (text_before p)) ∙ is))
     (λ next h. store_wrong_at (n + 1) q qs fault next h)

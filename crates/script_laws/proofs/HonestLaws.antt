@@ -56,12 +56,12 @@ honest_then (word fit next) go honest each = (honest.0, λ w. honest_then (next 
 
 -- ---- kinds of words
 
-unfit_over : {P : Type 0} (k : Fit) (limit : Limit) → k ≡ Unfit → k ≡ Over limit → P
+pub unfit_over : {P : Type 0} (k : Fit) (limit : Limit) → k ≡ Unfit → k ≡ Over limit → P
 unfit_over Fits limit a b = absurd cc
 unfit_over (Over other) limit a b = absurd cc
 unfit_over Unfit limit a b = absurd cc
 
-fits_over : {P : Type 0} (k : Fit) (limit : Limit) → k ≡ Fits → k ≡ Over limit → P
+pub fits_over : {P : Type 0} (k : Fit) (limit : Limit) → k ≡ Fits → k ≡ Over limit → P
 fits_over Fits limit a b = absurd cc
 fits_over (Over other) limit a b = absurd cc
 fits_over Unfit limit a b = absurd cc
@@ -78,7 +78,7 @@ sibling_over other w limit is = elim (cases_Bool (bytes_eq (folder_text w) (fold
   | inr miss ↦ unfit_over (sibling_fit other w) limit (rw miss refl) is
 ]
 
-over_same : (k l : Limit) → Over k ≡ Over l → k ≡ l
+pub over_same : (k l : Limit) → Over k ≡ Over l → k ≡ l
 over_same k l e = cc
 
 hex_over : (w : List ℕ) (limit : Limit) → hex_fit w ≡ Over limit → PassesLimit w limit

@@ -12,3 +12,6 @@ pub mod PlanLaws
 pub mod WrongLaws
 pub mod FaultLaws
 pub mod WrittenLaws
+pub mod ExactLaws
+pub mod OneLine
+pub mod OneFault

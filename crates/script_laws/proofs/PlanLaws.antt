@@ -40,13 +40,13 @@ is_text [] [] = tt
 is_text [] (u ∷ texts) = tt
 is_text (b ∷ t) texts = tt
 
-list_cons : {A : Type 0} (x y : A) (xs ys : List A) → x ∷ xs ≡ y ∷ ys → (x ≡ y) × (xs ≡ ys)
+pub list_cons : {A : Type 0} (x y : A) (xs ys : List A) → x ∷ xs ≡ y ∷ ys → (x ≡ y) × (xs ≡ ys)
 list_cons x y xs ys e = (cc, cc)
 
-list_none : {A P : Type 0} (x : A) (xs : List A) → [] ≡ x ∷ xs → P
+pub list_none : {A P : Type 0} (x : A) (xs : List A) → [] ≡ x ∷ xs → P
 list_none x xs e = absurd cc
 
-list_some : {A P : Type 0} (x : A) (xs : List A) → x ∷ xs ≡ [] → P
+pub list_some : {A P : Type 0} (x : A) (xs : List A) → x ∷ xs ≡ [] → P
 list_some x xs e = absurd cc
 
 -- ---- the lines behind the store line
@@ -114,7 +114,7 @@ store_by n text found is = elim (cases_Bool (is_comment text)) [
       (miss, s.form, sym (ap (λ (ws : List (List ℕ)). spaced ws) words ∙ spaced_parts text))
 ]
 
-store_told : (n : ℕ) (text : List ℕ) (found : Option Counts) → n ≤ 65536 → length text ≤ 70000 → IsStore text found
+pub store_told : (n : ℕ) (text : List ℕ) (found : Option Counts) → n ≤ 65536 → length text ≤ 70000 → IsStore text found
     → store_text_read n text ≡ Ok found
 store_told n text None few short told = measures n text _ few short ∙ rw told refl
 store_told n text (Some counts) few short told =

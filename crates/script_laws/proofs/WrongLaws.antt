@@ -29,25 +29,25 @@ use Rattle.script_laws.proofs.ScriptLaws.{append_nil, true_within}
 
 -- ---- the same line with the client's own number
 
-abbrev with_number : (List ℕ → ℕ) → Line → Line
+abbrev pub with_number : (List ℕ → ℕ) → Line → Line
 with_number number (lines.Client client actor act) = lines.Client client (number client) act
 with_number number line = line
 
-numbered : (number : List ℕ → ℕ) (line : Line) → IsNumbered number (with_number number line)
+pub numbered : (number : List ℕ → ℕ) (line : Line) → IsNumbered number (with_number number line)
 numbered number (lines.Client client actor act) = refl
 numbered number (lines.Store counts) = tt
 numbered number lines.Sweep = tt
 numbered number (lines.Lose disk) = tt
 numbered number lines.Dump = tt
 
-number_form : (counts : Counts) (number : List ℕ → ℕ) (line : Line) → IsLine counts line → IsLine counts (with_number number line)
+pub number_form : (counts : Counts) (number : List ℕ → ℕ) (line : Line) → IsLine counts line → IsLine counts (with_number number line)
 number_form counts number (lines.Client client actor act) is = is
 number_form counts number (lines.Store other) is = is
 number_form counts number lines.Sweep is = is
 number_form counts number (lines.Lose disk) is = is
 number_form counts number lines.Dump is = is
 
-number_words : (number : List ℕ → ℕ) (line : Line) → line_words (with_number number line) ≡ line_words line
+pub number_words : (number : List ℕ → ℕ) (line : Line) → line_words (with_number number line) ≡ line_words line
 number_words number (lines.Client client actor act) = refl
 number_words number (lines.Store counts) = refl
 number_words number lines.Sweep = refl
