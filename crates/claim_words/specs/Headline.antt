@@ -3,7 +3,6 @@ use Rattle.std.specs.Prelude.{◌≡◌, ℕ, true, if◌then◌else◌, Option,
 use Rattle.tect_ids.specs.declared.ids.OpId.{OpId}
 use Rattle.tect_ids.specs.declared.command.Command.{Command}
 use Rattle.tect_ids.specs.declared.answer.Answer.{Answer}
-use Rattle.tect_ids.specs.declared.answer.Answer.TheVariants as answers
 use Rattle.tect_ids.specs.Keys.{op_eq}
 use Rattle.tree_model.specs.Tree.{opening_tree}
 use Rattle.world_runs.specs.declared.event.Event.{Event}
@@ -12,7 +11,8 @@ use Rattle.world_runs.specs.declared.event.Happening.TheVariants.{Began, NotBegu
 use Rattle.world_runs.specs.Refusals.{was_refused}
 use Rattle.program_forms.specs.Lacks.{no_room}
 use Rattle.claim_words.specs.TreeSteps.{tree_steps, IsTreeRun}
-use Rattle.claim_words.specs.Points.{of_op, Point, LacksName}
+use Rattle.claim_words.specs.Points.{of_op}
+use Rattle.claim_words.specs.Because.{because}
 
 abbrev pub begun_by : Event → OpId → Option Command
 begun_by (Own other (Began c)) op = if op_eq other op then Some c else None
@@ -32,11 +32,14 @@ abbrev pub command_of : List Event → OpId → Option Command
 command_of [] op = None
 command_of (e ∷ es) op = or_later (begun_by e op) (command_of es op)
 
--- the history explains the op's answer
-pub record Explains (history : List Event) (op : OpId) (a : Answer) : Type 0 where
+-- the history explains the op's answer, by what explains answers
+pub record ExplainsBy (why : List Event → OpId → Command → Answer → Type 0) (history : List Event) (op : OpId) (a : Answer) : Type 0 where
   pub command : Command
   pub begun : command_of history op ≡ Some command
-  pub because : Point (tree_steps history) op command a ⊎ (LacksName command × (a ≡ answers.NoName))
+  pub because : why history op command a
+
+abbrev pub Explains : List Event → OpId → Answer → Type 0
+Explains history op a = ExplainsBy because history op a
 
 -- the answer of a refused op says that there was no room
 abbrev pub HadNoRoom : List Event → OpId → Answer → Type 0
@@ -44,9 +47,12 @@ HadNoRoom history op a = (was_refused history op ≡ true) × (a ≡ no_room)
 
 -- The steps of the history are a run of the small machine, each reply allowed; an op has no step before it begins; and
 -- where an op ended with an answer, the history before explains it, or the op was refused for want of room.
-pub record Headline (history : List Event) : Type 0 where
+pub record HeadlineBy (why : List Event → OpId → Command → Answer → Type 0) (history : List Event) : Type 0 where
   pub tree : IsTreeRun opening_tree (tree_steps history)
   pub begins : (place : ℕ) (op : OpId) (c : Command) → slice_get history place ≡ Some (Own op (Began c))
       → of_op op (tree_steps (take place history)) ≡ []
   pub answers : (place : ℕ) (op : OpId) (a : Answer) → slice_get history place ≡ Some (Own op (Ended a))
-      → Explains (take place history) op a ⊎ HadNoRoom (take place history) op a
+      → ExplainsBy why (take place history) op a ⊎ HadNoRoom (take place history) op a
+
+abbrev pub Headline : List Event → Type 0
+Headline history = HeadlineBy because history

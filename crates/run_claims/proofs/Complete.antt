@@ -40,7 +40,7 @@ use Rattle.claim_words.specs.TreeSteps.{Told, tree_steps}
 use Rattle.claim_words.specs.Points.{of_op, Walked, StopsWalk, Finds, Lists, LookDecides, ListDecides, CreateDecides}
 use Rattle.claim_words.specs.Points.{MkdirDecides, DeleteDecides, RenameDecides, Decides, DecidesAt, Point, LacksName}
 use Rattle.claim_words.specs.Headline.{command_of, Explains, HadNoRoom, Headline}
-use Rattle.tree_runs.proofs.Walks.{of_op-append}
+use Rattle.telling_laws.proofs.Histories.{of_op-append}
 use Rattle.run_claims.specs.Complete.{Succeeds, WentWell, IsNoFile, FindsNoFile, MeetsNoBar, IsComplete}
 
 -- ---- what decides with a reply that refuses nothing
@@ -142,12 +142,14 @@ decided_well c own more d (n ∷ ns) s v a e w clear h =
 decided_well c own more d [] s v a e w clear h =
     decides_well c own d s.does v a (subst (λ (r : TreeReply). Decides c own d s.does r a) e h)
 
-point_succeeds : (steps : List Told) (op : OpId) (c : Command) (a : Answer) → Point steps op c a → MeetsNoBar c (of_op op steps) → Succeeds a
+point_succeeds : (steps : List Told) (op : OpId) (c : Command) (a : Answer) → Point steps op c a → MeetsNoBar c (of_op op steps)
+    → Succeeds a
 point_succeeds steps op c a p meets =
     let own : List Told = of_op op p.before in
     let more : List Told = of_op op p.later in
     let all : of_op op steps ≡ own ++ p.point ∷ more =
-    ap (of_op op) p.there ∙ of_op-append op p.before (p.point ∷ p.later) ∙ ap (λ (l : List Told). own ++ l) (own_first op p.point p.later p.own) in
+    ap (of_op op) p.there ∙ of_op-append op p.before (p.point ∷ p.later)
+    ∙ ap (λ (l : List Told). own ++ l) (own_first op p.point p.later p.own) in
     let well : WentWell p.point = one_well own more p.point (subst (λ (l : List Told). AllByRecursion WentWell l) all meets.allowed) in
     decided_well c own more p.dir p.left p.point well.0 a well.1 p.walked
     (subst (λ (l : List Told). FindsNoFile (way c) l) all meets.led) p.decides

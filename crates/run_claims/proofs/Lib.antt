@@ -1,4 +1,3 @@
-pub mod PhasesLeft
 pub mod Ops
 pub mod Steps
 pub mod RunsShort

@@ -34,4 +34,5 @@ pub record IsHistory (counts : Counts) (history : List Event) : Type 0 where
 
 abbrev pub EveryRunIsClaimed : Type 0
 EveryRunIsClaimed =
-    (counts : Counts) (history : List Event) → IsWorldRun programs counts history → KeepsLimits programs counts history → IsHistory counts history
+    (counts : Counts) (history : List Event) → IsWorldRun programs counts history → KeepsLimits programs counts history
+    → IsHistory counts history

@@ -31,10 +31,12 @@ use Rattle.world_runs.specs.Moments.{WorldState, May, after, after_all, RunFrom,
 use Rattle.claim_words.specs.TreeSteps.{told_of, told_as, tree_steps, tree_step, says, tree_after, IsTreeRun}
 use Rattle.world_runs.specs.Follows.{Acts}
 use Rattle.session_runs.specs.Session.{Played}
-use Rattle.tree_runs.proofs.Tracks.{Tracks, Knows, next_serial}
-use Rattle.tree_runs.proofs.Phases.{release_same}
-use Rattle.tree_runs.proofs.Standings.{next_same, asks_phase, went_on_as}
-use Rattle.tree_runs.proofs.Runs.{event_tracked, tree_after-append}
+use Rattle.names_told.specs.NamesKnown.{next_serial}
+use Rattle.tree_runs.proofs.Tracks.{Tracks, Knows}
+use Rattle.names_told.proofs.Phases.{release_same}
+use Rattle.names_told.proofs.Standings.{next_same, asks_phase, went_on_as}
+use Rattle.tree_runs.proofs.Runs.{event_tracked}
+use Rattle.telling_laws.proofs.Histories.{tree_after-append}
 use Rattle.world_runs.proofs.Actors.{changed_there}
 use Rattle.run_claims.proofs.Ops.{op_runs}
 use Rattle.script_runs.proofs.Histories.{IsActed, act_is}

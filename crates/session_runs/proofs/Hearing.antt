@@ -16,7 +16,7 @@ use Rattle.world_runs.specs.Actors.{Actor, Running, OwnMay, own_after}
 use Rattle.world_runs.specs.Moments.{WorldState, May, opening, after, after_all, RunFrom}
 use Rattle.world_runs.specs.Follows.{FindsMemory, AllFindMemory}
 use Rattle.world_runs.proofs.Actors.{changed}
-use Rattle.tree_runs.proofs.Standings.{Asking, asks_of, went_on_as, ended_as}
+use Rattle.names_told.proofs.Standings.{Asking, asks_of, went_on_as, ended_as}
 use Rattle.session_runs.specs.RunningOn.{HasHeard, AllHaveHeard}
 
 -- what stands otherwise has heard it

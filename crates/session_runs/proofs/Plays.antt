@@ -42,13 +42,15 @@ use Rattle.program_rules.specs.Programs.{bound_heard, looked, refusal}
 use Rattle.world_runs.specs.Moments.{WorldState, after}
 use Rattle.claim_words.specs.TreeSteps.{says}
 use Rattle.claim_words.specs.Points.{refused_answer, done_answer}
-use Rattle.tree_runs.specs.View.{AllMade, shown_entry}
+use Rattle.telling_laws.specs.View.{AllMade, shown_entry}
 use Rattle.session_runs.specs.Session.{Played, stepped, found_answer, releases}
 use Rattle.session_runs.specs.Session as session
-use Rattle.tree_runs.proofs.ValuesSeen.{get-map_values}
-use Rattle.tree_runs.proofs.Tracks.{TreeMade, Knows, all_made, file_at}
-use Rattle.tree_runs.proofs.Phases.{make_file_made, look_same, bind_same}
-use Rattle.tree_runs.proofs.Replies.{RefusesSo, why_of, look_some, look_none, bind_some, bind_none, bind_replaces}
+use Rattle.telling_laws.proofs.ValuesSeen.{get-map_values}
+use Rattle.telling_laws.proofs.Made.{TreeMade, all_made}
+use Rattle.names_told.specs.NamesKnown.{file_at}
+use Rattle.tree_runs.proofs.Tracks.{Knows}
+use Rattle.names_told.proofs.Phases.{make_file_made, look_same, bind_same}
+use Rattle.names_told.proofs.Replies.{RefusesSo, why_of, look_some, look_none, bind_some, bind_none, bind_replaces}
 use Rattle.session_runs.proofs.Comes.{program_at, StandsAt, Goes, knows_now, next_stands, step_said, step_goes, stands_as, end_goes, acted, release_goes, then_goes}
 
 -- ---- a look

@@ -28,13 +28,13 @@ use Rattle.session_runs.specs.Session.{Played, played, played_line, IsPlayed, se
 use Rattle.session_runs.specs.Session as session
 use Rattle.tree_runs.proofs.Tracks.{Tracks, opening_tracks}
 use Rattle.tree_runs.proofs.Runs.{event_tracked, run_tracked}
-use Rattle.tree_runs.proofs.Histories.{tree_steps-append}
+use Rattle.telling_laws.proofs.Histories.{tree_steps-append}
 use Rattle.session_runs.proofs.Quiet.{Quiet, quiet_run}
 use Rattle.script_runs.proofs.Histories.{run-front, run-rest, report-append, IsActed, act_is}
 use Rattle.script_runs.proofs.Moves.{acts_move}
 use Rattle.world_runs.proofs.Actors.{after_all-append, changed_there}
 use Rattle.world_runs.proofs.OwnLines.{transactions-append}
-use Rattle.tree_runs.proofs.Standings.{ended_as}
+use Rattle.names_told.proofs.Standings.{ended_as}
 use Rattle.session_runs.specs.Well.{NoneFails}
 use Rattle.session_runs.proofs.Well.{none_fails-front, none_fails-rest, begin_is}
 use Rattle.session_runs.proofs.Comes.{StandsAt, Comes, Goes}

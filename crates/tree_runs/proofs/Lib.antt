@@ -1,12 +1,4 @@
-pub mod ValuesSeen
-pub mod RequestsShow
-pub mod Standings
 pub mod Tracks
-pub mod Phases
 pub mod Runs
-pub mod Replies
 pub mod Histories
-pub mod Walks
-pub mod Tells
-pub mod PhasesTell
 pub mod Headlines

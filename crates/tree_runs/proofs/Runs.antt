@@ -1,5 +1,5 @@
 -- every run is followed by the tree
-use Rattle.std.proofs.Common.{◌≡◌, ◌≢◌, ◌<◌, ◌≤◌, ◌+◌, ◌^◌, ◌⊎◌, inl, inr, ℕ, Option, Some, None, List, [], ◌∷◌, ◌++◌, refl, sym, subst, arith}
+use Rattle.std.proofs.Common.{◌≡◌, ◌≢◌, ◌<◌, ◌≤◌, ◌+◌, ◌^◌, ◌⊎◌, inl, inr, ℕ, Some, None, List, [], ◌∷◌, refl, sym, subst, arith}
 use Rattle.std.specs.FinMap.{get}
 use Rattle.tect_ids.specs.declared.ids.Counts.{Counts}
 use Rattle.tect_ids.specs.declared.ids.OpId.{OpId}
@@ -8,10 +8,8 @@ use Rattle.tect_ids.specs.declared.command.Command.TheVariants as commands
 use Rattle.store_rules.specs.declared.any.AnyReq.{AnyReq}
 use Rattle.store_rules.specs.declared.any.AnyReply.{AnyReply}
 use Rattle.store_rules.specs.Places.{request_place}
-use Rattle.store_rules.specs.Store.{Store, store_reply, store_step}
-use Rattle.tree_model.specs.declared.step.TreeStep.{TreeStep}
-use Rattle.tree_model.specs.declared.step.TreeReply.{TreeReply}
-use Rattle.tree_model.specs.Tree.{Tree, opening_tree, tree_next}
+use Rattle.store_rules.specs.Store.{Store, opening_store, store_reply, store_step}
+use Rattle.tree_model.specs.Tree.{Tree, opening_tree}
 use Rattle.program_forms.specs.declared.heard.Heard.{Heard}
 use Rattle.program_forms.specs.declared.heard.Heard.TheVariants as hearing
 use Rattle.program_forms.specs.declared.standing.Standing.TheVariants.{Goes}
@@ -24,38 +22,21 @@ use Rattle.world_runs.specs.declared.event.Event.TheVariants.{Own, Dumped}
 use Rattle.world_runs.specs.declared.event.Happening.{Happening}
 use Rattle.world_runs.specs.declared.event.Happening.TheVariants.{Began, NotBegun, Acted, Ended, Stopped, Failed}
 use Rattle.world_runs.specs.Actors.{Actor, OwnMay, ended, went_on}
+use Rattle.world_runs.specs.OwnRuns.{stored_after}
 use Rattle.world_runs.specs.Moments.{WorldState, opening, IsReply, May, after, after_all, RunFrom, IsWorldRun, moment, asked, with_actor}
 use Rattle.claim_words.specs.TreeSteps.{Told, told_as, told_of, tree_steps, tree_step, says, tree_after, IsTreeRun}
 use Rattle.world_runs.proofs.Actors.{changed}
-use Rattle.tree_runs.specs.View.{Made, view, Shows, AllMade, TreeFollows, StepShows}
-use Rattle.tree_runs.proofs.RequestsShow.{request_shows}
-use Rattle.tree_runs.proofs.Standings.{Asking, asks_of, stands_after, went_on_as, ended_as}
-use Rattle.tree_runs.proofs.Tracks.{Tracks, TreeMade, Fresh, PhaseKnows, StandingKnows, Knows, next_serial, dir_at, file_at, all_made, next_made}
-use Rattle.tree_runs.proofs.Tracks.{opening_tracks}
-use Rattle.tree_runs.proofs.Phases.{Acts, Makes, MakesNoOther, made_next, phase_acts}
-
--- ---- steps of the tree, one after another
-
-pub tree_after-append : (t : Tree) (ss us : List Told) → tree_after t (ss ++ us) ≡ tree_after (tree_after t ss) us
-tree_after-append t [] us = refl
-tree_after-append t (s ∷ ss) us = tree_after-append (tree_next t s.does s.says) ss us
-
-pub tree_run-append : (t : Tree) (ss us : List Told) → IsTreeRun t ss → IsTreeRun (tree_after t ss) us → IsTreeRun t (ss ++ us)
-tree_run-append t [] us r q = q
-tree_run-append t (s ∷ ss) us r q = (r.0, tree_run-append (tree_next t s.does s.says) ss us r.1 q)
-
-follows_shown : (t : Tree) (s : Store) (op : OpId) (o : Option TreeStep) (x : TreeReply) → TreeFollows t s o x
-    → Shows s (tree_after t (told_as op o x))
-follows_shown t s op None x f = f
-follows_shown t s op (Some st) x f = f.1
-
-follows_run : (t : Tree) (s : Store) (op : OpId) (o : Option TreeStep) (x : TreeReply) → TreeFollows t s o x → IsTreeRun t (told_as op o x)
-follows_run t s op None x f = tt
-follows_run t s op (Some st) x f = (f.0, tt)
-
-told_made : (t : Tree) (op : OpId) (o : Option TreeStep) (x : TreeReply) → TreeMade t → TreeMade (tree_after t (told_as op o x))
-told_made t op None x h = h
-told_made t op (Some st) x h = next_made t st x h
+use Rattle.world_runs.proofs.Owns.{store_is_after}
+use Rattle.telling_laws.specs.Telling.{tree_of, RunsKnow}
+use Rattle.telling_laws.specs.View.{Made, view, AllMade, StepShows}
+use Rattle.telling_laws.proofs.RequestsShow.{request_shows}
+use Rattle.names_told.proofs.Standings.{Asking, asks_of, stands_after, went_on_as, ended_as}
+use Rattle.telling_laws.proofs.Made.{TreeMade, all_made}
+use Rattle.telling_laws.proofs.Histories.{tree_after-append, tree_run-append}
+use Rattle.telling_laws.proofs.RunsFollow.{follows_shown, follows_run, told_made}
+use Rattle.names_told.specs.NamesKnown.{Fresh, PhaseKnows, next_serial, dir_at, file_at, NamesKnow}
+use Rattle.tree_runs.proofs.Tracks.{Tracks, StandingKnows, Knows, opening_tracks}
+use Rattle.names_told.proofs.Phases.{Acts, Makes, MakesNoOther, made_next, phase_acts}
 
 -- ---- a request
 
@@ -107,7 +88,8 @@ module _ (m : WorldState Program) (made : Made) (tracks : Tracks m (view m.store
       → (get made2 (dir_at (object_number b j)) ≡ None) × (get made2 (file_at (object_number b j)) ≡ None)
   fresh_same e b j one u l = rw e (tracks.fresh b one j l u)
 
-  fresh_other : MakesNoOther (object_number op.actor own_serial) made made2 → (b j : ℕ) → 1 ≤ b → j < 2 ^ 32 → (m.actors b).memory.serial ≤ j
+  fresh_other : MakesNoOther (object_number op.actor own_serial) made made2 → (b j : ℕ) → 1 ≤ b → j < 2 ^ 32
+      → (m.actors b).memory.serial ≤ j
       → (b ≢ op.actor) ⊎ (j ≢ own_serial)
       → (get made2 (dir_at (object_number b j)) ≡ None) × (get made2 (file_at (object_number b j)) ≡ None)
   fresh_other n b j one u l d =
@@ -165,7 +147,10 @@ module _ (m : WorldState Program) (made : Made) (tracks : Tracks m (view m.store
 
   acted_tracks : Tracks (after programs m (Own op (Acted q x h))) (tree_after (view m.store made) told)
   acted_tracks = subst
-      (λ (s : Actor Program). Tracks (with_actor (record m { store = store_step m.store q }) op.actor s) (tree_after (view m.store made) told))
+      (λ (s : Actor Program). Tracks (with_actor (record m {
+        store =
+            store_step m.store q;
+      }) op.actor s) (tree_after (view m.store made) told))
       (sym is_next) next_tracks
 
   acted_run : IsTreeRun (view m.store made) told
@@ -221,7 +206,8 @@ ended_tracks : (m : WorldState Program) (t : Tree) → Tracks m t → (a : ℕ)
 ended_tracks m t tracks a = subst (λ (s : Actor Program). Tracks (with_actor m a s) t) (sym (ended_as m.counts (m.actors a)))
     (restarted m t tracks a _ refl (omega arith) (tracks.numbers a) tt)
 
-own_tracked : (m : WorldState Program) (t : Tree) (op : OpId) (h : Happening) → Tracks m t → OwnMay programs m.counts (m.actors op.actor) op h
+own_tracked : (m : WorldState Program) (t : Tree) (op : OpId) (h : Happening) → Tracks m t
+    → OwnMay programs m.counts (m.actors op.actor) op h
     → IsReply m.store h → Tracked m t (Own op h)
 own_tracked m t op (Began c) tracks may reply = (
   restarted m t tracks op.actor _ refl (omega (arith, (may.0).next)) (omega (arith, (may.0).few))
@@ -256,3 +242,26 @@ run_tracked m t (e ∷ es) tracks run =
 pub world_tracked : (counts : Counts) (events : List Event) → IsWorldRun programs counts events
     → Tracks (moment programs counts events) (tree_after opening_tree (tree_steps events)) × IsTreeRun opening_tree (tree_steps events)
 world_tracked counts events run = run_tracked (opening counts) opening_tree events (opening_tracks counts) run
+
+-- ---- what a running command knows
+
+-- each running command of a run knows that
+pub runs_know : RunsKnow programs NamesKnow
+runs_know counts events run a op p is =
+    let m : WorldState Program = moment programs counts events in
+    let tracks : Tracks m (tree_of events) = (world_tracked counts events run).0 in
+    let knows : Knows a (m.actors a).number (m.actors a).memory.serial (Some record { op = op; at = Goes p }) = rw is at (tracks.knows a) in
+    let few : (m.actors a).memory.serial < 2 ^ 32 = omega (arith, tracks.serials a, tracks.numbers a) in
+    let fresh : (get (tree_of events).made (dir_at (object_number a (m.actors a).memory.serial)) ≡ None)
+    × (get (tree_of events).made (file_at (object_number a (m.actors a).memory.serial)) ≡ None) =
+    tracks.fresh a knows.0 (m.actors a).memory.serial (omega arith) few in
+    let stored : m.store ≡ stored_after opening_store events = store_is_after programs (opening counts) events in
+    let all : AllMade m.store (tree_of events).made =
+    all_made m.store (tree_of events).made (subst (λ (t : Tree). TreeMade t) (sym tracks.shown) tracks.made) in
+    record {
+      all = subst (λ (s : Store). AllMade s (tree_of events).made) stored all;
+      new_dir = rw knows.1 fresh.0;
+      new_file = rw knows.1 fresh.1;
+      few = rw knows.2 (tracks.serials a);
+      at = rw knows.2 knows.3;
+    }

@@ -11,13 +11,21 @@ ghost use Rattle.tree_model.specs.Tree.{opening_tree};
 ghost use Rattle.program_rules.specs.Served.{programs};
 ghost use Rattle.world_runs.specs.declared.event.Event.{Event};
 ghost use Rattle.world_runs.specs.Moments.{IsWorldRun, moment};
+ghost use Rattle.telling_laws.specs.Telling.{RunsKnow};
+ghost use Rattle.names_told.specs.NamesKnown.{NamesKnow};
 ghost use Rattle.claim_words.specs.TreeSteps.{tree_steps, tree_after, IsTreeRun};
-ghost use Rattle.tree_runs.specs.View.{Made, Shows, AllMade, MakesNew, StepShows};
+ghost use Rattle.telling_laws.specs.View.{Made, Shows, AllMade, MakesNew, StepShows};
 
 /// Each request is no step of the tree, and then what the store shows stays; or it is a step to which the tree allows what
 /// the store replied, and then what the store shows follows the tree.
 pub fn store_shows_a_tree()
     ensures { (store : Store) (made : Made) (req : AnyReq) → AllMade store made → MakesNew made req → StepShows store made req }
+{}
+
+/// In every run of the world each running command knows that what it is to make was not made before, and each rename that its two names
+/// differ.
+pub fn running_commands_know()
+    ensures { RunsKnow programs NamesKnow }
 {}
 
 /// In every run of the world the tree allows what was said to each of its steps, and the store at the end shows the tree

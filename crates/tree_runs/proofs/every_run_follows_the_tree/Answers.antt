@@ -1,8 +1,8 @@
-use Rattle.tree_runs.proofs.Runs.{world_tracked}
+use Rattle.tree_runs.proofs.Headlines.{shown_so, followed_so}
 use Rattle.tree_runs.proofs.every_run_follows_the_tree.Goals as goal
 
 pub returns-clause-shown : goal.returns-clause-shown
-returns-clause-shown c counts events run = (world_tracked counts events run).0.shown
+returns-clause-shown c = shown_so
 
 pub returns-clause-allowed : goal.returns-clause-allowed
-returns-clause-allowed c counts events run = (world_tracked counts events run).1
+returns-clause-allowed c = followed_so

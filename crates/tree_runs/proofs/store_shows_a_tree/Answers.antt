@@ -1,4 +1,4 @@
-use Rattle.tree_runs.proofs.RequestsShow.{request_shows}
+use Rattle.telling_laws.proofs.RequestsShow.{request_shows}
 use Rattle.tree_runs.proofs.store_shows_a_tree.Goals as goal
 
 pub returns : goal.returns

@@ -12,12 +12,11 @@ use Rattle.program_forms.specs.declared.heard.Heard.TheVariants as hearing
 use Rattle.program_forms.specs.declared.standing.Standing.{Standing}
 use Rattle.program_forms.specs.declared.standing.Standing.TheVariants.{Goes, Left, NoRoom}
 use Rattle.program_forms.specs.Memories.{Memory, always}
-use Rattle.program_forms.specs.Kinds.{Does, Asks, Says, Turned, turned_by, turned, next_does, asked_by, said_by, state_heard, memory_heard}
+use Rattle.program_forms.specs.Kinds.{Does, Asks, Says, Turned, turned_by, turned, next_does, asked_by, state_heard, memory_heard}
 use Rattle.program_rules.specs.declared.program.Program.{Program}
-use Rattle.program_rules.specs.Programs.{object_number, phase_ask, phase_answer}
-use Rattle.program_rules.specs.Asking.{IsSmooth}
+use Rattle.program_rules.specs.Programs.{object_number, phase_ask}
 use Rattle.program_rules.specs.Served.{program_does, program_hears, programs}
-use Rattle.program_rules.proofs.Phases.{asks_as_phase, says_as_phase}
+use Rattle.program_rules.proofs.Phases.{asks_as_phase}
 use Rattle.world_runs.specs.Actors.{Actor, Running, program_of, program_ask, standing_heard, memory_at_end}
 use Rattle.world_runs.specs.Actors.{went_on, ended}
 
@@ -42,10 +41,6 @@ module _ (counts : Counts) (m : Memory) (op : OpId) (p : Program) where
   -- its request
   pub asks_phase : asked_by (next_does programs.kind counts m op p) ≡ phase_ask op (object_number op.actor m.serial) p.command p.phase
   asks_phase = ap (λ (d : Does Answer). asked_by d) next_same ∙ asks_as_phase counts m op p
-
-  -- its answer
-  pub says_phase : IsSmooth p.command p.phase → said_by (next_does programs.kind counts m op p) ≡ phase_answer p.phase
-  says_phase smooth = ap (λ (d : Does Answer). said_by d) next_same ∙ says_as_phase counts m op p smooth
 
   -- where it stands after a reply that it heard so
   abbrev pub stands_after : AnyReq → AnyReply → Heard → Standing Program

@@ -20,7 +20,7 @@ use Rattle.tree_model.specs.declared.step.TreeStep.{TreeStep}
 use Rattle.tree_model.specs.declared.step.TreeReply.{TreeReply}
 use Rattle.tree_model.specs.Tree.{Tree, Allowed, tree_next}
 use Rattle.claim_words.specs.TreeSteps.{tree_step, says}
-use Rattle.tree_runs.specs.MapValues.{map_values}
+use Rattle.telling_laws.specs.MapValues.{map_values}
 
 -- the directories and files that were ever made
 abbrev pub Made : Type 0

@@ -32,13 +32,13 @@ use Rattle.program_rules.specs.Programs.{root, way, new_path, at_last, own_hold,
 use Rattle.program_rules.specs.Programs.{phase_hear, looked, checked, entries_heard, unbound_heard}
 use Rattle.claim_words.specs.TreeSteps.{Told, told_as, tree_step, says, tree_after, IsTreeRun}
 use Rattle.claim_words.specs.Points.{of_op, Walked, Point}
-use Rattle.tree_runs.specs.View.{Made, AllMade, MakesNew}
-use Rattle.tree_runs.proofs.Phases.{make_dir_made, make_file_made}
-use Rattle.tree_runs.proofs.Replies.{RefusesSo, RefusesDir, look_some, look_none, check_some, check_none, list_some, list_none, bind_some}
-use Rattle.tree_runs.proofs.Replies.{bind_none, unbind_some, unbind_none, swap_some, swap_none, grant_none}
-use Rattle.tree_runs.proofs.Walks.{point_stays, here, over_still}
-use Rattle.tree_runs.proofs.Tells.{PhaseTells, done_yes, done_no, finds_no, lists_no, finds_node, ok_done, then_tells, way_tells}
-use Rattle.tree_runs.proofs.Tells.{bound_tells, source_tells, dir_granted_tells, file_granted_tells, swapped_tells}
+use Rattle.telling_laws.specs.View.{Made, AllMade, MakesNew}
+use Rattle.names_told.proofs.Phases.{make_dir_made, make_file_made}
+use Rattle.names_told.proofs.Replies.{RefusesSo, RefusesDir, look_some, look_none, check_some, check_none, list_some, list_none, bind_some}
+use Rattle.names_told.proofs.Replies.{bind_none, unbind_some, unbind_none, swap_some, swap_none, grant_none}
+use Rattle.names_told.proofs.Walks.{point_stays, here, over_still}
+use Rattle.names_told.proofs.Tells.{PhaseTells, done_yes, done_no, finds_no, lists_no, finds_node, ok_done, then_tells, way_tells}
+use Rattle.names_told.proofs.Tells.{bound_tells, source_tells, dir_granted_tells, file_granted_tells, swapped_tells}
 
 -- once the request is done and heard, if there is one
 abbrev pub HeardTells : Store → Made → Place → ℕ → List Told → OpId → Command → Phase → Option AnyReq → Type 0

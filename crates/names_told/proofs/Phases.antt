@@ -42,8 +42,8 @@ use Rattle.program_rules.specs.Programs.{object_number, own_hold, new_path, at_l
 use Rattle.program_rules.specs.Programs.{grant_ask, release_ask, look_ask, refusal, walked, looked, look_heard, checked, entries_heard}
 use Rattle.program_rules.specs.Programs.{unbound_heard, source_heard, then_release, bound_heard, swapped_heard}
 use Rattle.claim_words.specs.TreeSteps.{told_as, tree_step, says, tree_after, where_refused}
-use Rattle.tree_runs.specs.View.{Made, view, AllMade, MakesNew}
-use Rattle.tree_runs.proofs.Tracks.{PhaseKnows, next_serial, new_name, dir_at, file_at}
+use Rattle.telling_laws.specs.View.{Made, view, AllMade, MakesNew}
+use Rattle.names_told.specs.NamesKnown.{PhaseKnows, next_serial, new_name, dir_at, file_at}
 
 -- the node has another number
 abbrev pub IsOther : ℕ → Node → Type 0

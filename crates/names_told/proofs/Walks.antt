@@ -1,5 +1,5 @@
 -- the steps of one op: its walk, what it saw, and its point, once more steps are there
-use Rattle.std.proofs.Common.{◌≡◌, ℕ, true, false, if◌then◌else◌, Option, Some, None, List, [], ◌∷◌, ◌++◌, refl, ap, ◌∙◌, arith, inl, inr}
+use Rattle.std.proofs.Common.{◌≡◌, ℕ, true, Some, List, [], ◌∷◌, ◌++◌, refl, ap, ◌∙◌, arith, inl, inr}
 use Rattle.std.proofs.Common.{append_assoc}
 use Rattle.tect_ids.specs.declared.ids.DirId.{DirId}
 use Rattle.tect_ids.specs.declared.ids.OpId.{OpId}
@@ -18,6 +18,7 @@ use Rattle.tree_model.specs.Tree.{tree_reply, opening_tree}
 use Rattle.program_rules.specs.Programs.{root, way}
 use Rattle.claim_words.specs.TreeSteps.{Told, told_as, tree_after}
 use Rattle.claim_words.specs.Points.{of_op, Walked, Seen, DecidesAt, Point}
+use Rattle.telling_laws.proofs.Histories.{of_op-append}
 
 -- the walk goes on to the directory that was found
 pub walked_on : (d : DirId) (names : List (List ℕ)) (own : List Told) (e : DirId) (n : List ℕ) (rest : List (List ℕ)) (s : Told)
@@ -49,21 +50,9 @@ pub seen_last : (t : List Told) (o : Told) → Seen (t ++ o ∷ []) o.does o.say
 seen_last [] o = inl (refl, refl)
 seen_last (q ∷ qs) o = inr (seen_last qs o)
 
-pub of_op-append : (op : OpId) (t u : List Told) → of_op op (t ++ u) ≡ of_op op t ++ of_op op u
-of_op-append op [] u = refl
-of_op-append op (s ∷ ss) u = elim (op_eq s.op op) as
-    (λ b. (if b then s ∷ of_op op (ss ++ u) else of_op op (ss ++ u)) ≡ (if b then s ∷ of_op op ss else of_op op ss) ++ of_op op u) [
-      | true ↦ ap (λ l. s ∷ l) (of_op-append op ss u)
-      | false ↦ of_op-append op ss u
-    ]
-
--- a step of the op itself, and one of another
+-- a step of the op itself
 pub own_step : (op : OpId) (s : TreeStep) (x : TreeReply) → of_op op (told_as op (Some s) x) ≡ told_as op (Some s) x
 own_step op s x = let same : op_eq op op ≡ true = grind (arith, op_eq_cases op op) in rw same refl
-
-pub other_step : (op other : OpId) (o : Option TreeStep) (x : TreeReply) → op_eq other op ≡ false → of_op op (told_as other o x) ≡ []
-other_step op other None x e = refl
-other_step op other (Some s) x e = rw e refl
 
 -- more steps leave a point
 pub point_stays : (t u : List Told) (op : OpId) (c : Command) (a : Answer) → Point t op c a → Point (t ++ u) op c a

@@ -30,10 +30,11 @@ use Rattle.tree_model.specs.declared.step.TreeStep.TheVariants as step
 use Rattle.tree_model.specs.declared.step.TreeReply.{TreeReply}
 use Rattle.tree_model.specs.Tree.{Tree, tree_change, tree_reply, is_ok, as_listed}
 use Rattle.claim_words.specs.TreeSteps.{tree_step, says}
-use Rattle.tree_runs.specs.MapValues.{map_values, seen_by}
-use Rattle.tree_runs.specs.View.{Made, view, Shows, AllMade, MakesNew, StepShows, shown_dir, shown_file, shown_entry}
-use Rattle.tree_runs.proofs.ValuesSeen.{entries-map_values, get-map_values, dir_put, file_put, key_put, dir_alike, file_alike, within_seen}
-use Rattle.tree_runs.proofs.ValuesSeen.{len_within_seen}
+use Rattle.telling_laws.specs.MapValues.{map_values, seen_by}
+use Rattle.telling_laws.specs.View.{Made, view, Shows, AllMade, MakesNew, StepShows, shown_dir, shown_file, shown_entry}
+use Rattle.telling_laws.proofs.ValuesSeen.{entries-map_values, get-map_values, dir_put, file_put, key_put, dir_alike, file_alike}
+use Rattle.telling_laws.proofs.ValuesSeen.{within_seen}
+use Rattle.telling_laws.proofs.ValuesSeen.{len_within_seen}
 
 -- a listing shows the nodes alone
 items_alike : (es : List (Key × DirectoryEntry)) → map listed es ≡ map as_listed (map (seen_by shown_entry) es)

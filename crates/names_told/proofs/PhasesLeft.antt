@@ -1,5 +1,5 @@
 -- how many looks and other transactions a command may still take in a phase; each transaction leaves one less
-use Rattle.std.proofs.Common.{◌≡◌, ℕ, ◌+◌, ◌≤◌, Bool, true, false, not, cond, if◌then◌else◌, Option, Some, None, List, [], ◌∷◌, length}
+use Rattle.std.proofs.Common.{◌≡◌, ℕ, ◌+◌, ◌≤◌, Bool, true, false, not, if◌then◌else◌, Option, Some, None, List, [], ◌∷◌, length}
 use Rattle.std.proofs.Common.{refl, arith}
 use Rattle.tect_ids.specs.declared.ids.DirId.{DirId}
 use Rattle.tect_ids.specs.declared.ids.Hold.{Hold}
@@ -26,32 +26,9 @@ use Rattle.program_rules.specs.Paths.{but_last, last_name}
 use Rattle.program_rules.specs.Programs.{new_path, at_last, grant_ask, release_ask, phase_ask, phase_hear, first_ask, first_phase, walked}
 use Rattle.program_rules.specs.Programs.{looked, checked, entries_heard, made_heard, unbound_heard, source_heard, first_hear, then_release}
 use Rattle.program_rules.specs.Programs.{bound_heard, swapped_heard, refusal}
-use Rattle.run_claims.specs.Bounds.{is_look, most_looks}
-
--- a look at the last name comes after the walk
-abbrev pub own_looks : Command → ℕ
-own_looks (commands.Look p) = 1
-own_looks (commands.Rename p to) = 1
-own_looks _ = 0
-
--- at most how many looks are to come
-abbrev pub looks_left : Command → Phase → ℕ
-looks_left c (Walk d ns) = length ns + own_looks c
-looks_left c _ = 0
-
--- at most how many other transactions are to come
-abbrev pub others_left : Phase → ℕ
-others_left (Walk d ns) = 4
-others_left (Grant k n) = 4
-others_left (Bind k n o) = 3
-others_left (Swap k n) = 3
-others_left (Release n h (Some old) a) = 2
-others_left (Release n h None a) = 1
-others_left (End a) = 0
-
--- 1 where it is so
-abbrev pub one_if : Bool → ℕ
-one_if b = cond b 1 0
+use Rattle.telling_laws.specs.Counting.{is_look}
+use Rattle.telling_laws.specs.Bounding.{one_if}
+use Rattle.names_told.specs.NamesBounding.{own_looks, looks_left, others_left, most_looks}
 
 -- whether what is asked is a look
 abbrev pub looks_asked : Option AnyReq → ℕ

@@ -15,7 +15,7 @@ use Rattle.tect_ids.proofs.KeyTests.{dir_cmp_total, file_cmp_total, key_cmp_tota
 use Rattle.ordered_rows.specs.Maps.{set_at}
 use Rattle.key_maps.specs.Maps.{within}
 use Rattle.key_maps.proofs.Lookups.{maps}
-use Rattle.tree_runs.specs.MapValues.{map_values, seen_by}
+use Rattle.telling_laws.specs.MapValues.{map_values, seen_by}
 
 both_true : (a b c d : Bool) → (T a → T c) → (T b → T d) → T (a && b) → T (c && d)
 both_true true b true d f g h = g h

@@ -1,7 +1,6 @@
 -- what the steps so far tell of a running command at each phase
 use Rattle.std.proofs.Common.{◌≡◌, ◌⊎◌, ℕ, Bool, true, false, if◌then◌else◌, Option, Some, None, List, [], ◌∷◌, ◌++◌, refl, subst, arith}
-use Rattle.std.proofs.Common.{inl, inr}
-use Rattle.std.proofs.lemmas.List.{append-nil}
+use Rattle.std.proofs.Common.{inl}
 use Rattle.tect_ids.specs.declared.ids.DirId.{DirId}
 use Rattle.tect_ids.specs.declared.ids.FileId.{FileId}
 use Rattle.tect_ids.specs.declared.ids.Hold.{Hold}
@@ -34,19 +33,9 @@ use Rattle.program_rules.specs.Programs.{root, way, last, refusal, walked, sourc
 use Rattle.claim_words.specs.TreeSteps.{Told, told_as, says, tree_after, where_refused, IsTreeRun}
 use Rattle.claim_words.specs.Points.{of_op, Walked, Seen, refused_answer, done_answer, StopsWalk, Finds, Lists, FindsSource, IsRefusal}
 use Rattle.claim_words.specs.Points.{Decides, Point, LacksName}
-use Rattle.tree_runs.proofs.Replies.{why_of, RefusesSo}
-use Rattle.tree_runs.proofs.Walks.{of_op-append, point_stays, here, over_still, seen_still, seen_now, walks_on}
-
--- the command is a rename
-abbrev pub IsRename : Command → Type 0
-IsRename (commands.Rename p to) = Unit {0}
-IsRename c = ⊥
-
--- the node that a command binds, and what it replaces
-abbrev pub Binds : Command → Node → Over → Type 0
-Binds (commands.Create p) (File f) over.File = Unit {0}
-Binds (commands.Mkdir p) (Dir d) over.Absent = Unit {0}
-Binds c n o = ⊥
+use Rattle.names_told.proofs.Replies.{why_of, RefusesSo}
+use Rattle.names_told.specs.NamesTelling.{IsRename, Binds}
+use Rattle.names_told.proofs.Walks.{here, over_still, seen_still, seen_now, walks_on}
 
 -- before its point a command walked to its directory, and a rename saw its node; after it there is the point
 abbrev pub PhaseTells : List Told → OpId → Command → Phase → Type 0
@@ -58,17 +47,6 @@ PhaseTells t op c (Swap k n) = Walked root (way c) (of_op op t) k.dir [] × IsRe
     × Seen (of_op op t) (step.Look k) (Ok (shown.Node n))
 PhaseTells t op c (Release n h old a) = Point t op c a
 PhaseTells t op c (End a) = Point t op c a ⊎ (LacksName c × (a ≡ answers.NoName))
-
--- the steps of others change nothing of it
-pub phase_stays : (t u : List Told) (op : OpId) (c : Command) (at : Phase) → of_op op u ≡ [] → PhaseTells t op c at
-    → PhaseTells (t ++ u) op c at
-phase_stays t u op c (Walk d ns) e p = rw (of_op-append op t u, e, append-nil) p
-phase_stays t u op c (Bind k n o) e p = rw (of_op-append op t u, e, append-nil) p
-phase_stays t u op c (Grant k n) e p = rw (of_op-append op t u, e, append-nil) p
-phase_stays t u op c (Swap k n) e p = rw (of_op-append op t u, e, append-nil) p
-phase_stays t u op c (Release n h old a) e p = point_stays t u op c a p
-phase_stays t u op c (End a) e (inl p) = inl (point_stays t u op c a p)
-phase_stays t u op c (End a) e (inr p) = inr p
 
 -- ---- what a reply decides
 

@@ -1,0 +1,10 @@
+-- What explains an answer: a cause of its command's family. Each family has its causes in a file of its own.
+use Rattle.std.specs.Prelude.{List}
+use Rattle.tect_ids.specs.declared.ids.OpId.{OpId}
+use Rattle.tect_ids.specs.declared.command.Command.{Command}
+use Rattle.tect_ids.specs.declared.answer.Answer.{Answer}
+use Rattle.world_runs.specs.declared.event.Event.{Event}
+use Rattle.claim_words.specs.NamesBecause.{names_because}
+
+abbrev pub because : List Event → OpId → Command → Answer → Type 0
+because history op c a = names_because history op c a

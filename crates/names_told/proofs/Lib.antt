@@ -1,0 +1,9 @@
+pub mod Standings
+pub mod Phases
+pub mod Replies
+pub mod Walks
+pub mod Tells
+pub mod PhasesTell
+pub mod PhasesLeft
+pub mod NamesTell
+pub mod NamesFall

@@ -1,0 +1,3 @@
+pub mod NamesKnown
+pub mod NamesTelling
+pub mod NamesBounding

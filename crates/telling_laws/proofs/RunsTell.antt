@@ -1,0 +1,324 @@
+-- in each run each answer is explained by the history before it
+use Rattle.std.proofs.Common.{◌≡◌, ◌≢◌, ◌<◌, ◌≤◌, ◌⊎◌, ℕ, true, false, Option, Some, None, List, [], ◌∷◌}
+use Rattle.std.proofs.Common.{◌++◌, refl, sym, ap, subst, ◌∙◌, arith, inl, inr, append_assoc, take}
+use Rattle.std.proofs.lemmas.List.{append-nil}
+use Rattle.tect_ids.specs.declared.ids.Counts.{Counts}
+use Rattle.tect_ids.specs.declared.ids.OpId.{OpId}
+use Rattle.tect_ids.specs.declared.command.Command.{Command}
+use Rattle.tect_ids.specs.declared.answer.Answer.{Answer}
+use Rattle.tect_ids.specs.Keys.{op_eq}
+use Rattle.tect_ids.proofs.KeyTests.{op_eq_cases}
+use Rattle.store_rules.specs.declared.any.AnyReq.{AnyReq}
+use Rattle.store_rules.specs.declared.any.AnyReply.{AnyReply}
+use Rattle.store_rules.specs.Store.{Store, opening_store, store_reply}
+use Rattle.tree_model.specs.Tree.{opening_tree}
+use Rattle.program_forms.specs.declared.heard.Heard.{Heard}
+use Rattle.program_forms.specs.declared.heard.Heard.TheVariants as hearing
+use Rattle.program_forms.specs.declared.standing.Standing.{Standing}
+use Rattle.program_forms.specs.declared.standing.Standing.TheVariants.{Goes, Left, NoRoom}
+use Rattle.program_forms.specs.Lacks.{no_room}
+use Rattle.program_forms.specs.Memories.{Memory}
+use Rattle.program_forms.specs.Kinds.{Asks, Says, Programs, turned, next_does, state_heard}
+use Rattle.world_runs.specs.declared.event.Event.{Event}
+use Rattle.world_runs.specs.declared.event.Event.TheVariants.{Own, Dumped}
+use Rattle.world_runs.specs.declared.event.Happening.{Happening}
+use Rattle.world_runs.specs.declared.event.Happening.TheVariants.{Began, NotBegun, Acted, Ended, Stopped, Failed}
+use Rattle.world_runs.specs.Actors.{Actor, Running, CanBegin, OwnMay, program_answer, own_after, standing_heard, went_on, ended}
+use Rattle.world_runs.specs.Moments.{WorldState, opening, May, after, IsWorldRun, moment}
+use Rattle.world_runs.specs.OwnRuns.{stored_after}
+use Rattle.world_runs.specs.Refusals.{was_refused}
+use Rattle.world_runs.proofs.Actors.{changed, changed_there, moment-append}
+use Rattle.world_runs.proofs.Fronts.{front_runs, may_at}
+use Rattle.world_runs.proofs.Owns.{store_is_after}
+use Rattle.world_runs.proofs.Refusals.{refused-front, refused-rest}
+use Rattle.claim_words.specs.TreeSteps.{told_of, tree_steps, IsTreeRun}
+use Rattle.claim_words.specs.Points.{of_op}
+use Rattle.claim_words.specs.Headline.{begun_by, or_later, command_of, ExplainsBy, HadNoRoom}
+use Rattle.telling_laws.specs.Telling.{is_of, tree_of, KnowsAt, RunsKnow, RunsFollowTree, Telling, OfDecided, Tells, TellingLaws}
+use Rattle.telling_laws.specs.Telling.{RunsAreExplained}
+use Rattle.telling_laws.proofs.Histories.{steps_more, tree_run-rest, others_steps, others_begin, command_more, itself, run_front, run_rest}
+use Rattle.telling_laws.proofs.Owns.{runs_at, Asking, asks_of, Saying, says_of, does_say, went_on_number, ended_number, own_grows}
+
+module _ (S : Type 0) (P : Programs S) (K : List Event → OpId → Memory → S → Type 0) (T : Telling S) (L : TellingLaws P K T) where
+  -- ---- one command
+
+  -- what is told stays told
+  decided_stays : (h : List Event) (e : Event) (op : OpId) (c : Command) (s : S) (d : Option Answer) → is_of op e ≡ false
+      → OfDecided (T.Before h op c s) (T.because h op c) d → OfDecided (T.Before (h ++ e ∷ []) op c s) (T.because (h ++ e ∷ []) op c) d
+  decided_stays h e op c s None other t = L.stays h e op c s other t
+  decided_stays h e op c s (Some a) other t = L.lasts h (e ∷ []) op c a t
+
+  -- after its look-ups
+  turned_tells : (counts : Counts) (h : List Event) (op : OpId) (c : Command) (m : Memory) (s : S) → K h op m s → Tells T h op c s
+      → Tells T h op c (turned P.kind counts m op s).state
+  turned_tells counts h op c m s k t = by (T.decided s) refl t
+    where
+      by : (d : Option Answer) → T.decided s ≡ d → OfDecided (T.Before h op c s) (T.because h op c) d
+          → Tells T h op c (turned P.kind counts m op s).state
+      by None is b = L.turns counts h op c m s k b is
+      by (Some a) is b = let so : T.decided (turned P.kind counts m op s).state ≡ Some a = L.turned_so counts m op s a is in rw so b
+
+  -- after a reply
+  heard_tells : (counts : Counts) (h : List Event) (op : OpId) (c : Command) (m : Memory) (s : S) (q : AnyReq) (x : AnyReply) (how : Heard)
+      → K h op m s → next_does P.kind counts m op s ≡ Asks q → x ≡ store_reply (stored_after opening_store h) q
+      → IsTreeRun (tree_of h) (told_of (Own op (Acted q x how))) → Tells T h op c s
+      → Tells T (h ++ Own op (Acted q x how) ∷ []) op c (state_heard P.kind counts m op s q x)
+  heard_tells counts h op c m s q x how k asks is allowed t =
+      by (T.decided (turned P.kind counts m op s).state) refl (turned_tells counts h op c m s k t)
+    where
+      by : (d : Option Answer) → T.decided (turned P.kind counts m op s).state ≡ d
+          → OfDecided (T.Before h op c (turned P.kind counts m op s).state) (T.because h op c) d
+          → Tells T (h ++ Own op (Acted q x how) ∷ []) op c (state_heard P.kind counts m op s q x)
+      by None e b = L.hears counts h op c m s q x how k asks is b e allowed
+      by (Some a) e b =
+          let so : T.decided (state_heard P.kind counts m op s q x) ≡ Some a = L.heard_so counts m op s q x a e in
+          rw so (L.lasts h (Own op (Acted q x how) ∷ []) op c a b)
+
+  -- its answer
+  said_because : (counts : Counts) (h : List Event) (op : OpId) (c : Command) (m : Memory) (s : S) (a : Answer) → K h op m s
+      → next_does P.kind counts m op s ≡ Says a → Tells T h op c s → T.because h op c a
+  said_because counts h op c m s a k says t =
+      let is : T.decided (turned P.kind counts m op s).state ≡ Some a = L.says counts h op c m s a k t says in
+      rw is at (turned_tells counts h op c m s k t)
+
+  -- ---- all of a moment
+
+  -- The command began, and was told so far; or it was refused. One that heard no more of its last reply ends with no answer.
+  abbrev StandTells : List Event → OpId → Standing S → Type 0
+  StandTells h op (Goes s) = (c : Command) × (command_of h op ≡ Some c) × Tells T h op c s
+  StandTells h op Left = Unit {0}
+  StandTells h op NoRoom = was_refused h op ≡ true
+
+  -- an actor's running command is the last that it began
+  abbrev RunningTells : List Event → ℕ → ℕ → Option (Running S) → Type 0
+  RunningTells h a number None = Unit {0}
+  RunningTells h a number (Some r) = (r.op.actor ≡ a) × (r.op.number ≡ number) × StandTells h r.op r.at
+
+  -- each running command was told so far or refused, and an op that did not begin has neither command nor steps
+  record AllTold (h : List Event) (m : WorldState S) : Type 0 where
+    tells : (a : ℕ) → RunningTells h a (m.actors a).number (m.actors a).running
+    unbegun : (op : OpId) → (m.actors op.actor).number < op.number → command_of h op ≡ None
+    unasked : (op : OpId) → (m.actors op.actor).number < op.number → of_op op (tree_steps h) ≡ []
+
+  stand_stays : (h : List Event) (e : Event) (op : OpId) (at : Standing S) → is_of op e ≡ false → StandTells h op at
+      → StandTells (h ++ e ∷ []) op at
+  stand_stays h e op (Goes s) other t = (
+    t.0,
+    command_more h e op ∙ ap (λ (z : Option Command). or_later z (begun_by e op)) t.1,
+    decided_stays h e op t.0 s (T.decided s) other t.2,
+  )
+  stand_stays h e op Left other t = tt
+  stand_stays h e op NoRoom other t = refused-front h (e ∷ []) op t
+
+  running_stays : (h : List Event) (e : Event) (a number : ℕ) (o : Option (Running S))
+      → ((op : OpId) → op.actor ≡ a → is_of op e ≡ false) → RunningTells h a number o → RunningTells (h ++ e ∷ []) a number o
+  running_stays h e a number None other t = tt
+  running_stays h e a number (Some r) other t = (t.0, t.1, stand_stays h e r.op r.at (other r.op t.0) t.2)
+
+  -- ---- an actor's event
+
+  module _ (h : List Event) (m : WorldState S) (t : AllTold h m) (knows : KnowsAt K h m) (stored : m.store ≡ stored_after opening_store h)
+      (op : OpId) where
+    -- the actor
+    abbrev s : Actor S
+    s = m.actors op.actor
+
+    -- the running op is the last
+    last : (at : Standing S) → s.running ≡ Some record { op = op; at = at } → op.number ≡ s.number
+    last at is = let k : RunningTells h op.actor s.number (Some record { op = op; at = at }) = rw is at (t.tells op.actor) in k.1
+
+    -- no op later than the actor's number after_it is the event's
+    own_new : (hp : Happening) → OwnMay P m.counts s op hp → op.number ≤ (own_after P m.counts s op hp).number
+    own_new (Began c) may = omega arith
+    own_new (NotBegun c) may = omega arith
+    own_new (Acted q x how) may =
+        let a : Asking S P m.counts s.memory s.running op q = asks_of S P m.counts s.memory s.running op q may in
+        rw (went_on_number P m.counts s s.running q x how) (omega (arith, last (Goes a.state) a.is))
+    own_new (Ended b) may =
+        let a : Saying S P m.counts s.memory s.running op b = says_of S P m.counts s.memory s.running op b may in
+        rw (ended_number P m.counts s s.running) (omega (arith, last a.at a.is))
+    own_new Stopped may = omega (arith, last _ (runs_at s.running op may.0 may.1))
+    own_new (Failed b) may = rw (ended_number P m.counts s s.running) (omega (arith, last _ (runs_at s.running op (may.1).0 (may.1).1)))
+
+    -- what is told of the actor's own command after its event
+    begun_tells : (c : Command) → CanBegin s op → P.serves c ≡ true
+        → K (h ++ Own op (Began c) ∷ []) op s.memory (P.starts m.counts c)
+        → StandTells (h ++ Own op (Began c) ∷ []) op (Goes (P.starts m.counts c))
+    begun_tells c can served k = (
+      c,
+      command_more h (Own op (Began c)) op ∙ rw (t.unbegun op (omega (arith, can.next)), itself op) refl,
+      L.begins m.counts h op c s.memory served (t.unasked op (omega (arith, can.next))) k,
+    )
+
+    acted_tells : (q : AnyReq) (x : AnyReply) (how : Heard) (state : S) → s.running ≡ Some record { op = op; at = Goes state }
+        → next_does P.kind m.counts s.memory op state ≡ Asks q → x ≡ store_reply m.store q
+        → IsTreeRun (tree_of h) (told_of (Own op (Acted q x how)))
+        → StandTells (h ++ Own op (Acted q x how) ∷ []) op (standing_heard P m.counts s.memory op (Goes state) q x how)
+    acted_tells q x how state is asks reply allowed = by how allowed
+      where
+        was : StandTells h op (Goes state)
+        was = let k : RunningTells h op.actor s.number (Some record { op = op; at = Goes state }) = rw is at (t.tells op.actor) in k.2
+
+        here : x ≡ store_reply (stored_after opening_store h) q
+        here = reply ∙ ap (λ (w : Store). store_reply w q) stored
+
+        goes : (g : Heard) → IsTreeRun (tree_of h) (told_of (Own op (Acted q x g)))
+            → StandTells (h ++ Own op (Acted q x g) ∷ []) op (Goes (state_heard P.kind m.counts s.memory op state q x))
+        goes g run = (
+          was.0,
+          command_more h (Own op (Acted q x g)) op ∙ ap (λ (z : Option Command). or_later z None) was.1,
+          heard_tells m.counts h op was.0 s.memory state q x g (knows op.actor op state is) asks here run was.2,
+        )
+
+        by : (g : Heard) → IsTreeRun (tree_of h) (told_of (Own op (Acted q x g)))
+            → StandTells (h ++ Own op (Acted q x g) ∷ []) op (standing_heard P m.counts s.memory op (Goes state) q x g)
+        by hearing.Whole run = goes hearing.Whole run
+        by hearing.Unkept run = goes hearing.Unkept run
+        by hearing.Left run = tt
+
+    ended_tells : (e : Event) (r : Running S) → s.running ≡ Some r
+        → RunningTells (h ++ e ∷ []) op.actor (ended P m.counts s s.running).number (ended P m.counts s s.running).running
+    ended_tells e r is =
+        subst (λ (o : Option (Running S)). RunningTells (h ++ e ∷ []) op.actor (ended P m.counts s o).number (ended P m.counts s o).running)
+        (sym is) tt
+
+    began_knows : (c : Command) → KnowsAt K (h ++ Own op (Began c) ∷ []) (after P m (Own op (Began c)))
+        → K (h ++ Own op (Began c) ∷ []) op s.memory (P.starts m.counts c)
+    began_knows c after_it =
+        let next : Actor S = own_after P m.counts s op (Began c) in
+        let there : Actor S = (after P m (Own op (Began c))).actors op.actor in
+        let runs : there.running ≡ Some record { op = op; at = Goes (P.starts m.counts c) } =
+        changed_there (λ (z : Actor S). z.running ≡ Some record { op = op; at = Goes (P.starts m.counts c) }) m.actors op.actor next refl in
+        let memory : there.memory ≡ s.memory = changed_there (λ (z : Actor S). z.memory ≡ s.memory) m.actors op.actor next refl in
+        subst (λ (mem : Memory). K (h ++ Own op (Began c) ∷ []) op mem (P.starts m.counts c)) memory
+        (after_it op.actor op (P.starts m.counts c) runs)
+
+    own_tells : (hp : Happening) → May P m (Own op hp) → IsTreeRun (tree_of h) (told_of (Own op hp))
+        → KnowsAt K (h ++ Own op hp ∷ []) (after P m (Own op hp))
+        → RunningTells (h ++ Own op hp ∷ []) op.actor (own_after P m.counts s op hp).number (own_after P m.counts s op hp).running
+    own_tells (Began c) may allowed after_it = (
+      refl,
+      refl,
+      begun_tells c (may.0).0 (may.0).1 (began_knows c after_it),
+    )
+    own_tells (NotBegun c) may allowed after_it = (refl, refl, refused-rest h (Own op (NotBegun c) ∷ []) op (rw (itself op) refl))
+    own_tells (Acted q x how) may allowed after_it =
+        let a : Asking S P m.counts s.memory s.running op q = asks_of S P m.counts s.memory s.running op q may.0 in
+        subst (λ (o : Option (Running S)). RunningTells (h ++ Own op (Acted q x how) ∷ []) op.actor (went_on P m.counts s o q x how).number
+        (went_on P m.counts s o q x how).running) (sym a.is)
+        (refl, last (Goes a.state) a.is, acted_tells q x how a.state a.is a.asks may.1 allowed)
+    own_tells (Ended b) may allowed after_it =
+        let a : Saying S P m.counts s.memory s.running op b = says_of S P m.counts s.memory s.running op b may.0 in
+        ended_tells (Own op (Ended b)) _ a.is
+    own_tells Stopped may allowed after_it = tt
+    own_tells (Failed b) may allowed after_it = ended_tells (Own op (Failed b)) _ (runs_at s.running op ((may.0).1).0 ((may.0).1).1)
+
+    -- an op that is later after_it was so before, and is another
+    later_op : (hp : Happening) → May P m (Own op hp) → (o : OpId) → ((after P m (Own op hp)).actors o.actor).number < o.number
+        → ((m.actors o.actor).number < o.number) × (op_eq op o ≡ false)
+    later_op hp may o = changed (λ (z : Actor S). z.number < o.number
+        → ((m.actors o.actor).number < o.number) × (op_eq op o ≡ false)) m.actors op.actor
+        (own_after P m.counts s op hp) o.actor
+        (λ same late. (
+          rw same (omega (arith, own_grows P m.counts s op hp may.0, late)),
+          numbers_differ op o (omega (arith, own_new hp may.0, late)),
+        ))
+        (λ differs late. (late, actors_differ op o differs))
+      where
+        numbers_differ : (a b : OpId) → a.number < b.number → op_eq a b ≡ false
+        numbers_differ a b less = grind (arith, op_eq_cases a b)
+
+        actors_differ : (a b : OpId) → b.actor ≢ a.actor → op_eq a b ≡ false
+        actors_differ a b differs = grind (arith, op_eq_cases a b)
+
+    own_told : (hp : Happening) → May P m (Own op hp) → IsTreeRun (tree_of h) (told_of (Own op hp))
+        → KnowsAt K (h ++ Own op hp ∷ []) (after P m (Own op hp)) → AllTold (h ++ Own op hp ∷ []) (after P m (Own op hp))
+    own_told hp may allowed after_it = record {
+      tells = λ b. changed (λ (z : Actor S). RunningTells (h ++ Own op hp ∷ []) b z.number z.running) m.actors op.actor
+          (own_after P m.counts s op hp) b (λ same. rw same (own_tells hp may allowed after_it))
+          (λ differs. running_stays h (Own op hp) b _ _ (λ o own. grind (arith, op_eq_cases op o, own, differs)) (t.tells b));
+      unbegun = λ o late.
+          let k : ((m.actors o.actor).number < o.number) × (op_eq op o ≡ false) = later_op hp may o late in
+          command_more h (Own op hp) o ∙ rw (t.unbegun o k.0) (others_begin o (Own op hp) k.1);
+      unasked = λ o late.
+          let k : ((m.actors o.actor).number < o.number) × (op_eq op o ≡ false) = later_op hp may o late in
+          others_steps h (Own op hp) o k.1 ∙ t.unasked o k.0;
+    }
+
+  dump_told : (h : List Event) (m : WorldState S) → AllTold h m → AllTold (h ++ Dumped ∷ []) m
+  dump_told h m t = record {
+    tells = λ b. running_stays h Dumped b _ _ (λ o own. refl) (t.tells b);
+    unbegun = λ o late. command_more h Dumped o ∙ rw (t.unbegun o late) refl;
+    unasked = λ o late. others_steps h Dumped o refl ∙ t.unasked o late;
+  }
+
+  event_told : (h : List Event) (m : WorldState S) (e : Event) → AllTold h m → KnowsAt K h m → m.store ≡ stored_after opening_store h
+      → May P m e → IsTreeRun (tree_of h) (told_of e) → KnowsAt K (h ++ e ∷ []) (after P m e) → AllTold (h ++ e ∷ []) (after P m e)
+  event_told h m (Own op hp) t knows stored may allowed after_it = own_told h m t knows stored op hp may allowed after_it
+  event_told h m Dumped t knows stored may allowed after_it = dump_told h m t
+
+  opening_told : (counts : Counts) → AllTold [] (opening counts)
+  opening_told counts = record { tells = λ a. tt; unbegun = λ op late. refl; unasked = λ op late. refl }
+
+  -- a command that has come to its answer
+  stand_answers : (h : List Event) (op : OpId) (a : Answer) (counts : Counts) (m : Memory) (at : Standing S)
+      → ((s : S) → at ≡ Goes s → K h op m s) → program_answer P counts m (Some record { op = op; at = at }) ≡ Some a → StandTells h op at
+      → ExplainsBy T.because h op a ⊎ HadNoRoom h op a
+  stand_answers h op a counts m (Goes s) knows says t = inl record {
+    command = t.0;
+    begun = t.1;
+    because = said_because counts h op t.0 m s a (knows s refl) (does_say S P counts m (next_does P.kind counts m op s) a says) t.2;
+  }
+  stand_answers h op a counts m Left knows says t = absurd (let z : None ≡ Some a = says in cc)
+  stand_answers h op a counts m NoRoom knows says t =
+      let z : Some no_room ≡ Some a = says in inr (t, (let same : a ≡ no_room = cc in same))
+
+  -- ---- each run
+
+  module _ (knows : RunsKnow P K) (follows : RunsFollowTree P) (counts : Counts) where
+    run_told : (h es : List Event) → IsWorldRun P counts (h ++ es) → AllTold h (moment P counts h)
+        → AllTold (h ++ es) (moment P counts (h ++ es))
+    run_told h [] run t = rw append-nil t
+    run_told h (e ∷ es) run t =
+        let whole : IsWorldRun P counts ((h ++ e ∷ []) ++ es) = rw (append_assoc h (e ∷ []) es) run in
+        let more : IsWorldRun P counts (h ++ e ∷ []) = run_front P (opening counts) (h ++ e ∷ []) es whole in
+        let front : IsWorldRun P counts h = run_front P (opening counts) h (e ∷ []) more in
+        let may : May P (moment P counts h) e = (run_rest P (opening counts) h (e ∷ []) more).0 in
+        let steps : IsTreeRun opening_tree (tree_steps h ++ told_of e) =
+        subst (λ l. IsTreeRun opening_tree l) (steps_more h e) (follows counts (h ++ e ∷ []) more) in
+        let now : moment P counts (h ++ e ∷ []) ≡ after P (moment P counts h) e = moment-append P counts h (e ∷ []) in
+        let after_it : KnowsAt K (h ++ e ∷ []) (after P (moment P counts h) e) =
+        subst (λ (n : WorldState S). KnowsAt K (h ++ e ∷ []) n) now (knows counts (h ++ e ∷ []) more) in
+        let next : AllTold (h ++ e ∷ []) (moment P counts (h ++ e ∷ [])) =
+        subst (λ (n : WorldState S). AllTold (h ++ e ∷ []) n) (sym now)
+        (event_told h (moment P counts h) e t (knows counts h front) (store_is_after P (opening counts) h) may
+        (tree_run-rest opening_tree (tree_steps h) (told_of e) steps) after_it) in
+        subst (λ (l : List Event). AllTold l (moment P counts l)) (append_assoc h (e ∷ []) es) (run_told (h ++ e ∷ []) es whole next)
+
+    told_at : (es : List Event) (place : ℕ) → IsWorldRun P counts es → AllTold (take place es) (moment P counts (take place es))
+    told_at es place run = run_told [] (take place es) (front_runs P place es (opening counts) run) (opening_told counts)
+
+    answer_told : (h : List Event) (op : OpId) (a : Answer) → IsWorldRun P counts h → AllTold h (moment P counts h)
+        → May P (moment P counts h) (Own op (Ended a)) → ExplainsBy T.because h op a ⊎ HadNoRoom h op a
+    answer_told h op a run t may =
+        let m : WorldState S = moment P counts h in
+        let actor : Actor S = m.actors op.actor in
+        let its : Saying S P m.counts actor.memory actor.running op a = says_of S P m.counts actor.memory actor.running op a may.0 in
+        let tells : RunningTells h op.actor actor.number (Some record { op = op; at = its.at }) = rw its.is at (t.tells op.actor) in
+        stand_answers h op a m.counts actor.memory its.at
+        (λ s is. knows counts h run op.actor op s
+        (its.is ∙ ap (λ (z : Standing S). (let r : Option (Running S) = Some record { op = op; at = z } in r)) is))
+        its.says tells.2
+
+  pub runs_are_explained : RunsKnow P K → RunsFollowTree P → RunsAreExplained P T
+  runs_are_explained knows follows counts es run = record {
+    tree = follows counts es run;
+    begins = λ place op c is.
+        let m : WorldState S = moment P counts (take place es) in
+        let may : May P m (Own op (Began c)) = may_at P (opening counts) es place (Own op (Began c)) run is in
+        (told_at knows follows counts es place run).unasked op (omega (arith, ((may.0).0).next));
+    answers = λ place op a is.
+        answer_told knows follows counts (take place es) op a (front_runs P place es (opening counts) run)
+        (told_at knows follows counts es place run)
+        (may_at P (opening counts) es place (Own op (Ended a)) run is);
+  }

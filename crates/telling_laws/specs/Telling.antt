@@ -1,0 +1,92 @@
+-- What is owed of programs so that each of their answers is explained by the history before it, and that it is so in all their runs.
+use Rattle.std.specs.Prelude.{◌≡◌, ℕ, Bool, true, false, Option, Some, None, List, [], ◌∷◌, ◌++◌}
+use Rattle.tect_ids.specs.declared.ids.Counts.{Counts}
+use Rattle.tect_ids.specs.declared.ids.OpId.{OpId}
+use Rattle.tect_ids.specs.declared.command.Command.{Command}
+use Rattle.tect_ids.specs.declared.answer.Answer.{Answer}
+use Rattle.tect_ids.specs.Keys.{op_eq}
+use Rattle.store_rules.specs.declared.any.AnyReq.{AnyReq}
+use Rattle.store_rules.specs.declared.any.AnyReply.{AnyReply}
+use Rattle.store_rules.specs.Store.{opening_store, store_reply}
+use Rattle.tree_model.specs.Tree.{Tree, opening_tree}
+use Rattle.program_forms.specs.declared.heard.Heard.{Heard}
+use Rattle.program_forms.specs.declared.standing.Standing.TheVariants.{Goes}
+use Rattle.program_forms.specs.Memories.{Memory}
+use Rattle.program_forms.specs.Kinds.{Asks, Says, Programs, turned, next_does, state_heard}
+use Rattle.world_runs.specs.declared.event.Event.{Event}
+use Rattle.world_runs.specs.declared.event.Event.TheVariants.{Own, Dumped}
+use Rattle.world_runs.specs.declared.event.Happening.TheVariants.{Began, Acted}
+use Rattle.world_runs.specs.Moments.{WorldState, IsWorldRun, moment}
+use Rattle.world_runs.specs.OwnRuns.{stored_after}
+use Rattle.claim_words.specs.TreeSteps.{told_of, tree_steps, tree_after, IsTreeRun}
+use Rattle.claim_words.specs.Points.{of_op}
+use Rattle.claim_words.specs.Headline.{HeadlineBy}
+
+-- the event is of that op
+abbrev pub is_of : OpId → Event → Bool
+is_of op (Own other h) = op_eq other op
+is_of op Dumped = false
+
+-- the tree that the steps of a history made
+abbrev pub tree_of : List Event → Tree
+tree_of h = tree_after opening_tree (tree_steps h)
+
+-- What the running commands know at a moment, after that history.
+abbrev pub KnowsAt : {S : Type 0} → (List Event → OpId → Memory → S → Type 0) → List Event → WorldState S → Type 0
+KnowsAt {S = S} K h m = (a : ℕ) (op : OpId) (s : S) → (m.actors a).running ≡ Some record { op = op; at = Goes s }
+    → K h op (m.actors a).memory s
+
+-- at each moment of each run the running commands know that
+abbrev pub RunsKnow : {S : Type 0} → Programs S → (List Event → OpId → Memory → S → Type 0) → Type 0
+RunsKnow P K = (counts : Counts) (es : List Event) → IsWorldRun P counts es → KnowsAt K es (moment P counts es)
+
+-- in each run the tree allows what was said to each of its steps
+abbrev pub RunsFollowTree : {S : Type 0} → Programs S → Type 0
+RunsFollowTree P = (counts : Counts) (es : List Event) → IsWorldRun P counts es → IsTreeRun opening_tree (tree_steps es)
+
+-- How commands with states S come to their answers: the answer of a state where it can't change any more; what the history tells of
+-- the command before that; and what explains an answer.
+pub record Telling (S : Type 0) : Type 1 where
+  pub decided : S → Option Answer
+  pub Before : List Event → OpId → Command → S → Type 0
+  pub because : List Event → OpId → Command → Answer → Type 0
+
+abbrev pub OfDecided : Type 0 → (Answer → Type 0) → Option Answer → Type 0
+OfDecided A B None = A
+OfDecided A B (Some a) = B a
+
+-- what the history tells of a command in its state: what is so before its answer is decided, or what explains the answer
+abbrev pub Tells : {S : Type 0} → Telling S → List Event → OpId → Command → S → Type 0
+Tells T h op c s = OfDecided (T.Before h op c s) (T.because h op c) (T.decided s)
+
+-- What is owed of programs whose running commands know that.
+pub record TellingLaws {S : Type 0} (P : Programs S) (K : List Event → OpId → Memory → S → Type 0) (T : Telling S) : Type 0 where
+  -- as a served command begins, no step of its op has been
+  pub begins : (counts : Counts) (h : List Event) (op : OpId) (c : Command) (m : Memory) → P.serves c ≡ true → of_op op (tree_steps h) ≡ []
+      → K (h ++ Own op (Began c) ∷ []) op m (P.starts counts c) → Tells T (h ++ Own op (Began c) ∷ []) op c (P.starts counts c)
+  -- by its look-ups in its actor's memory it goes on, or finds its answer
+  pub turns : (counts : Counts) (h : List Event) (op : OpId) (c : Command) (m : Memory) (s : S) → K h op m s → T.Before h op c s
+      → T.decided s ≡ None → Tells T h op c (turned P.kind counts m op s).state
+  -- at the store's reply to its request, which the tree allows, if it is a step
+  pub hears : (counts : Counts) (h : List Event) (op : OpId) (c : Command) (m : Memory) (s : S) (q : AnyReq) (x : AnyReply) (how : Heard)
+      → K h op m s → next_does P.kind counts m op s ≡ Asks q → x ≡ store_reply (stored_after opening_store h) q
+      → T.Before h op c (turned P.kind counts m op s).state → T.decided (turned P.kind counts m op s).state ≡ None
+      → IsTreeRun (tree_of h) (told_of (Own op (Acted q x how)))
+      → Tells T (h ++ Own op (Acted q x how) ∷ []) op c (state_heard P.kind counts m op s q x)
+  -- other ops' events change nothing of it
+  pub stays : (h : List Event) (e : Event) (op : OpId) (c : Command) (s : S) → is_of op e ≡ false → T.Before h op c s
+      → T.Before (h ++ e ∷ []) op c s
+  -- what explains an answer explains it later too
+  pub lasts : (h es : List Event) (op : OpId) (c : Command) (a : Answer) → T.because h op c a → T.because (h ++ es) op c a
+  -- once decided an answer stays so
+  pub turned_so : (counts : Counts) (m : Memory) (op : OpId) (s : S) (a : Answer) → T.decided s ≡ Some a
+      → T.decided (turned P.kind counts m op s).state ≡ Some a
+  pub heard_so : (counts : Counts) (m : Memory) (op : OpId) (s : S) (q : AnyReq) (x : AnyReply) (a : Answer)
+      → T.decided (turned P.kind counts m op s).state ≡ Some a → T.decided (state_heard P.kind counts m op s q x) ≡ Some a
+  -- what is said was decided
+  pub says : (counts : Counts) (h : List Event) (op : OpId) (c : Command) (m : Memory) (s : S) (a : Answer) → K h op m s
+      → Tells T h op c s → next_does P.kind counts m op s ≡ Says a → T.decided (turned P.kind counts m op s).state ≡ Some a
+
+-- in each run each answer is explained by the history before it
+abbrev pub RunsAreExplained : {S : Type 0} → Programs S → Telling S → Type 0
+RunsAreExplained P T = (counts : Counts) (es : List Event) → IsWorldRun P counts es → HeadlineBy T.because es

@@ -1,2 +1,0 @@
-pub mod MapValues
-pub mod View
