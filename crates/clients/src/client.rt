@@ -272,7 +272,9 @@ impl<P: Programs + Drop> Client<P> {
     fn end_refused(&mut self) -> Turned
         requires running { IsSome (state_in P.rules self.old).running }
         requires refused { self.old.silent ≢ [] }
-        ensures life { self.new ≡ record self.old { silent = self.old.silent ++ events.Own (op_in P.rules self.old) (happenings.Ended no_room) ∷ [] } }
+        ensures life { self.new ≡ record self.old {
+          silent = self.old.silent ++ events.Own (op_in P.rules self.old) (happenings.Ended no_room) ∷ [];
+        } }
         ensures told { result ≡ Turned.Done no_room }
     {
         let op = self.actor.op();

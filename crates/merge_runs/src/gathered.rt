@@ -59,7 +59,8 @@ fn gathered_order(
 }
 
 /// Makes one history of all places and all passes, and lends its moments. The places are numbered from 0 on, in order, and no two
-/// passes are of one actor. The history has the entries and the notes as the passes keep them, by stamp, then by place, then by actor; a note's
+/// passes are of one actor. The history has the entries and the notes as the passes keep them, by stamp, then by place, then by actor;
+/// a note's
 /// place counts as 256.
 ///
 /// It is answered only where the trails of the passes and the histories of the places have the same entries, each once. Else

@@ -65,7 +65,8 @@ impl Places {
 
     /// Does the request at its place, under the one lock of that place, for which it may wait. The atomic step is what is done
     /// under the lock: the machine answers and does the request, and its history has the entry. What needs no machine is done
-    /// without the lock, also that the pass takes the same entry, by the history's receipt. The gate is told before the lock is taken, while it is kept, and after it was given back.
+    /// without the lock, also that the pass takes the same entry, by the history's receipt. The gate is told before the lock is taken,
+    /// while it is kept, and after it was given back.
     ///
     /// The pass grows by one entry, whose stamp is its new clock. It is refused as full exactly where the pass is full;
     /// then no lock is taken, and the gate is not told. It is astray where the label found behind the lock is not the

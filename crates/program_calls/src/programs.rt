@@ -24,7 +24,9 @@ pub trait Programs: Sized {
     fn next(&mut self, memory: &mut Memory, op: OpId) -> Result<Option<Asked>, NoMemory>
         ensures asks { IfOk result (λ asked. asked ≡ asked_by (next_does rules.kind memory.old.counts memory.old.memory op self.old)) }
         ensures state { self.new ≡ (turned rules.kind memory.old.counts memory.old.memory op self.old).state }
-        ensures memory { memory.new ≡ record memory.old { memory = (turned rules.kind memory.old.counts memory.old.memory op self.old).memory } };
+        ensures memory { memory.new ≡ record memory.old {
+          memory = (turned rules.kind memory.old.counts memory.old.memory op self.old).memory;
+        } };
 
     /// The answer that the command has come to, if it has. It takes no memory.
     fn answer(&self) -> Option<&Answer>

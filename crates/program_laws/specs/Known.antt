@@ -57,7 +57,8 @@ OfDoing A B (Says r) = B r
 abbrev pub by_op : OpId → Memory → Touched
 by_op op m = record {
   hold = λ h. op_eq h.op op;
-  made = λ n. node_eq n (File record { 0 = object_number op.actor m.serial }) || node_eq n (Dir record { 0 = object_number op.actor m.serial });
+  made = λ n. node_eq n (File record { 0 = object_number op.actor m.serial })
+      || node_eq n (Dir record { 0 = object_number op.actor m.serial });
   named = λ n. eqb (actor_of n) op.actor;
 }
 

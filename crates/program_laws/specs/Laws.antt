@@ -35,7 +35,8 @@ pub record KindLaws {S R : Type 0} (K : Kind S R) (D : Deciding S R) (N : Known 
       → N.Knows (settled op (D.decided s) (D.decided (state_heard K c m op s q (store_reply w.store q))) (next w q)) op n
       (state_heard K c m op s q (store_reply w.store q))) (λ r. Unit {0}) (next_does K c m op s)
 
--- Of when its answer is decided: once it is, it stays so, by its look-ups and at each reply to what it asks; and what it comes to was decided.
+-- Of when its answer is decided: once it is, it stays so, by its look-ups and at each reply to what it asks; and what it comes to was
+-- decided.
 pub record DecidedLaws {S R : Type 0} (K : Kind S R) (D : Deciding S R) (N : Known S R) : Type 0 where
   pub turns : (c : Counts) (m : Memory) (op : OpId) (s : S) (r : R) → D.decided s ≡ Some r → D.decided ((turned K c m op s).state) ≡ Some r
   pub hears : (c : Counts) (m : Memory) (op : OpId) (s : S) (q : AnyReq) (x : AnyReply) (r : R) → D.decided s ≡ Some r
@@ -46,11 +47,13 @@ pub record DecidedLaws {S R : Type 0} (K : Kind S R) (D : Deciding S R) (N : Kno
 -- Of its holds: while one may still be bound, its answer is decided by no request but one that touches this hold; and no reply decides it
 -- that grants one.
 pub record HoldLaws {S R : Type 0} (K : Kind S R) (D : Deciding S R) (N : Known S R) : Type 0 where
-  pub spends : (c : Counts) (w : World) (op : OpId) (m : Memory) (s : S) → Sound w → Remembers w op.actor m → IsActor op m → N.Knows w op m s
+  pub spends : (c : Counts) (w : World) (op : OpId) (m : Memory) (s : S) → Sound w → Remembers w op.actor m → IsActor op m
+      → N.Knows w op m s
       → D.decided s ≡ None
       → OfDoing (λ q. (r : R) (h : Hold) (g : Given) → D.decided (state_heard K c m op s q (store_reply w.store q)) ≡ Some r → h.op ≡ op
       → w.ghost.given h ≡ Some g → g.phase ≡ Live → (touched_by q).hold h ≡ true) (λ r. Unit {0}) (next_does K c m op s)
-  pub grants : (c : Counts) (w : World) (op : OpId) (m : Memory) (s : S) → Sound w → Remembers w op.actor m → IsActor op m → N.Knows w op m s
+  pub grants : (c : Counts) (w : World) (op : OpId) (m : Memory) (s : S) → Sound w → Remembers w op.actor m → IsActor op m
+      → N.Knows w op m s
       → D.decided s ≡ None
       → OfDoing (λ q. Kept w (next w q) q → (h : Hold) → w.ghost.given h ≡ None → (touched_by q).hold h ≡ true
       → is_granted (store_reply w.store q) ≡ true

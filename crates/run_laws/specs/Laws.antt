@@ -19,7 +19,8 @@ EveryMomentIsSound P = (counts : Counts) (events : List Event) → IsWorldRun P 
 
 -- and each hold that was granted, and neither bound nor given up, is bound nowhere and listed by its object
 abbrev pub EveryGrantedHoldIsListed : {S : Type 0} → Programs S → Type 0
-EveryGrantedHoldIsListed P = (counts : Counts) (events : List Event) → IsWorldRun P counts events → AfterEachFront GrantedHoldsAreListed events
+EveryGrantedHoldIsListed P =
+    (counts : Counts) (events : List Event) → IsWorldRun P counts events → AfterEachFront GrantedHoldsAreListed events
 
 -- no command comes to the answer that a reply was odd
 abbrev pub NoRunAnswersOdd : {S : Type 0} → Programs S → Type 0

@@ -1,5 +1,6 @@
 -- The actors as the world keeps them, numbered from 1.
-use Rattle.std.specs.Prelude.{◌≡◌, ℕ, ◌+◌, ◌-◌, ◌<◌, ◌≤◌, Bool, is_some, eqb, if◌then◌else◌, max, List, [], length, slice_index_or, count_by}
+use Rattle.std.specs.Prelude.{◌≡◌, ℕ, ◌+◌, ◌-◌, ◌<◌, ◌≤◌, Bool, is_some, eqb, if◌then◌else◌, max, List, [], length}
+use Rattle.std.specs.Prelude.{slice_index_or, count_by}
 use Rattle.tect_ids.specs.declared.ids.Counts.{Counts}
 use Rattle.program_forms.specs.Kinds.{Programs}
 use Rattle.world_runs.specs.declared.event.Event.{Event}

@@ -33,7 +33,8 @@ pub fn running_commands_know()
 pub fn every_run_follows_the_tree()
     ensures shown { (counts : Counts) (events : List Event) → IsWorldRun programs counts events
         → Shows (moment programs counts events).store (tree_after opening_tree (tree_steps events)) }
-    ensures allowed { (counts : Counts) (events : List Event) → IsWorldRun programs counts events → IsTreeRun opening_tree (tree_steps events) }
+    ensures allowed { (counts : Counts) (events : List Event) → IsWorldRun programs counts events
+        → IsTreeRun opening_tree (tree_steps events) }
 {}
 
 /// In every run of the world, whatever its actors ask in whatever order, each answer is the one that the tree gives at the

@@ -44,7 +44,8 @@ own_lines clients actor before (e ∷ es) =
 -- the lines of a part, client by client: of those from this actor on
 abbrev pub lines_from : List (List ℕ) → List (List ℕ) → ℕ → List Event → List Event → List ReportLine
 lines_from clients [] actor before part = []
-lines_from clients (name ∷ names) actor before part = own_lines clients actor before part ++ lines_from clients names (actor + 1) before part
+lines_from clients (name ∷ names) actor before part =
+    own_lines clients actor before part ++ lines_from clients names (actor + 1) before part
 
 abbrev pub part_lines : List (List ℕ) → List Event → List Event → List ReportLine
 part_lines clients before part = lines_from clients clients 1 before part
