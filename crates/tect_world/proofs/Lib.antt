@@ -4,6 +4,7 @@ pub mod MomentOrders
 pub mod Tellings
 pub mod Notings
 pub mod Lives
+pub mod Reserving
 pub mod Openings
 pub mod Idle
 pub mod Marking

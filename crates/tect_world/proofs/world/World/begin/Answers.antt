@@ -2,6 +2,7 @@ use Rattle.std.proofs.Common.{◌≡◌, ◌+◌, ◌<◌, ◌^◌, false, ◌-�
 use Rattle.std.specs.Prelude.{IsNone}
 use Rattle.std.specs.Vec.{with_item}
 use Rattle.tect_world.proofs.Worlds.{to_client, began_stays, began_ok, began_err}
+use Rattle.tect_world.proofs.Reserving.{with_room}
 use Rattle.tect_world.proofs.world.World.begin.Goals as goal
 
 pub begin_client-begun-requires-clause-idle : goal.begin_client-begun-requires-clause-idle
@@ -71,3 +72,14 @@ returns-clause-err g c =
     (rw c.as_slice.ensures.value at c.is_short.ensures) refl c.begin_client-begun.ensures.life
     c.args.command refl (omega (arith, c.in_ok-reserve.ensures.ok, c.begin_client-begun.ensures.space.0, c.begin_client-begun.ensures.space.1))
     c.begin_client-begun.result c.begin_client-begun.ensures.begins)
+
+pub invariant_of-self : goal.invariant_of-self
+invariant_of-self g c =
+    with_room g.P.Programs.rules c.self.inside
+    (record {
+      alloc = c.self.inside.alloc;
+      shards = c.self.inside.shards;
+      clients = c.self.inside.clients;
+      clock = c.self.inside.clock;
+      order = c.reserve.new.self;
+    }) c.self.invariant c.in_err-reserve.ensures.items c.in_err-reserve.ensures.len (omega (arith, c.in_err-reserve.ensures.capacity))

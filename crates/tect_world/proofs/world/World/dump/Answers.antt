@@ -3,6 +3,7 @@ use Rattle.store_rules.specs.Dumps.{store_dump}
 use Rattle.tect_world.specs.declared.marks.Mark.{Mark}
 use Rattle.tect_world.specs.declared.marks.Mark.TheVariants.{Dump}
 use Rattle.tect_world.proofs.Lives.{dump_stays, dump_grows, few_more, world_store}
+use Rattle.tect_world.proofs.Reserving.{with_room}
 use Rattle.tect_world.proofs.world.World.dump.Goals as goal
 
 pub invariant_of-self-2 : goal.invariant_of-self-2
@@ -39,3 +40,25 @@ returns-clause-ok g c =
 pub returns-clause-lines : goal.returns-clause-lines
 returns-clause-lines g c =
     rw (← c.self.view_is) (c.in_ok-lines.ensures ∙ ap store_dump (world_store g.P.Programs.rules c.self.inside c.self.invariant))
+
+pub invariant_of-self : goal.invariant_of-self
+invariant_of-self g c =
+    with_room g.P.Programs.rules c.self.inside
+    (record {
+      alloc = c.self.inside.alloc;
+      shards = c.self.inside.shards;
+      clients = c.self.inside.clients;
+      clock = c.self.inside.clock;
+      order = c.reserve.new.self;
+    }) c.self.invariant c.in_err-reserve.ensures.items c.in_err-reserve.ensures.len (omega (arith, c.in_err-reserve.ensures.capacity))
+
+pub invariant_of-self-in_err-lines : goal.invariant_of-self-in_err-lines
+invariant_of-self-in_err-lines g c =
+    with_room g.P.Programs.rules c.self.inside
+    (record {
+      alloc = c.self.inside.alloc;
+      shards = c.self.inside.shards;
+      clients = c.self.inside.clients;
+      clock = c.self.inside.clock;
+      order = c.reserve.new.self;
+    }) c.self.invariant c.in_ok-reserve.ensures.items c.in_ok-reserve.ensures.len (omega (arith, c.in_ok-reserve.ensures.capacity))

@@ -1,7 +1,8 @@
-use Rattle.std.proofs.Common.{◌-◌, refl, arith}
+use Rattle.std.proofs.Common.{◌-◌, refl, sym, arith}
 use Rattle.std.specs.Prelude.{IsSome}
 use Rattle.std.specs.Vec.{with_item}
-use Rattle.tect_world.proofs.Worlds.{to_client, step_stays, step_is}
+use Rattle.tect_world.proofs.Worlds.{mine, to_client, step_stays, step_is}
+use Rattle.tect_world.proofs.Reserving.{with_room}
 use Rattle.tect_world.proofs.world.World.step.Goals as goal
 
 pub step_client-turned-requires-clause-running : goal.step_client-turned-requires-clause-running
@@ -42,3 +43,19 @@ returns-clause-ok g c =
     (rw c.as_slice.ensures.value at c.is_short.ensures) refl c.step_client-turned.ensures.life
     c.step_client-turned.result c.step_client-turned.ensures.step c.step_client-turned.ensures.counts
     (omega (arith, c.in_ok-reserve.ensures.ok, c.step_client-turned.ensures.space.0, c.step_client-turned.ensures.space.1)))
+
+pub invariant_of-self : goal.invariant_of-self
+invariant_of-self g c =
+    with_room g.P.Programs.rules c.self.inside
+    (record {
+      alloc = c.self.inside.alloc;
+      shards = c.self.inside.shards;
+      clients = c.self.inside.clients;
+      clock = c.self.inside.clock;
+      order = c.reserve.new.self;
+    }) c.self.invariant c.in_err-reserve.ensures.items c.in_err-reserve.ensures.len (omega (arith, c.in_err-reserve.ensures.capacity))
+
+pub step_client-turned-requires-clause-same : goal.step_client-turned-requires-clause-same
+step_client-turned-requires-clause-same g c =
+    sym (mine g.P.Programs.rules c.self.inside c.args.actor c.index_mut-client.result.now c.self.invariant c.requires.actor.0 c.requires.actor.1
+    c.index_mut-client.ensures.value).counts
