@@ -2,15 +2,18 @@
 use Rattle.std.proofs.Common.{◌≡◌, ◌≢◌, ℕ, zero, suc, ◌+◌, ◌-◌, ◌<◌, ◌≤◌, inl, inr, Bool, true, false, eqb, if◌then◌else◌, List, []}
 use Rattle.std.proofs.Common.{◌∷◌, ◌++◌, length, get_or, set, drop, replicate, refl, sym, ap, ◌∙◌, subst, append_assoc, arith}
 use Rattle.std.specs.Prelude.{OnOk, Result, Ok, Err}
+use Rattle.std.specs.List.{All, filter}
 use Rattle.std.proofs.lemmas.Bool.{cases_lt}
 use Rattle.std.proofs.lemmas.List.{get_or_past, get_or-set_same, get_or-set_other}
+use Rattle.std.proofs.lemmas.List.Elements.{All-nil, All-from_recursion}
 use Rattle.all_shards.proofs.Stepped.{any_default}
 use Rattle.tect_ids.specs.declared.ids.Counts.{Counts}
 use Rattle.tect_ids.proofs.KeyTests.{num_eq_cases}
 use Rattle.entry_words.specs.declared.entry.Moment.{Moment}
+use Rattle.entry_words.specs.Moments.{is_of, all_of_actor}
 use Rattle.program_forms.specs.Kinds.{Programs}
 use Rattle.world_runs.specs.declared.event.Event.{Event}
-use Rattle.world_runs.specs.Events.{events_of}
+use Rattle.world_runs.specs.Events.{events_of, IsOwnNote, IsPlaced}
 use Rattle.world_runs.specs.Refusals.{AreOfRefused}
 use Rattle.clients.specs.Lives.{ClientLife, events_in, idle_life}
 use Rattle.tect_world.specs.declared.marks.Mark.{Mark}
@@ -21,9 +24,11 @@ use Rattle.tect_world.specs.Inside.{life_of, noted_in, IsWorld}
 use Rattle.tect_world.specs.Noted.{moments_by}
 use Rattle.tect_world.specs.Order.{first_moment, later_moments, in_order, marks_of, moments_in_order}
 use Rattle.tect_world.specs.Telling.{left_by, IsMarkOf, AreMarksOf}
-use Rattle.tect_world.specs.Told.{Notes, IsTold}
+use Rattle.tect_world.specs.Told.{Notes, StepsCountUp, IsTold}
+use Rattle.tect_world.proofs.Lives.{have_marks}
 use Rattle.tect_world.proofs.MomentOrders.{same, without}
-use Rattle.tect_world.proofs.Tellings.{IsSilentFrom, notes_in_order}
+use Rattle.tect_world.proofs.MomentsTold.{AreOwn, all_in_order, own_in_order, own_notes}
+use Rattle.tect_world.proofs.Tellings.{notes_in_order}
 
 -- ---- the marks are of the actors
 
@@ -106,11 +111,65 @@ module _ {S : Type 0} (P : Programs S) (w : Inside S) (is : IsWorld P w) where
       (notes_in_order [] w.order.items (moments_by c ls) (λ a. []) silent_by
       (λ a. record { refused = λ op h. h; are = all_silent a }))
 
+  -- ---- so is what each client's own moments are
+
+  -- what is so of no moments, and of each client's, is so of each actor's
+  each_actor : (Q : ℕ → List Moment → Type 0) → ((a : ℕ) → Q a []) → ((a : ℕ) → 1 ≤ a → a ≤ 65 → Q a (client_at c ls a).moments)
+      → (a : ℕ) → Q a (moments_by c ls a)
+  each_actor Q none each a = by_zero (eqb a 0) refl
+    where
+      of_client : 1 ≤ a → Q a (client_at c ls a).moments
+      of_client low = elim (cases_lt 65 a) [
+        | inl far ↦
+            let past : client_at c ls a ≡ idle_life 0 c = get_or_past ls (a - 1) (idle_life 0 c) (omega (arith, far, is.number)) in
+            subst (λ (l : ClientLife). Q a l.moments) (sym past) (none a)
+        | inr high ↦ each a low high
+      ]
+
+      by_zero : (t : Bool) → eqb a 0 ≡ t → Q a (if t then [] else (client_at c ls a).moments)
+      by_zero true e = none a
+      by_zero false e = of_client (grind (arith, num_eq_cases a 0, e))
+
+  all_placed : All (IsPlaced c) (noted_in w)
+  all_placed =
+      all_in_order (IsPlaced c) w.order.items (moments_by c ls)
+      (each_actor (λ a ms. All (IsPlaced c) ms) (λ a. All-nil (IsPlaced c))
+      (λ a low high.
+      let own = is.each a low high in
+      subst (λ (k : Counts). All (IsPlaced k) (client_at c ls a).moments) own.counts own.life.placed))
+
+  all_noted : All IsOwnNote (noted_in w)
+  all_noted =
+      all_in_order IsOwnNote w.order.items (moments_by c ls)
+      (each_actor (λ a ms. All IsOwnNote ms) (λ a. All-nil IsOwnNote)
+      (λ a low high.
+      let life = (is.each a low high).life in
+      All-from_recursion IsOwnNote (client_at c ls a).moments
+      (own_notes (client_at c ls a).actor (client_at c ls a).moments life.moments_own life.notes_own)))
+
+  are_own : AreOwn (moments_by c ls)
+  are_own =
+      each_actor (λ a ms. all_of_actor a ms ≡ true) (λ a. refl)
+      (λ a low high.
+      let own = is.each a low high in
+      subst (λ (k : ℕ). all_of_actor k (client_at c ls a).moments ≡ true) own.actor own.life.moments_own)
+
+  module _ (up : All (λ l. StepsCountUp l.moments) ls) where
+    all_steps : (a : ℕ) → StepsCountUp (filter (is_of a) (noted_in w))
+    all_steps a =
+        subst StepsCountUp (sym (own_in_order a w.order.items (moments_by c ls) are_own (have_marks P w is)))
+        (each_actor (λ a ms. StepsCountUp ms) (λ a. refl)
+        (λ a low high. up (a - 1) (idle_life 0 c) (omega (arith, low, high, is.number))) a)
+
+    all_told : IsTold (life_of w) (noted_in w)
+    all_told =
+        record { told = noted_history; placed = all_placed; noted = all_noted; steps = all_steps; last = w.clock; rising = is.rising }
+
   pub told : (lives : List ClientLife) (order : List Mark) (ms : List Moment) → lives ≡ ls → order ≡ w.order.items
-      → ms ≡ moments_in_order order (moments_by c lives) → IsTold (life_of w) ms
-  told lives order ms same_lives same_order is_all =
+      → All (λ l. StepsCountUp l.moments) lives → ms ≡ moments_in_order order (moments_by c lives) → IsTold (life_of w) ms
+  told lives order ms same_lives same_order up is_all =
       let here : ms ≡ noted_in w = is_all ∙ (λ i. moments_in_order (same_order i) (moments_by c (same_lives i))) in
-      subst (IsTold (life_of w)) (sym here) (record { told = noted_history; last = w.clock; rising = is.rising })
+      subst (IsTold (life_of w)) (sym here) (all_told (subst (All (λ l. StepsCountUp l.moments)) same_lives up))
 
 -- ---- one mark more
 

@@ -15,4 +15,5 @@ pub mod StepMoments
 pub mod Stopping
 pub mod Rooms
 pub mod Worlds
+pub mod MomentsTold
 pub mod Histories

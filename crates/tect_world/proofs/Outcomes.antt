@@ -1,6 +1,6 @@
 -- what a step comes to
-use Rattle.std.proofs.Common.{◌≡◌, ℕ, ◌+◌, ◌≤◌, ◌⊎◌, inl, inr, Bool, true, false, if◌then◌else◌, Option, Some, None, List, [], ◌∷◌, ◌++◌}
-use Rattle.std.proofs.Common.{refl, ap, ◌∙◌, sym, subst, arith}
+use Rattle.std.proofs.Common.{◌≡◌, ℕ, ◌+◌, ◌≤◌, inl, inr, Bool, true, false, if◌then◌else◌, Option, Some, None, List, [], ◌∷◌, ◌++◌}
+use Rattle.std.proofs.Common.{refl, ap, ◌∙◌, arith}
 use Rattle.std.specs.Prelude.{nat_lt}
 use Rattle.std.proofs.lemmas.Bool.Decides.{nat_tests}
 use Rattle.tect_ids.specs.declared.ids.Counts.{Counts}
@@ -29,9 +29,9 @@ use Rattle.world_runs.proofs.OwnLines.{transactions-append}
 use Rattle.clients.specs.Turns.{turned_by}
 use Rattle.clients.specs.declared.turned.Turned.TheVariants.{Done}
 use Rattle.clients.specs.Lives.{ClientLife, events_in, state_in, op_in}
-use Rattle.clients.specs.Steps.{Tried, Unasked, Did, Denied, state_after, EndsSo, tried_events, end_events}
+use Rattle.clients.specs.Steps.{Tried, Unasked, Did, Denied, EndsSo, tried_events, end_events}
 use Rattle.tect_world.specs.Life.{Life, present, grown}
-use Rattle.tect_world.specs.Steps.{EndsWith, RanToEnd, Stepped}
+use Rattle.tect_world.specs.Steps.{EndsWith, Stepped}
 use Rattle.tect_world.proofs.Marking.{has_act}
 use Rattle.tect_world.proofs.OneStep.{end_cases}
 

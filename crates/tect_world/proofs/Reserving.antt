@@ -1,5 +1,5 @@
 -- The order of the world's events has more room, or as much.
-use Rattle.std.proofs.Common.{◌≡◌, ℕ, ◌+◌, ◌≤◌, true, List, length, sym, ap, subst, ◌∙◌, arith}
+use Rattle.std.proofs.Common.{◌≡◌, ℕ, ◌≤◌, true, List, length, sym, ap, subst, ◌∙◌, arith}
 use Rattle.std.specs.Prelude.{vec_len, vec_capacity}
 use Rattle.store_rules.specs.Store.{opening_store}
 use Rattle.entry_words.specs.declared.entry.Moment.{Moment as Noted}

@@ -1,5 +1,5 @@
 -- a command that runs goes on by transactions to its end
-use Rattle.std.proofs.Common.{◌≡◌, ℕ, ◌+◌, ◌-◌, ◌<◌, Bool, true, false, eqb, if◌then◌else◌, Option, Some, None, List, [], ◌∷◌, ◌++◌}
+use Rattle.std.proofs.Common.{◌≡◌, ℕ, ◌+◌, ◌<◌, Bool, true, false, eqb, if◌then◌else◌, Option, Some, None, List, [], ◌∷◌, ◌++◌}
 use Rattle.std.proofs.Common.{refl, sym, ap, ◌∙◌, subst, append_assoc, inl, inr, arith}
 use Rattle.std.specs.Prelude.{IsSome, OnErr, Result, Ok, Err}
 use Rattle.std.proofs.lemmas.List.{append-nil}
@@ -14,12 +14,11 @@ use Rattle.program_forms.specs.declared.heard.Heard.{Heard}
 use Rattle.program_forms.specs.Kinds.{Programs}
 use Rattle.world_runs.specs.declared.event.Event.{Event}
 use Rattle.world_runs.specs.declared.event.Event.TheVariants.{Own, Dumped}
-use Rattle.world_runs.specs.declared.event.Happening.{Happening}
 use Rattle.world_runs.specs.declared.event.Happening.TheVariants.{Began, NotBegun, Acted, Ended, Stopped, Failed}
 use Rattle.world_runs.specs.Actors.{Actor, Running, went_on}
 use Rattle.world_runs.specs.Follows.{Acts, IsActOf}
 use Rattle.world_runs.specs.Limits.{IsFull, KeepsLimits, KeepsLimitsAfter, KeepsRoom, actor_in, event_cost, used}
-use Rattle.world_runs.specs.Moments.{WorldState, after, moment}
+use Rattle.world_runs.specs.Moments.{WorldState, moment}
 use Rattle.world_runs.specs.OwnRuns.{own_next}
 use Rattle.world_runs.specs.Races.{is_own}
 use Rattle.world_runs.proofs.Actors.{after_actors}

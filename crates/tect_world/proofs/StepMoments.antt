@@ -1,5 +1,5 @@
 -- what a step of a client notes
-use Rattle.std.proofs.Common.{◌≡◌, ℕ, ◌+◌, ◌<◌, ◌≤◌, ◌⊎◌, inl, inr, Bool, true, false, eqb, if◌then◌else◌, Option, Some, None, List}
+use Rattle.std.proofs.Common.{◌≡◌, ℕ, ◌+◌, ◌≤◌, ◌⊎◌, inl, inr, Bool, true, false, eqb, if◌then◌else◌, Option, Some, None, List}
 use Rattle.std.proofs.Common.{[], ◌∷◌, ◌++◌, length, refl, sym, ap, ◌∙◌, subst, append_assoc, arith}
 use Rattle.std.proofs.lemmas.List.{append-nil}
 use Rattle.tect_ids.specs.declared.ids.Counts.{Counts}
@@ -15,7 +15,7 @@ use Rattle.entry_words.specs.declared.entry.Moment.TheVariants.{Act, Local}
 use Rattle.entry_words.specs.declared.entry.Note.TheVariants as notes
 use Rattle.entry_words.specs.Moments.{rises}
 use Rattle.world_runs.specs.declared.event.Event.{Event}
-use Rattle.world_runs.specs.Actors.{Actor, Running, program_ask, asked_in, standing_does}
+use Rattle.world_runs.specs.Actors.{Running, program_ask, asked_in, standing_does}
 use Rattle.clients.specs.Lives.{ClientLife, state_in}
 use Rattle.clients.specs.Refused.{IsRefused, standing_refused}
 use Rattle.clients.specs.Steps.{Tried, Unasked, Did, Denied, Asks, is_later, entry_in, tried_life, ended_with, ended_life}

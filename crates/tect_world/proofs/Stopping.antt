@@ -1,5 +1,5 @@
 -- what a client notes where it begins and where it stops
-use Rattle.std.proofs.Common.{◌≡◌, ℕ, ◌+◌, ◌<◌, ◌≤◌, ◌⊎◌, inl, inr, true, false, is_some, Option, Some, None, List, [], ◌∷◌, ◌++◌, length, refl}
+use Rattle.std.proofs.Common.{◌≡◌, ◌+◌, ◌≤◌, ◌⊎◌, inl, inr, true, false, is_some, Option, Some, None, List, [], ◌∷◌, ◌++◌, length, refl}
 use Rattle.std.proofs.Common.{sym, ap, ◌∙◌, append_assoc, arith}
 use Rattle.std.proofs.lemmas.List.{append-nil, map-append}
 use Rattle.tect_ids.specs.declared.ids.Counts.{Counts}
@@ -17,7 +17,7 @@ use Rattle.world_runs.specs.Actors.{Running, idle_actor}
 use Rattle.world_runs.specs.Events.{events_of, event_of}
 use Rattle.world_runs.specs.OwnRuns.{own_state}
 use Rattle.world_runs.proofs.Actors.{own_state-append}
-use Rattle.clients.specs.Lives.{ClientLife, events_in, state_in, op_in, stopped_with}
+use Rattle.clients.specs.Lives.{ClientLife, events_in, op_in, stopped_with}
 use Rattle.clients.specs.Refused.{RunsIn}
 use Rattle.tect_world.specs.Clients.{is_going}
 use Rattle.tect_world.proofs.Notings.{rises_one, rises_none}

@@ -1,14 +1,13 @@
 -- the world after the code of each call
-use Rattle.std.proofs.Common.{◌≡◌, ◌≢◌, ℕ, ◌+◌, ◌-◌, ◌<◌, ◌≤◌, ◌^◌, ◌⊎◌, inl, inr, Bool, true, false, eqb, if◌then◌else◌, Option, None}
+use Rattle.std.proofs.Common.{◌≡◌, ℕ, ◌+◌, ◌-◌, ◌<◌, ◌≤◌, ◌^◌, ◌⊎◌, inl, inr, Bool, true, false, eqb, if◌then◌else◌, Option, None}
 use Rattle.std.proofs.Common.{List, [], ◌∷◌, ◌++◌, length, get_or, set, refl, sym, ap, ◌∙◌, subst, append_assoc, arith, length-append}
-use Rattle.std.specs.Prelude.{IsSome, OnOk, OnErr, MatchResult, Result, Ok, Err, vec_len, vec_capacity, count_by}
+use Rattle.std.specs.Prelude.{IsSome, OnOk, OnErr, MatchResult, Result, Ok, Err, vec_len, vec_capacity}
 use Rattle.std.proofs.lemmas.List.{append-nil, length-set}
 use Rattle.std.proofs.lemmas.List.Sums.{count_by-le-length}
 use Rattle.tect_ids.specs.declared.ids.Counts.{Counts}
 use Rattle.tect_ids.specs.declared.ids.OpId.{OpId}
 use Rattle.tect_ids.specs.declared.answer.Answer.{Answer}
 use Rattle.tect_ids.specs.declared.command.Command.{Command}
-use Rattle.store_rules.specs.declared.any.AnyReq.{AnyReq}
 use Rattle.program_forms.specs.Kinds.{Programs}
 use Rattle.entry_words.specs.declared.entry.Moment.{Moment}
 use Rattle.entry_words.specs.declared.entry.Moment.TheVariants.{Local}
@@ -28,7 +27,6 @@ use Rattle.world_runs.proofs.Owns.{counts_stay}
 use Rattle.world_runs.proofs.OwnLines.{transactions_own}
 use Rattle.all_shards.proofs.Stepped.{any_default}
 use Rattle.clients.specs.declared.turned.Turned.{Turned}
-use Rattle.clients.specs.Turns.{turned_by}
 use Rattle.clients.specs.Lives.{ClientLife, IsLife, events_in, state_in, op_in, next_op_in, idle_life, begun_life, refused_life}
 use Rattle.clients.specs.Refused.{RunsIn, IsRefused}
 use Rattle.clients.specs.Steps.{Tried, Unasked, Did, Denied, EndsSo, state_after, ended_life, tried_life, tried_events}

@@ -1,11 +1,12 @@
 //! All that the world did, in the order in which it was done.
-ghost use Rattle.std.specs.Prelude.{◌≡◌, ℕ, ◌-◌, ◌<◌, ◌≤◌, ◌≢◌, ◌++◌, ◌∷◌, List, IfOk, OnOk, Some, map, drop, length, replicate, slice_index_or};
+ghost use Rattle.std.specs.Prelude.{◌≡◌, ◌-◌, ◌<◌, ◌≤◌, ◌≢◌, ◌++◌, ◌∷◌, List, IfOk, OnOk, map, drop, length, replicate};
+ghost use Rattle.std.specs.List.{All};
 ghost use Rattle.tect_ids.specs.declared.ids.Counts.{Counts};
-ghost use Rattle.clients.specs.Lives.{ClientLife};
 ghost use Rattle.tect_world.specs.declared.marks.Mark.{Mark as AnyMark};
 ghost use Rattle.tect_world.specs.Noted.{moments_by};
 ghost use Rattle.tect_world.specs.Order.{first_moment, later_moments, moments_in_order};
 ghost use Rattle.tect_world.specs.Telling.{left_by, IsMarkOf, AreMarksOf};
+ghost use Rattle.tect_world.specs.Told.{StepsCountUp};
 
 use crate::marks::Mark;
 use clients::Client;
@@ -19,6 +20,15 @@ fn zeros(alloc: Global, count: usize) -> Result<Vec<usize>, NoMemory>
     ensures { IfOk result (λ v. v.items ≡ replicate count 0) }
 {
     Ok(vec![in alloc; 0; count]?)
+}
+
+/// What the pass of each client keeps: the steps of its transactions count up from 0.
+pub fn steps_count_up<P: Programs + Drop>(clients: &[Client<P>])
+    ensures { All (λ l. StepsCountUp l.moments) clients.now }
+{
+    'each: for client in clients {
+        client.pass();
+    }
 }
 
 /// The moments of all clients in the order of the marks, each client's own in their order.

@@ -1,4 +1,4 @@
-ghost use Rattle.std.specs.Prelude.{◌≡◌, ℕ, ◌+◌, ◌^◌, ◌<◌, ◌≤◌, [], ◌∷◌, OnOk, OnErr, IfOk, IsSome, IsNone, IsTrue, is_some};
+ghost use Rattle.std.specs.Prelude.{◌≡◌, ◌+◌, ◌^◌, ◌<◌, ◌≤◌, [], ◌∷◌, OnOk, OnErr, IfOk, IsSome, IsNone, IsTrue, is_some};
 ghost use Rattle.std.specs.Prelude.{true, false, map};
 ghost use Rattle.tect_ids.specs.Places.{HasPlaces};
 ghost use Rattle.store_rules.specs.Dumps.{store_dump};
@@ -12,7 +12,7 @@ ghost use Rattle.tect_world.specs.Steps.{HasBegun, Stepped, RanToEnd, GoesOn};
 ghost use Rattle.tect_world.specs.Told.{IsTold};
 
 use crate::acting::{begin_client, idle_clients, step_client, stop_client};
-use crate::history::moments_by_marks;
+use crate::history::{moments_by_marks, steps_count_up};
 use crate::marks::{Mark, is_short, push_mark};
 use clients::{Client, Turned};
 use entry_words::Moment;
@@ -242,6 +242,7 @@ impl<P: Programs + Drop> World<P> {
         ensures { IfOk result (λ moments. IsTold self.now (map (λ m. m.now) moments.items)) }
     {
         let (clients, order) = (self.clients.as_slice(), self.order.as_slice());
+        steps_count_up(clients);
         match moments_by_marks(self.alloc, clients, order) {
             Ok(moments) => Ok(moments),
             Err(NoMemory) => Err(NoMemory),

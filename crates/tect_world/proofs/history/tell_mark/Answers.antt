@@ -1,5 +1,4 @@
-use Rattle.std.proofs.Common.{◌≡◌, ◌∷◌, ◌++◌, List, Bor, map, ap, sym, ◌∙◌, subst}
-use Rattle.std.specs.Prelude.{OnOk}
+use Rattle.std.proofs.Common.{◌∷◌, ◌++◌, Bor, map, ap, sym, ◌∙◌, subst}
 use Rattle.tect_world.specs.declared.marks.Mark.{Mark}
 use Rattle.entry_words.specs.declared.entry.Moment.{Moment}
 use Rattle.tect_world.specs.Order.{moments_in_order}

@@ -10,4 +10,5 @@ pub returns-in-Ok : goal.returns-in-Ok
 returns-in-Ok g c =
     rw (← c.self.view_is)
     (told g.P.Programs.rules c.self.inside c.self.invariant _ _ (map (λ m. m.now) c.in-Ok.moments.items)
-    c.as_slice-clients.ensures.value c.as_slice-order.ensures.value (c.in-Ok.ensures c.self.inside.shards.counts))
+    c.as_slice-clients.ensures.value c.as_slice-order.ensures.value c.steps_count_up.ensures
+    (c.in-Ok.ensures c.self.inside.shards.counts))

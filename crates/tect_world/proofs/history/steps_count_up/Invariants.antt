@@ -1,0 +1,7 @@
+use Rattle.std.proofs.Common.{take}
+use Rattle.std.specs.List.{All}
+use Rattle.tect_world.specs.Told.{StepsCountUp}
+use Rattle.tect_world.proofs.history.steps_count_up.Given as goal
+
+abbrev pub invariant-each : goal.invariant-each
+invariant-each g l = All (λ c. StepsCountUp c.moments) (take l.client-index l.clients)
