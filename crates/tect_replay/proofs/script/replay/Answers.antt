@@ -1,7 +1,7 @@
-use Rattle.std.proofs.Common.{◌≡◌, ◌<◌, ◌≤◌, ◌+◌, [], length, get_or, refl, rules}
+use Rattle.std.proofs.Common.{◌≡◌, ◌<◌, ◌≤◌, ◌+◌, [], length, get_or, refl, rules, ◌∙◌}
 use Rattle.std.proofs.KnownBytes.{Appends-nil, Appends-trans}
 use Rattle.tect_replay.specs.Plays.{PlaysLine, shown_lines}
-use Rattle.tect_replay.proofs.Results.{on_ok, on_err, on_err_by}
+use Rattle.tect_replay.proofs.Results.{on_ok, on_err, on_err_by, kept_whole}
 use Rattle.tect_replay.proofs.Reached.{played_none, can_play, played_next, text_next, cut_by, run_of_all}
 use Rattle.tect_replay.proofs.Texts.{prefix_none, prefix_whole, prefix_then, proper_then}
 use Rattle.tect_replay.proofs.script.replay.Goals as goal
@@ -41,7 +41,7 @@ lines-preserved g c =
       played = played_next g.P.Programs.rules plan i c.lines.world line c.requires lt at c.lines.invariant.played c.play_line.new.world ls plays;
       written = rw (text_next g.P.Programs.rules plan i c.lines.world line c.requires lt at c.lines.invariant.played c.play_line.new.world ls plays)
           (Appends-trans _ _ _ _ _ c.lines.invariant.written c.in_ok-write_shown.ensures.whole);
-      kept = search rules;
+      kept = c.in_ok-write_shown.ensures.kept (λ h. absurd cc) ∙ c.lines.invariant.kept;
     }
 
 pub returns-in_err-shown-clause-cut : goal.returns-in_err-shown-clause-cut
@@ -88,3 +88,11 @@ returns-clause-cut g c =
       written = proper_then _ _ _ _ _ c.lines.invariant.written part;
     })
     c.write_piece.ensures.part
+
+pub returns-in_err-write_shown-clause-kept : goal.returns-in_err-write_shown-clause-kept
+returns-in_err-write_shown-clause-kept g c =
+    λ none. c.in_err-write_shown.ensures.kept
+    (λ h. none (search (rules, h, c.from_residual-in_err-write_shown.ensures))) ∙ c.lines.invariant.kept
+
+pub returns-clause-kept : goal.returns-clause-kept
+returns-clause-kept g c = λ none. kept_whole c.write_piece.result c.write_piece.ensures.kept c.write_piece.ensures.only none ∙ c.lines.invariant.kept
