@@ -127,14 +127,14 @@ history_of plan history is run limits follows at_once = record {
 
 -- ---- what was written
 
-pub replay_shown : (plan : Plan) (old new : Option (List ℕ)) → IsPlayable programs plan → IsReplayed plan old new → IsReplayShown plan old new
+pub replay_shown : (plan : Plan) (old new : Option (List ℕ)) → IsPlayable programs plan → IsReplayed programs plan old new → IsReplayShown plan old new
 replay_shown plan old new is r = record {
   history = r.history;
   of_plan = history_of plan r.history is r.of_plan.run r.of_plan.limits r.of_plan.follows r.of_plan.at_once;
   written = r.written;
 }
 
-pub replay_cut : (plan : Plan) (old new : Option (List ℕ)) → IsPlayable programs plan → IsCutReplay plan old new → IsReplayCut plan old new
+pub replay_cut : (plan : Plan) (old new : Option (List ℕ)) → IsPlayable programs plan → IsCutReplay programs plan old new → IsReplayCut plan old new
 replay_cut plan old new is r = record {
   history = r.history;
   of_plan = history_of plan r.history is r.of_plan.run r.of_plan.limits r.of_plan.follows r.of_plan.at_once;
