@@ -1,15 +1,16 @@
 -- Clients that are given to workers one after another, and taken from them again, the last one first.
 use Rattle.std.proofs.Common.{◌≡◌, ◌≢◌, ℕ, zero, suc, ◌+◌, ◌-◌, ◌%◌, ◌<◌, Some, List, [], ◌∷◌, ◌++◌, length, set, length-set}
 use Rattle.std.proofs.Common.{reverse}
-use Rattle.std.proofs.Common.{inl, inr, refl, sym, ap, subst, ◌∙◌, append_assoc, arith, slice_get}
+use Rattle.std.proofs.Common.{inl, inr, ◌⊎◌, refl, sym, ap, subst, ◌∙◌, append_assoc, arith, slice_get, length-append}
 use Rattle.std.proofs.Math.Nat.{mod-lt}
 use Rattle.std.proofs.lemmas.List.{append-nil, reverse-append, reverse-reverse}
+use Rattle.std.proofs.lemmas.Bool.{cases_lt}
 use Rattle.std.proofs.lemmas.Option.{slice_get_within, same_Some}
 use Rattle.players.specs.declared.racer.Racer.{Racer}
 use Rattle.tect_race.specs.declared.workers.Worker.{Worker}
 use Rattle.tect_race.specs.Ready.{AreAssigned, AreCollected, CanBeCollected}
 use Rattle.tect_race.proofs.Shares.{IsShare, some_at, set_cases, share_last, share_less, share_more, share_some, share_stayed, share_stays}
-use Rattle.tect_race.proofs.Shares.{together}
+use Rattle.tect_race.proofs.Shares.{together, at_end, not_end}
 
 module _ {S : Type 0} (w : ℕ) (pos : 0 < w) (rs : List (Racer S)) where
   abbrev at : ℕ
@@ -148,3 +149,31 @@ module _ {S : Type 0} (w : ℕ) (pos : 0 < w) (left : ℕ) (some : 0 < left) (al
               (unassigned w pos split.0 split.1 cs still c there d x number items);
           taken = taken ∙ ap (λ l. l ++ x ∷ []) is.taken ∙ sym (reverse-append (x ∷ []) is.behind);
         }
+
+-- ---- idle workers
+
+at_last : {A : Type 0} (xs : List A) (x : A) (k : ℕ) (y : A) → slice_get (xs ++ x ∷ []) k ≡ Some y
+    → (slice_get xs k ≡ Some y) ⊎ ((k ≡ length xs) × (y ≡ x))
+at_last xs x k y f = elim (cases_lt k (length xs)) [
+  | inl l ↦ inl (sym (not_end xs x k (λ e. omega (arith, e, l))) ∙ f)
+  | inr g ↦ (let h = slice_get_within (xs ++ x ∷ []) k y f in
+      let l = length-append xs (x ∷ []) in
+      let e : k ≡ length xs = omega arith in
+      let p : Some y ≡ Some x = sym (subst (λ j. slice_get (xs ++ x ∷ []) j ≡ Some y) e f) ∙ at_end xs x in
+      inr (e, (let q : y ≡ x = cc in q)))
+]
+
+-- one more
+pub idle_more : {S : Type 0} (n : ℕ) (cs ds : List (Worker S)) (c : Worker S) → AreAssigned n [] cs → ds ≡ cs ++ c ∷ [] → c.number ≡ n
+    → c.racers.items ≡ [] → AreAssigned (n + 1) [] ds
+idle_more n cs ds c a is number none = subst (AreAssigned (n + 1) []) (sym is) (record {
+  count = length-append cs (c ∷ []) ∙ ap (λ k. k + 1) a.count;
+  numbers = λ k d f. elim (at_last cs c k d f) [
+    | inl h ↦ a.numbers k d h
+    | inr h ↦ ap (λ (x : Worker _). x.number) h.1 ∙ number ∙ sym (h.0 ∙ a.count)
+  ];
+  each = λ k d f slot. elim (at_last cs c k d f) [
+    | inl h ↦ a.each k d h slot
+    | inr h ↦ ap (λ (x : Worker _). slice_get x.racers.items slot) h.1 ∙ ap (λ (ys : List (Racer _)). slice_get ys slot) none
+  ];
+})

@@ -1,4 +1,4 @@
-use Rattle.std.proofs.Common.{◌≡◌, ◌+◌, ◌≤◌, List, length, drop, take, sym, ap, subst, ◌∙◌, arith}
+use Rattle.std.proofs.Common.{◌≡◌, ◌+◌, ◌≤◌, List, length, drop, take, sym, ap, subst, ◌∙◌, arith, rules}
 use Rattle.std.specs.List.{All, flat_map}
 use Rattle.std.proofs.lemmas.List.{with_items_is}
 use Rattle.players.specs.declared.racer.Racer.{Racer}
@@ -9,6 +9,7 @@ use Rattle.tect_race.specs.Ready.{IsOfClient}
 use Rattle.tect_race.proofs.Coming.{come_on}
 use Rattle.tect_race.proofs.Collecting.{zip_length}
 use Rattle.tect_race.proofs.Parts.{none_yet}
+use Rattle.std.proofs.lemmas.Option.{slice_get_within}
 use Rattle.tect_race.proofs.rounds.end_at_dump.Goals as goal
 
 pub returns-clause-dumped : goal.returns-clause-dumped
@@ -41,3 +42,13 @@ returns-clause-dumped g c =
           (drop next ls) e.clock l c.push.new.self.items)
           (sym (with_items_is c.in_ok-racers.racers us len)) kept;
     }
+
+pub run_part-requires-clause-part : goal.run_part-requires-clause-part
+run_part-requires-clause-part g c κs within =
+    let below = slice_get_within c.args.shared.now.lines.now c.args.dump _ c.requires.dump in
+    (c.requires.come.low, omega (arith, below))
+
+pub overflow_add-result : goal.overflow_add-result
+overflow_add-result g c =
+    let below = slice_get_within c.args.shared.now.lines.now c.args.dump _ c.requires.dump in
+    search (rules, below, c.well_formed)

@@ -1,8 +1,9 @@
 use Rattle.std.proofs.Common.{◌≡◌, ◌+◌, ◌-◌, ◌<◌, ◌≤◌, ◌∷◌, ◌++◌, [], List, length, take, drop, get_or, sym, ap, subst, ◌∙◌, arith}
 use Rattle.std.proofs.lemmas.List.{take_all, take_more}
+use Rattle.std.proofs.lemmas.List.Elements.{All-get_or}
 use Rattle.tect_ids.specs.declared.script.Line.{Line}
 use Rattle.tect_race.specs.Workers.{WorkerRan}
-use Rattle.tect_race.specs.Ready.{IsWorker}
+use Rattle.tect_race.specs.Ready.{IsOfClient, IsWorker}
 use Rattle.tect_race.proofs.WorkerLines.{worker_ran_none, worker_ran_on, worker_ready_on}
 use Rattle.tect_race.proofs.Parts.{length_part, next_line}
 use Rattle.tect_race.proofs.workers.run_worker.Goals as goal
@@ -58,3 +59,25 @@ returns g c =
             c.lines.invariant.ready;
       };
     }
+
+pub play_line-requires-clause-client : goal.play_line-requires-clause-client
+play_line-requires-clause-client g c =
+    let part : List Line = take (c.args.end - c.args.start) (drop c.args.start c.args.shared.now.lines.now) in
+    let within : c.lines.line-index < length part = c.lines-test.true in
+    let line : Line = c.line-item.result in
+    subst (IsOfClient (length c.args.shared.now.clients.now)) (sym c.line-item.is)
+    (All-get_or (IsOfClient (length c.args.shared.now.clients.now)) part c.lines.line-index line within c.requires.clients)
+
+pub play_line-requires-clause-ready : goal.play_line-requires-clause-ready
+play_line-requires-clause-ready g c =
+    let part : List Line = take (c.args.end - c.args.start) (drop c.args.start c.args.shared.now.lines.now) in
+    let within : c.lines.line-index < length part = c.lines-test.true in
+    let line : Line = c.line-item.result in
+    let is : get_or part c.lines.line-index line ≡ line = sym c.line-item.is in
+    let left = next_line c.args.shared.now.lines.now c.args.start c.args.end c.lines.line-index line c.requires.part.0 c.requires.part.1
+    within in (
+      drop (c.args.start + (c.lines.line-index + 1)) c.args.shared.now.lines.now,
+      subst (λ (ls : List Line). IsWorker g.P.Programs.rules c.args.shared.now.places.now (length c.args.shared.now.clients.now)
+          c.args.shared.now.worker_count ls c.lines.worker)
+          (left ∙ ap (λ x. x ∷ drop (c.args.start + (c.lines.line-index + 1)) c.args.shared.now.lines.now) is) c.lines.invariant.ready,
+    )
