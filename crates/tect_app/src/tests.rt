@@ -132,15 +132,15 @@ fn looks(alloc: Global, count: u32) -> Result<Vec<u8>, AllocError> {
 
 #[test]
 fn a_report_of_a_race_is_cut(rt: HostRuntime) -> Result<(), Fail> {
-    // The report is longer than one piece, and the sink fails at the second.
+    // Each line is a piece, and the sink fails at the second.
     let words = ["race", "--workers", "2"];
-    let input = looks(rt.alloc(), 5000)?;
+    let input = looks(rt.alloc(), 50)?;
     let (status, whole) = outcome(&rt, rt.alloc(), &words, &input, &[], &[])?;
     assert_eq!(rt; status, 0);
     let (status, cut) = outcome(&rt, rt.alloc(), &words, &input, &[], &[2])?;
     assert_eq!(rt; status, 5);
     assert!(rt; whole.starts_with(&cut));
-    assert!(rt; 65_536 <= cut.len() && cut.len() < whole.len());
+    assert!(rt; 0 < cut.len() && cut.len() < 64 && 64 < whole.len());
     Ok(())
 }
 
