@@ -1,3 +1,4 @@
+pub mod Ways
 pub mod Sound
 pub mod Granted
 pub mod TreeSteps

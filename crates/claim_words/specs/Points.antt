@@ -12,17 +12,17 @@ use Rattle.tect_ids.specs.declared.command.Command.TheVariants as commands
 use Rattle.tect_ids.specs.declared.answer.Answer.{Answer}
 use Rattle.tect_ids.specs.declared.answer.Answer.TheVariants as answers
 use Rattle.tect_ids.specs.Keys.{op_eq}
+use Rattle.tect_ids.specs.Paths.{last_name}
+use Rattle.tect_ids.specs.Numbers.{root}
+use Rattle.tect_ids.specs.Refusals.{refusal_answer}
 use Rattle.store_rules.specs.Names.{key_in}
 use Rattle.tree_model.specs.declared.step.TreeStep.{TreeStep}
 use Rattle.tree_model.specs.declared.step.TreeStep.TheVariants as step
 use Rattle.tree_model.specs.declared.step.StepValue.TheVariants as shown
-use Rattle.tree_model.specs.declared.step.Refusal.{Refusal}
-use Rattle.tree_model.specs.declared.step.Refusal.TheVariants as refusal
 use Rattle.tree_model.specs.declared.step.TreeReply.{TreeReply}
 use Rattle.tree_model.specs.declared.step.TreeReply.TheVariants.{Ok, Refused}
 use Rattle.tree_model.specs.Tree.{tree_reply, opening_tree}
-use Rattle.program_rules.specs.Paths.{last_name}
-use Rattle.program_rules.specs.Programs.{root, way}
+use Rattle.claim_words.specs.Ways.{way}
 use Rattle.claim_words.specs.TreeSteps.{Told, tree_after}
 
 -- the steps of one op
@@ -43,25 +43,14 @@ abbrev pub Seen : List Told → TreeStep → TreeReply → Type 0
 Seen [] does said = ⊥
 Seen (s ∷ ss) does said = ((s.does ≡ does) × (s.says ≡ said)) ⊎ Seen ss does said
 
--- the answer that a refusal makes, of a step at this entry
-abbrev pub refused_answer : Key → Refusal → Answer
-refused_answer k refusal.NoDir = answers.NoDir
-refused_answer k refusal.NoName = answers.NoName
-refused_answer k refusal.NoFile = answers.NoFile
-refused_answer k refusal.Exists = answers.Exists
-refused_answer k refusal.IsDir = answers.IsDir
-refused_answer k refusal.Sealed = answers.Sealed
-refused_answer k refusal.Full = answers.Full (k.dir).0
-refused_answer k (refusal.Changed now) = answers.Changed k now
-
 -- the answer that what was said makes, where Ok makes this one
 abbrev pub done_answer : Key → Answer → TreeReply → Answer
 done_answer k a (Ok x) = a
-done_answer k a (Refused why) = refused_answer k why
+done_answer k a (Refused why) = refusal_answer k why
 
 -- a look on the way that ends a command
 abbrev pub StopsWalk : Key → TreeReply → Answer → Type 0
-StopsWalk k (Refused why) a = a ≡ refused_answer k why
+StopsWalk k (Refused why) a = a ≡ refusal_answer k why
 StopsWalk k (Ok (shown.Node (File f))) a = a ≡ answers.NotDir
 StopsWalk k (Ok (shown.Node (Dir d))) a = ⊥
 StopsWalk k (Ok shown.Done) a = ⊥
@@ -69,14 +58,14 @@ StopsWalk k (Ok (shown.Parent p sealed)) a = ⊥
 StopsWalk k (Ok (shown.Entries sealed items)) a = ⊥
 
 abbrev pub Finds : Key → TreeReply → Answer → Type 0
-Finds k (Refused why) a = a ≡ refused_answer k why
+Finds k (Refused why) a = a ≡ refusal_answer k why
 Finds k (Ok (shown.Node n)) a = a ≡ answers.Found n
 Finds k (Ok shown.Done) a = ⊥
 Finds k (Ok (shown.Parent p sealed)) a = ⊥
 Finds k (Ok (shown.Entries sealed items)) a = ⊥
 
 abbrev pub Lists : Key → TreeReply → Answer → Type 0
-Lists k (Refused why) a = a ≡ refused_answer k why
+Lists k (Refused why) a = a ≡ refusal_answer k why
 Lists k (Ok (shown.Entries sealed items)) a = a ≡ answers.Entries items
 Lists k (Ok shown.Done) a = ⊥
 Lists k (Ok (shown.Parent p sealed)) a = ⊥
@@ -84,13 +73,13 @@ Lists k (Ok (shown.Node n)) a = ⊥
 
 -- a rename's look ends it where it is refused, and where the names are equal
 abbrev pub FindsSource : Key → List ℕ → TreeReply → Answer → Type 0
-FindsSource k to (Refused why) a = a ≡ refused_answer k why
+FindsSource k to (Refused why) a = a ≡ refusal_answer k why
 FindsSource k to (Ok x) a = (k.name ≡ to) × (a ≡ answers.Done)
 
 -- a refusal ends the command
 abbrev pub IsRefusal : Key → TreeReply → Answer → Type 0
 IsRefusal k (Ok x) a = ⊥
-IsRefusal k (Refused why) a = a ≡ refused_answer k why
+IsRefusal k (Refused why) a = a ≡ refusal_answer k why
 
 -- the rename had found this node under the old name
 abbrev pub FoundSource : List Told → DirId → List (List ℕ) → Node → Type 0
@@ -152,7 +141,7 @@ pub record Point (history : List Told) (op : OpId) (c : Command) (a : Answer) : 
   pub dir : DirId
   pub left : List (List ℕ)
   pub walked : Walked root (way c) (of_op op before) dir left
-  pub by_tree : point.says ≡ tree_reply (tree_after opening_tree before) point.does
+  pub by_tree : point.says ≡ tree_reply (tree_after opening_tree before) op point.does
   pub decides : DecidesAt c (of_op op before) dir left point.does point.says a
 
 -- a command that needs a last name is refused for want of one without any step

@@ -17,7 +17,7 @@ use Rattle.store_rules.specs.declared.any.AnyReply.TheVariants as any_reply
 use Rattle.tree_model.specs.declared.step.TreeStep.{TreeStep}
 use Rattle.tree_model.specs.declared.step.TreeStep.TheVariants as step
 use Rattle.tree_model.specs.declared.step.StepValue.TheVariants as shown
-use Rattle.tree_model.specs.declared.step.Refusal.TheVariants.{NoDir, NoName, NoFile, Exists, IsDir, Sealed, Full, Changed}
+use Rattle.tect_ids.specs.declared.values.Refusal.TheVariants.{Exists}
 use Rattle.tree_model.specs.declared.step.TreeReply.{TreeReply}
 use Rattle.tree_model.specs.declared.step.TreeReply.TheVariants.{Ok, Refused}
 use Rattle.tree_model.specs.Tree.{Tree, Allowed, tree_next}
@@ -36,21 +36,15 @@ name_says (name_replies.Swapped h old) = Ok shown.Done
 name_says (name_replies.Unbound n h) = Ok shown.Done
 name_says name_replies.Granted = Ok shown.Done
 name_says (name_replies.Released was) = Ok shown.Done
-name_says name_replies.NoDir = Refused NoDir
-name_says name_replies.NoName = Refused NoName
 name_says name_replies.HasId = Refused Exists
-name_says name_replies.Sealed = Refused Sealed
-name_says name_replies.Exists = Refused Exists
-name_says name_replies.IsDir = Refused IsDir
-name_says name_replies.Full = Refused Full
-name_says (name_replies.Changed now) = Refused (Changed now)
+name_says (name_replies.Refused why) = Refused why
 
 abbrev pub file_says : FileReply → TreeReply
 file_says file_replies.Made = Ok shown.Done
 file_says file_replies.Granted = Ok shown.Done
 file_says (file_replies.Released was) = Ok shown.Done
 file_says file_replies.HasId = Refused Exists
-file_says file_replies.NoFile = Refused NoFile
+file_says (file_replies.Refused why) = Refused why
 
 abbrev pub says : AnyReply → TreeReply
 says (any_reply.Name x) = name_says x
@@ -111,9 +105,9 @@ tree_steps (e ∷ es) = told_of e ++ tree_steps es
 -- the tree after steps to which this was said
 abbrev pub tree_after : Tree → List Told → Tree
 tree_after t [] = t
-tree_after t (s ∷ ss) = tree_after (tree_next t s.does s.says) ss
+tree_after t (s ∷ ss) = tree_after (tree_next t s.op s.does s.says) ss
 
 -- they are a run of the small machine: the tree allows what was said to each
 abbrev pub IsTreeRun : Tree → List Told → Type 0
 IsTreeRun t [] = Unit {0}
-IsTreeRun t (s ∷ ss) = Allowed t s.does s.says × IsTreeRun (tree_next t s.does s.says) ss
+IsTreeRun t (s ∷ ss) = Allowed t s.op s.does s.says × IsTreeRun (tree_next t s.op s.does s.says) ss

@@ -13,7 +13,8 @@ use Rattle.store_rules.specs.declared.files.File.{File}
 use Rattle.store_rules.specs.declared.files.FileReq.{FileReq}
 use Rattle.store_rules.specs.declared.files.FileReq.TheVariants as req
 use Rattle.store_rules.specs.declared.files.FileReply.{FileReply}
-use Rattle.store_rules.specs.declared.files.FileReply.TheVariants.{Made, Granted, Released, HasId, NoFile}
+use Rattle.store_rules.specs.declared.files.FileReply.TheVariants.{Made, Granted, Released, HasId, Refused}
+use Rattle.tect_ids.specs.declared.values.Refusal.TheVariants.{NoFile}
 use Rattle.store_rules.specs.Outcomes.{Outcome, Leaves, Changes, changes, refuse, found}
 
 abbrev pub Files : Type 0
@@ -33,7 +34,7 @@ make_file_change s f h k t = set_at s f (Some record { token = t; holds = set_at
 
 -- Grant
 abbrev pub grant_file_answer : Files → FileId → Outcome FileReply
-grant_file_answer s f = found (get s f) NoFile (λ x. Changes Granted)
+grant_file_answer s f = found (get s f) (Refused NoFile) (λ x. Changes Granted)
 
 abbrev pub grant_file_change : Files → FileId → Hold → Key → Files
 grant_file_change s f h k = set_at s f (file_with_hold (get s f) h (Some (uppers.Entry k)))
@@ -49,17 +50,26 @@ release_file_answer s f h = refuse (not (is_some (file_lists (get s f) h))) (Rel
 abbrev pub release_file_change : Files → FileId → Hold → Files
 release_file_change s f h = set_at s f (file_with_hold (get s f) h None)
 
--- the whole table
-abbrev pub file_answer : Files → FileReq → Outcome FileReply
-file_answer s (req.MakeFile f h k t) = make_file_answer s f
-file_answer s (req.Grant f h k) = grant_file_answer s f
-file_answer s (req.Release f h) = release_file_answer s f h
+-- The rule of a request: the file that it concerns, what is answered, what is changed where it is not refused, and whether it is done
+-- without memory.
+pub record FileRule : Type 0 where
+  pub file : FileId
+  pub answer : Files → Outcome FileReply
+  pub change : Files → Files
+  pub free : Bool
 
--- what a request does where it is not refused
+-- the whole table
+abbrev pub file_rule : FileReq → FileRule
+file_rule (req.MakeFile f h k t) =
+    record { file = f; answer = λ s. make_file_answer s f; change = λ s. make_file_change s f h k t; free = false }
+file_rule (req.Grant f h k) = record { file = f; answer = λ s. grant_file_answer s f; change = λ s. grant_file_change s f h k; free = false }
+file_rule (req.Release f h) = record { file = f; answer = λ s. release_file_answer s f h; change = λ s. release_file_change s f h; free = true }
+
+abbrev pub file_answer : Files → FileReq → Outcome FileReply
+file_answer s q = (file_rule q).answer s
+
 abbrev pub file_change : Files → FileReq → Files
-file_change s (req.MakeFile f h k t) = make_file_change s f h k t
-file_change s (req.Grant f h k) = grant_file_change s f h k
-file_change s (req.Release f h) = release_file_change s f h
+file_change s q = (file_rule q).change s
 
 abbrev pub file_step : Files → FileReq → Files
 file_step s r = if changes (file_answer s r) then file_change s r else s

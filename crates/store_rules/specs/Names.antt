@@ -25,8 +25,8 @@ use Rattle.store_rules.specs.declared.names.NameReq.{NameReq}
 use Rattle.store_rules.specs.declared.names.NameReq.TheVariants as req
 use Rattle.store_rules.specs.declared.names.NameReply.{NameReply}
 use Rattle.store_rules.specs.declared.names.NameReply.TheVariants.{DirIs, Found, Listing, Made, Bound, Swapped, Unbound}
-use Rattle.store_rules.specs.declared.names.NameReply.TheVariants.{Granted, Released, NoDir, NoName, HasId, Sealed}
-use Rattle.store_rules.specs.declared.names.NameReply.TheVariants.{Exists, IsDir, Full, Changed}
+use Rattle.store_rules.specs.declared.names.NameReply.TheVariants.{Granted, Released, HasId, Refused}
+use Rattle.tect_ids.specs.declared.values.Refusal.TheVariants.{NoDir, NoName, Exists, IsDir, Sealed, Full, Changed}
 use Rattle.store_rules.specs.Outcomes.{Outcome, Leaves, Changes, changes, refuse, found}
 
 pub record Names : Type 0 where
@@ -80,18 +80,18 @@ dir_with_hold (Some d) h u = Some record d { holds = set_at d.holds h u }
 
 -- CheckDir
 abbrev pub check_dir_answer : Names → DirId → Outcome NameReply
-check_dir_answer s d = found (get s.dirs d) NoDir (λ x. Leaves (DirIs x.parent x.sealed))
+check_dir_answer s d = found (get s.dirs d) (Refused NoDir) (λ x. Leaves (DirIs x.parent x.sealed))
 
 -- Look
 abbrev pub look_answer : Names → Key → Outcome NameReply
-look_answer s k = found (get s.dirs k.dir) NoDir (λ d. found (get s.entries k) NoName (λ e. Leaves (Found e.node)))
+look_answer s k = found (get s.dirs k.dir) (Refused NoDir) (λ d. found (get s.entries k) (Refused NoName) (λ e. Leaves (Found e.node)))
 
 -- List
 abbrev pub listed : Key × DirectoryEntry → Listed
 listed e = record { name = (e.0).name; node = (e.1).node }
 
 abbrev pub list_answer : Names → DirId → Outcome NameReply
-list_answer s d = found (get s.dirs d) NoDir (λ x. Leaves (Listing x.sealed (map listed (entries (within s.entries d)))))
+list_answer s d = found (get s.dirs d) (Refused NoDir) (λ x. Leaves (Listing x.sealed (map listed (entries (within s.entries d)))))
 
 -- MakeDir
 abbrev pub make_dir_answer : Names → DirId → Outcome NameReply
@@ -102,14 +102,14 @@ make_dir_change s d p h k = set_dir s d (Some record { parent = p; sealed = fals
 
 -- Bind: what stands at the name decides
 abbrev pub bind_over : Names → Key → Option DirectoryEntry → Over → Outcome NameReply
-bind_over s k (Some e) over.Absent = Leaves Exists
-bind_over s k (Some e) over.File = refuse (not (is_file e.node)) IsDir (Changes (Bound (Some (replaced e))))
-bind_over s k None o = refuse (nat_le entry_limit (len (within s.entries k.dir))) Full (Changes (Bound None))
+bind_over s k (Some e) over.Absent = Leaves (Refused Exists)
+bind_over s k (Some e) over.File = refuse (not (is_file e.node)) (Refused IsDir) (Changes (Bound (Some (replaced e))))
+bind_over s k None o = refuse (nat_le entry_limit (len (within s.entries k.dir))) (Refused Full) (Changes (Bound None))
 
 abbrev pub bind_answer : Names → Key → Over → Outcome NameReply
 bind_answer s k o =
-    found (get s.dirs k.dir) NoDir (λ d.
-    refuse d.sealed Sealed
+    found (get s.dirs k.dir) (Refused NoDir) (λ d.
+    refuse d.sealed (Refused Sealed)
     (bind_over s k (get s.entries k) o))
 
 abbrev pub bind_change : Names → Key → Node → Hold → Names
@@ -119,16 +119,16 @@ bind_change s k n h = set_entry s k (Some record { node = n; hold = h })
 abbrev pub swap_over : Option DirectoryEntry → Node → Hold → Outcome NameReply
 swap_over None n was = Changes (Swapped was None)
 swap_over (Some e) n was =
-    refuse (not (is_file e.node)) IsDir
-    (refuse (not (is_file n)) Exists
+    refuse (not (is_file e.node)) (Refused IsDir)
+    (refuse (not (is_file n)) (Refused Exists)
     (Changes (Swapped was (Some (replaced e)))))
 
 abbrev pub swap_answer : Names → DirId → List ℕ → List ℕ → Node → Outcome NameReply
 swap_answer s d from to n =
-    found (get s.dirs d) NoDir (λ x.
-    refuse x.sealed Sealed
-    (found (get s.entries (key_in d from)) (Changed None) (λ e.
-    refuse (not (node_eq e.node n)) (Changed (Some e.node))
+    found (get s.dirs d) (Refused NoDir) (λ x.
+    refuse x.sealed (Refused Sealed)
+    (found (get s.entries (key_in d from)) (Refused (Changed None)) (λ e.
+    refuse (not (node_eq e.node n)) (Refused (Changed (Some e.node)))
     (swap_over (get s.entries (key_in d to)) n e.hold))))
 
 abbrev pub swap_change : Names → DirId → List ℕ → List ℕ → Node → Hold → Names
@@ -136,23 +136,23 @@ swap_change s d from to n h = set_entry (set_entry s (key_in d from) None) (key_
 
 -- Unbind: of any file, or of just this node
 abbrev pub unbind_any : Option DirectoryEntry → Outcome NameReply
-unbind_any None = Leaves NoName
-unbind_any (Some e) = refuse (not (is_file e.node)) IsDir (Changes (Unbound e.node e.hold))
+unbind_any None = Leaves (Refused NoName)
+unbind_any (Some e) = refuse (not (is_file e.node)) (Refused IsDir) (Changes (Unbound e.node e.hold))
 
 abbrev pub unbind_node : Option DirectoryEntry → Node → Outcome NameReply
-unbind_node None n = Leaves (Changed None)
-unbind_node (Some e) n = refuse (not (node_eq e.node n)) (Changed (Some e.node)) (Changes (Unbound e.node e.hold))
+unbind_node None n = Leaves (Refused (Changed None))
+unbind_node (Some e) n = refuse (not (node_eq e.node n)) (Refused (Changed (Some e.node))) (Changes (Unbound e.node e.hold))
 
 abbrev pub unbind_want : Option DirectoryEntry → Want → Outcome NameReply
 unbind_want e AnyFile = unbind_any e
 unbind_want e (Exactly n) = unbind_node e n
 
 abbrev pub unbind_answer : Names → Key → Want → Outcome NameReply
-unbind_answer s k w = found (get s.dirs k.dir) NoDir (λ d. refuse d.sealed Sealed (unbind_want (get s.entries k) w))
+unbind_answer s k w = found (get s.dirs k.dir) (Refused NoDir) (λ d. refuse d.sealed (Refused Sealed) (unbind_want (get s.entries k) w))
 
 -- Grant
 abbrev pub grant_dir_answer : Names → DirId → Outcome NameReply
-grant_dir_answer s d = found (get s.dirs d) NoDir (λ x. Changes Granted)
+grant_dir_answer s d = found (get s.dirs d) (Refused NoDir) (λ x. Changes Granted)
 
 abbrev pub grant_dir_change : Names → DirId → Hold → Key → Names
 grant_dir_change s d h k = set_dir s d (dir_with_hold (get s.dirs d) h (Some (uppers.Entry k)))
@@ -168,29 +168,39 @@ release_dir_answer s d h = refuse (not (is_some (dir_lists (get s.dirs d) h))) (
 abbrev pub release_dir_change : Names → DirId → Hold → Names
 release_dir_change s d h = set_dir s d (dir_with_hold (get s.dirs d) h None)
 
--- the whole table
-abbrev pub name_answer : Names → NameReq → Outcome NameReply
-name_answer s (req.CheckDir d) = check_dir_answer s d
-name_answer s (req.Look k) = look_answer s k
-name_answer s (req.List d) = list_answer s d
-name_answer s (req.MakeDir d p h k) = make_dir_answer s d
-name_answer s (req.Bind k n h o) = bind_answer s k o
-name_answer s (req.Swap d from to n h) = swap_answer s d from to n
-name_answer s (req.Unbind k w) = unbind_answer s k w
-name_answer s (req.Grant d h k) = grant_dir_answer s d
-name_answer s (req.Release d h) = release_dir_answer s d h
+-- The rule of a request: the directory that it concerns, what is answered, what is changed where it is not refused, and whether it is
+-- done without memory.
+pub record NameRule : Type 0 where
+  pub dir : DirId
+  pub answer : Names → Outcome NameReply
+  pub change : Names → Names
+  pub free : Bool
 
--- what a request does where it is not refused
+-- one that only reads a directory, and takes no memory for that
+abbrev pub reading : DirId → (Names → Outcome NameReply) → NameRule
+reading d answer = record { dir = d; answer = answer; change = λ s. s; free = true }
+
+-- the whole table
+abbrev pub name_rule : NameReq → NameRule
+name_rule (req.CheckDir d) = reading d (λ s. check_dir_answer s d)
+name_rule (req.Look k) = reading k.dir (λ s. look_answer s k)
+name_rule (req.List d) = record (reading d (λ s. list_answer s d)) { free = false }
+name_rule (req.MakeDir d p h k) =
+    record { dir = d; answer = λ s. make_dir_answer s d; change = λ s. make_dir_change s d p h k; free = false }
+name_rule (req.Bind k n h o) = record { dir = k.dir; answer = λ s. bind_answer s k o; change = λ s. bind_change s k n h; free = false }
+name_rule (req.Swap d from to n h) =
+    record { dir = d; answer = λ s. swap_answer s d from to n; change = λ s. swap_change s d from to n h; free = false }
+name_rule (req.Unbind k w) = record { dir = k.dir; answer = λ s. unbind_answer s k w; change = λ s. set_entry s k None; free = true }
+name_rule (req.Grant d h k) =
+    record { dir = d; answer = λ s. grant_dir_answer s d; change = λ s. grant_dir_change s d h k; free = false }
+name_rule (req.Release d h) =
+    record { dir = d; answer = λ s. release_dir_answer s d h; change = λ s. release_dir_change s d h; free = true }
+
+abbrev pub name_answer : Names → NameReq → Outcome NameReply
+name_answer s q = (name_rule q).answer s
+
 abbrev pub name_change : Names → NameReq → Names
-name_change s (req.CheckDir d) = s
-name_change s (req.Look k) = s
-name_change s (req.List d) = s
-name_change s (req.MakeDir d p h k) = make_dir_change s d p h k
-name_change s (req.Bind k n h o) = bind_change s k n h
-name_change s (req.Swap d from to n h) = swap_change s d from to n h
-name_change s (req.Unbind k w) = set_entry s k None
-name_change s (req.Grant d h k) = grant_dir_change s d h k
-name_change s (req.Release d h) = release_dir_change s d h
+name_change s q = (name_rule q).change s
 
 abbrev pub name_step : Names → NameReq → Names
 name_step s r = if changes (name_answer s r) then name_change s r else s

@@ -7,28 +7,19 @@ use Rattle.tect_ids.specs.declared.ids.Layer.TheVariants as layers
 use Rattle.tect_ids.specs.declared.ids.Place.{Place}
 use Rattle.tect_ids.specs.Places.{place_number}
 use Rattle.store_rules.specs.declared.names.NameReq.{NameReq}
-use Rattle.store_rules.specs.declared.names.NameReq.TheVariants as names
 use Rattle.store_rules.specs.declared.files.FileReq.{FileReq}
-use Rattle.store_rules.specs.declared.files.FileReq.TheVariants as files
 use Rattle.store_rules.specs.declared.any.AnyReq.{AnyReq}
 use Rattle.store_rules.specs.declared.any.AnyReq.TheVariants as any
+use Rattle.store_rules.specs.Names.{name_rule}
+use Rattle.store_rules.specs.Files.{file_rule}
 
 -- the directory that a request concerns
 abbrev pub dir_of : NameReq → DirId
-dir_of (names.CheckDir d) = d
-dir_of (names.Look k) = k.dir
-dir_of (names.List d) = d
-dir_of (names.MakeDir d p h k) = d
-dir_of (names.Bind k n h o) = k.dir
-dir_of (names.Swap d from to n h) = d
-dir_of (names.Unbind k w) = k.dir
-dir_of (names.Grant d h k) = d
-dir_of (names.Release d h) = d
+dir_of q = (name_rule q).dir
 
+-- the file that a request concerns
 abbrev pub file_of : FileReq → FileId
-file_of (files.MakeFile f h k t) = f
-file_of (files.Grant f h k) = f
-file_of (files.Release f h) = f
+file_of q = (file_rule q).file
 
 -- the shard that a request goes to
 abbrev pub request_place : Counts → AnyReq → Place

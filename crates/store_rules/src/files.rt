@@ -1,5 +1,5 @@
 use key_maps::HoldList;
-use tect_ids::{FileId, Hold, Key, Token};
+use tect_ids::{FileId, Hold, Key, Refusal, Token};
 
 /// A file as its shard keeps it.
 #[derive(Drop)]
@@ -34,6 +34,7 @@ pub enum FileReply {
     Made,
     Granted,
     Released { was: bool },
+    /// A file with that identifier stands. No command answers it.
     HasId,
-    NoFile,
+    Refused { why: Refusal },
 }

@@ -1,5 +1,5 @@
 use key_maps::HoldList;
-use tect_ids::{DirId, FileId, Hold, Items, Key, Listed, Name, Node, Over, Want};
+use tect_ids::{DirId, FileId, Hold, Items, Key, Listed, Name, Node, Over, Refusal, Want};
 
 /// A directory as its shard keeps it. Its entries stand beside it, each under its own key.
 #[derive(Drop)]
@@ -81,12 +81,7 @@ pub enum NameReply {
     Unbound { node: Node, hold: Hold },
     Granted,
     Released { was: bool },
-    NoDir,
-    NoName,
+    /// An object with that identifier stands. No command answers it.
     HasId,
-    Sealed,
-    Exists,
-    IsDir,
-    Full,
-    Changed { now: Option<Node> },
+    Refused { why: Refusal },
 }

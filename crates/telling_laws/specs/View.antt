@@ -85,9 +85,9 @@ MakesNew made (any.File q) = FileMakesNew made q
 
 -- From the tree t on: no step, and the store shows t still; or a step to which t allows what was said, and the store shows
 -- the tree after it.
-abbrev pub TreeFollows : Tree → Store → Option TreeStep → TreeReply → Type 0
-TreeFollows t s None x = Shows s t
-TreeFollows t s (Some step) x = Allowed t step x × Shows s (tree_next t step x)
+abbrev pub TreeFollows : Tree → OpId → Store → Option TreeStep → TreeReply → Type 0
+TreeFollows t op s None x = Shows s t
+TreeFollows t op s (Some step) x = Allowed t op step x × Shows s (tree_next t op step x)
 
 -- the request, seen by the tree that the store shows
 abbrev pub StepShows : Store → Made → AnyReq → Type 0

@@ -4,6 +4,7 @@ use Rattle.std.specs.FinMap.{FinMap, empty, get, len, entries}
 use Rattle.ordered_rows.specs.Maps.{set_at}
 use Rattle.tect_ids.specs.declared.ids.DirId.{DirId}
 use Rattle.tect_ids.specs.declared.ids.Node.{Node}
+use Rattle.tect_ids.specs.declared.ids.OpId.{OpId}
 use Rattle.tect_ids.specs.declared.ids.Node.TheVariants.{Dir, File}
 use Rattle.tect_ids.specs.declared.key.Key.{Key}
 use Rattle.tect_ids.specs.declared.values.Listed.{Listed}
@@ -18,8 +19,8 @@ use Rattle.tree_model.specs.declared.step.TreeFile.{TreeFile}
 use Rattle.tree_model.specs.declared.step.TreeStep.{TreeStep}
 use Rattle.tree_model.specs.declared.step.TreeStep.TheVariants as step
 use Rattle.tree_model.specs.declared.step.StepValue.TheVariants as shown
-use Rattle.tree_model.specs.declared.step.Refusal.{Refusal}
-use Rattle.tree_model.specs.declared.step.Refusal.TheVariants.{NoDir, NoName, NoFile, Exists, IsDir, Sealed, Full, Changed}
+use Rattle.tect_ids.specs.declared.values.Refusal.{Refusal}
+use Rattle.tect_ids.specs.declared.values.Refusal.TheVariants.{NoDir, NoName, NoFile, Exists, IsDir, Sealed, Full, Changed}
 use Rattle.tree_model.specs.declared.step.TreeReply.{TreeReply}
 use Rattle.tree_model.specs.declared.step.TreeReply.TheVariants.{Ok, Refused}
 
@@ -78,56 +79,56 @@ unbind_reply (Some n) AnyFile = unless (is_dir n) IsDir (Ok shown.Done)
 unbind_reply None (Exactly want) = Refused (Changed None)
 unbind_reply (Some n) (Exactly want) = unless (not (node_eq n want)) (Changed (Some n)) (Ok shown.Done)
 
--- what the tree says to a step
-abbrev pub tree_reply : Tree → TreeStep → TreeReply
-tree_reply t (step.Check d) = finding (get t.dirs d) NoDir (λ x. Ok (shown.Parent x.parent x.sealed))
-tree_reply t (step.Look k) = finding (get t.dirs k.dir) NoDir (λ d. finding (get t.entries k) NoName (λ n. Ok (shown.Node n)))
-tree_reply t (step.List d) = finding (get t.dirs d) NoDir (λ x. Ok (shown.Entries x.sealed (map as_listed (entries (within t.entries d)))))
-tree_reply t (step.MakeDir d p) = unless (is_some (get t.made (Dir d))) Exists (Ok shown.Done)
-tree_reply t (step.MakeFile f token) = unless (is_some (get t.made (File f))) Exists (Ok shown.Done)
-tree_reply t (step.Bind k n o) = finding (get t.dirs k.dir) NoDir (λ d. unless d.sealed Sealed (bind_reply t k (get t.entries k) o))
-tree_reply t (step.Swap d from to n) =
+-- what the tree says to a step of that op
+abbrev pub tree_reply : Tree → OpId → TreeStep → TreeReply
+tree_reply t op (step.Check d) = finding (get t.dirs d) NoDir (λ x. Ok (shown.Parent x.parent x.sealed))
+tree_reply t op (step.Look k) = finding (get t.dirs k.dir) NoDir (λ d. finding (get t.entries k) NoName (λ n. Ok (shown.Node n)))
+tree_reply t op (step.List d) = finding (get t.dirs d) NoDir (λ x. Ok (shown.Entries x.sealed (map as_listed (entries (within t.entries d)))))
+tree_reply t op (step.MakeDir d p) = unless (is_some (get t.made (Dir d))) Exists (Ok shown.Done)
+tree_reply t op (step.MakeFile f token) = unless (is_some (get t.made (File f))) Exists (Ok shown.Done)
+tree_reply t op (step.Bind k n o) = finding (get t.dirs k.dir) NoDir (λ d. unless d.sealed Sealed (bind_reply t k (get t.entries k) o))
+tree_reply t op (step.Swap d from to n) =
     finding (get t.dirs d) NoDir (λ x.
     unless x.sealed Sealed
     (finding (get t.entries (at_name d from)) (Changed None) (λ o.
     unless (not (node_eq o n)) (Changed (Some o))
     (unless (name_eq from to) Exists
     (swap_reply (get t.entries (at_name d to)) n)))))
-tree_reply t (step.Unbind k w) = finding (get t.dirs k.dir) NoDir (λ d. unless d.sealed Sealed (unbind_reply (get t.entries k) w))
-tree_reply t (step.GrantDir d) = finding (get t.dirs d) NoDir (λ x. Ok shown.Done)
-tree_reply t (step.GrantFile f) = finding (get t.files f) NoFile (λ x. Ok shown.Done)
+tree_reply t op (step.Unbind k w) = finding (get t.dirs k.dir) NoDir (λ d. unless d.sealed Sealed (unbind_reply (get t.entries k) w))
+tree_reply t op (step.GrantDir d) = finding (get t.dirs d) NoDir (λ x. Ok shown.Done)
+tree_reply t op (step.GrantFile f) = finding (get t.files f) NoFile (λ x. Ok shown.Done)
 
 abbrev pub set_name : Tree → Key → Option Node → Tree
 set_name t k n = record t { entries = set_at t.entries k n }
 
--- what a step does where the tree says Ok
-abbrev pub tree_change : Tree → TreeStep → Tree
-tree_change t (step.Check d) = t
-tree_change t (step.Look k) = t
-tree_change t (step.List d) = t
-tree_change t (step.MakeDir d p) = record t {
+-- what a step of that op does where the tree says Ok
+abbrev pub tree_change : Tree → OpId → TreeStep → Tree
+tree_change t op (step.Check d) = t
+tree_change t op (step.Look k) = t
+tree_change t op (step.List d) = t
+tree_change t op (step.MakeDir d p) = record t {
   dirs = set_at t.dirs d (Some record { parent = p; sealed = false });
   made = set_at t.made (Dir d) (Some tt);
 }
-tree_change t (step.MakeFile f token) = record t {
+tree_change t op (step.MakeFile f token) = record t {
   files = set_at t.files f (Some record { token = token });
   made =
       set_at t.made (File f) (Some tt);
 }
-tree_change t (step.Bind k n o) = set_name t k (Some n)
-tree_change t (step.Swap d from to n) = set_name (set_name t (at_name d from) None) (at_name d to) (Some n)
-tree_change t (step.Unbind k w) = set_name t k None
-tree_change t (step.GrantDir d) = t
-tree_change t (step.GrantFile f) = t
+tree_change t op (step.Bind k n o) = set_name t k (Some n)
+tree_change t op (step.Swap d from to n) = set_name (set_name t (at_name d from) None) (at_name d to) (Some n)
+tree_change t op (step.Unbind k w) = set_name t k None
+tree_change t op (step.GrantDir d) = t
+tree_change t op (step.GrantFile f) = t
 
 abbrev pub is_ok : TreeReply → Bool
 is_ok (Ok x) = true
 is_ok (Refused why) = false
 
 -- the tree after a step to which this was said
-abbrev pub tree_next : Tree → TreeStep → TreeReply → Tree
-tree_next t s x = if is_ok x then tree_change t s else t
+abbrev pub tree_next : Tree → OpId → TreeStep → TreeReply → Tree
+tree_next t op s x = if is_ok x then tree_change t op s else t
 
 -- the tree allows this to be said to the step
-abbrev pub Allowed : Tree → TreeStep → TreeReply → Type 0
-Allowed t s x = x ≡ tree_reply t s
+abbrev pub Allowed : Tree → OpId → TreeStep → TreeReply → Type 0
+Allowed t op s x = x ≡ tree_reply t op s

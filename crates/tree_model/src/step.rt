@@ -1,4 +1,4 @@
-use tect_ids::{DirId, FileId, Items, Key, Listed, Name, Node, Over, Token, Want};
+use tect_ids::{DirId, FileId, Items, Key, Listed, Name, Node, Over, Refusal, Token, Want};
 
 /// A directory of the tree.
 #[derive(Clone, Copy, Debug, PartialEq, Eq)]
@@ -63,19 +63,6 @@ pub enum StepValue {
     Parent { parent: DirId, sealed: bool },
     Node { node: Node },
     Entries { sealed: bool, items: Items<Listed> },
-}
-
-/// Why a step is refused.
-#[derive(Clone, Copy, Debug, PartialEq, Eq)]
-pub enum Refusal {
-    NoDir,
-    NoName,
-    NoFile,
-    Exists,
-    IsDir,
-    Sealed,
-    Full,
-    Changed { now: Option<Node> },
 }
 
 /// What the tree says to a step.
