@@ -13,7 +13,7 @@ use Rattle.store_rules.specs.declared.names.DirectoryEntry.{DirectoryEntry}
 use Rattle.store_rules.specs.Names.{dir_lists}
 use Rattle.store_rules.specs.Files.{file_lists}
 use Rattle.store_rules.specs.Store.{Store, opening_store}
-use Rattle.program_rules.specs.Programs.{root}
+use Rattle.tect_ids.specs.Numbers.{root}
 use Rattle.world_runs.specs.declared.event.Event.{Event}
 use Rattle.world_runs.specs.OwnRuns.{stored_after}
 

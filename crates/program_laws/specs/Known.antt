@@ -7,6 +7,7 @@ use Rattle.tect_ids.specs.declared.ids.OpId.{OpId}
 use Rattle.tect_ids.specs.declared.answer.Answer.{Answer}
 use Rattle.tect_ids.specs.declared.answer.Answer.TheVariants as answers
 use Rattle.tect_ids.specs.Keys.{op_eq, node_eq}
+use Rattle.tect_ids.specs.Numbers.{object_number}
 use Rattle.store_rules.specs.declared.any.AnyReq.{AnyReq}
 use Rattle.program_forms.specs.Memories.{Memory}
 use Rattle.program_forms.specs.Kinds.{Does, Asks, Says}
@@ -33,10 +34,6 @@ is_odd _ = false
 -- no hold was granted by the op
 pub record IsNewOp (w : World) (op : OpId) : Type 0 where
   pub given : (h : Hold) → h.op ≡ op → w.ghost.given h ≡ None
-
--- the number that an actor gives to the object that it makes with that serial
-abbrev pub object_number : ℕ → ℕ → ℕ
-object_number actor serial = actor * 2 ^ 32 + serial
 
 -- what is so of an actor's memory: nothing was made yet from its serial on
 pub record Remembers (w : World) (a : ℕ) (m : Memory) : Type 0 where

@@ -10,6 +10,7 @@ use Rattle.tect_ids.specs.declared.key.Key.{Key}
 use Rattle.tect_ids.specs.declared.key.Upper.{Upper}
 use Rattle.tect_ids.specs.declared.key.Upper.TheVariants as uppers
 use Rattle.tect_ids.specs.Keys.{key_cmp}
+use Rattle.tect_ids.specs.Numbers.{root}
 use Rattle.store_rules.specs.declared.names.Directory.{Directory}
 use Rattle.store_rules.specs.declared.names.DirectoryEntry.{DirectoryEntry}
 use Rattle.store_rules.specs.Names.{dir_lists}
@@ -75,9 +76,6 @@ pub record SoundHolds (lists : Node → Hold → Option Upper) (dead : DirId →
 pub record SoundNodes (standing : Node → Bool) (made : Node → Bool) (home : Node → Option Key) : Type 0 where
   pub standing_made : (n : Node) → standing n ≡ true → made n ≡ true
   pub named_made : (n : Node) → is_some (home n) ≡ true → made n ≡ true
-
-abbrev pub root : DirId
-root = record { 0 = 1 }
 
 abbrev pub parent_in : Option Directory → Option DirId
 parent_in None = None
