@@ -1,7 +1,7 @@
 ghost use Rattle.std.specs.Prelude.{◌≡◌};
 
 use std::marker::Model;
-use tect_ids::{Hold, Node, ROOT};
+use tect_ids::{DirId, Hold, Node, ROOT};
 
 /// A directory or a file was made.
 #[derive(Debug, Drop)]
@@ -18,6 +18,24 @@ impl Model for Made {
     ghost coded = { node_code };
 
     ghost view = { λ made. made.node };
+}
+
+/// A directory was made.
+#[derive(Debug, Drop)]
+pub struct MadeDir {
+    dir: DirId,
+    made: Made,
+}
+
+impl Model for MadeDir {
+    ghost use Rattle.tect_ids.specs.declared.ids.DirId.{DirId};
+    ghost use Rattle.tect_calls.specs.MadeDirs.{IsOfDir};
+
+    ghost Value = { DirId };
+
+    ghost view = { λ made. made.dir };
+
+    ghost invariant = { IsOfDir };
 }
 
 /// A hold was granted, and its op did not bind it yet.
@@ -54,6 +72,13 @@ impl Model for Spent {
     ghost view = { λ spent. spent.hold };
 }
 
+/// A hold that is not bound, and never will be, with the node that lists it: it can be released there.
+#[derive(Debug, Drop)]
+pub struct Freed {
+    pub node: Node,
+    pub hold: Spent,
+}
+
 /// What a reply can teach: a token of any kind.
 #[derive(Debug, Drop)]
 pub enum Fact {
@@ -73,7 +98,41 @@ impl Made {
     }
 }
 
+impl MadeDir {
+    /// The root was made before anything else. It takes no memory.
+    pub fn root() -> MadeDir
+        ensures { result ≡ ROOT }
+    {
+        MadeDir {
+            dir: ROOT,
+            made: Made::root(),
+        }
+    }
+
+    /// The directory itself.
+    pub fn dir(&self) -> DirId
+        ensures { result ≡ self.now }
+    {
+        self.dir
+    }
+
+    /// The same as a token of any object.
+    pub fn made(&self) -> &Made
+        ensures { result.now ≡ Node.Dir self.now }
+    {
+        &self.made
+    }
+}
+
 impl Granted {
+    /// The hold itself.
+    pub fn hold(&self) -> Hold
+        ensures { result ≡ self.now }
+    {
+        self.hold
+    }
+
+
     /// The op gives its hold up: it will not bind it any more. It takes no memory.
     pub fn give_up(self) -> Spent
         ensures { result ≡ self }

@@ -1,0 +1,16 @@
+use tect_calls::MadeDir;
+use tect_ids::{Name, Path};
+
+/// A command that walks along a path, and does its operation in the directory to which the path leads.
+#[derive(Drop)]
+pub enum Walking<O, S> {
+    /// The name is to be looked up in the directory, and then those in `rest`; then the operation begins.
+    Way {
+        dir: MadeDir,
+        name: Name,
+        rest: Path,
+        operation: O,
+    },
+    /// The operation runs.
+    There { state: S },
+}
