@@ -1,4 +1,8 @@
-pub mod Paths
-pub mod Programs
-pub mod Asking
+pub mod NamePairs
+pub mod Look
+pub mod List
+pub mod Make
+pub mod Delete
+pub mod Rename
+pub mod Operations
 pub mod Served

@@ -1,18 +1,51 @@
--- The programs of the commands that are served, as functions.
-use Rattle.std.specs.Prelude.{Bool, true, false, Option, Some, None, []}
+-- Which commands are served, how each begins, and their programs: a walk, and then the operation.
+use Rattle.std.specs.Prelude.{ℕ, Bool, true, false, Option, Some, None, List, [], ◌∷◌}
 use Rattle.tect_ids.specs.declared.ids.Counts.{Counts}
-use Rattle.tect_ids.specs.declared.ids.OpId.{OpId}
 use Rattle.tect_ids.specs.declared.answer.Answer.{Answer}
-use Rattle.tect_ids.specs.declared.answer.Answer.TheVariants as answers
+use Rattle.tect_ids.specs.declared.answer.Answer.TheVariants.{NoName}
 use Rattle.tect_ids.specs.declared.command.Command.{Command}
 use Rattle.tect_ids.specs.declared.command.Command.TheVariants as commands
-use Rattle.store_rules.specs.declared.any.AnyReq.{AnyReq}
-use Rattle.store_rules.specs.declared.any.AnyReply.{AnyReply}
-use Rattle.store_rules.specs.Places.{request_place}
-use Rattle.program_forms.specs.Memories.{Memory}
-use Rattle.program_forms.specs.Kinds.{Does, Asks, Says, Programs}
-use Rattle.program_rules.specs.declared.program.Program.{Program}
-use Rattle.program_rules.specs.Programs.{object_number, phase_ask, phase_hear, phase_answer, started}
+use Rattle.tect_ids.specs.Numbers.{root}
+use Rattle.tect_ids.specs.Paths.{but_last, last_name}
+use Rattle.program_forms.specs.Kinds.{Programs}
+use Rattle.program_parts.specs.declared.next.Next.{Next}
+use Rattle.program_parts.specs.declared.next.Next.TheVariants.{Goes, Comes}
+use Rattle.program_parts.specs.declared.walking.Walking.{Walking}
+use Rattle.program_parts.specs.Parts.{kind_of}
+use Rattle.program_parts.specs.Walks.{walk_on, walking}
+use Rattle.program_rules.specs.declared.states.NewNode.TheVariants as new
+use Rattle.program_rules.specs.declared.operation.Operation.{Operation}
+use Rattle.program_rules.specs.declared.operation.Operation.TheVariants as operation
+use Rattle.program_rules.specs.declared.operation.OperationState.{OperationState}
+use Rattle.program_rules.specs.Operations.{begins_in, operations}
+
+-- a command walks along a path and then does its operation, or lacks a name that it needs
+pub data Begun : Type 0 where
+  Walks : List (List ℕ) → Operation → Begun
+  LacksName : Begun
+
+-- the last name, if there is one
+abbrev pub last_of : List (List ℕ) → Option (List ℕ)
+last_of [] = None
+last_of (n ∷ ns) = Some (last_name (n ∷ ns))
+
+-- to the directory of the path's last name, where the operation needs that name
+abbrev pub walks_to : List (List ℕ) → Option (List ℕ) → (List ℕ → Operation) → Begun
+walks_to p None f = LacksName
+walks_to p (Some n) f = Walks (but_last p) (f n)
+
+abbrev pub renames : List (List ℕ) → Option (List ℕ) → Option (List ℕ) → Begun
+renames p from None = LacksName
+renames p from (Some to) = walks_to p from (λ n. operation.Rename n to)
+
+abbrev pub begun : Command → Begun
+begun (commands.Look p) = Walks (but_last p) (operation.Look (last_of p))
+begun (commands.List p) = Walks p operation.List
+begun (commands.Create p) = walks_to p (last_of p) (λ n. operation.Make new.File n)
+begun (commands.Mkdir p) = walks_to p (last_of p) (λ n. operation.Make new.Dir n)
+begun (commands.Delete p) = walks_to p (last_of p) (λ n. operation.Delete n)
+begun (commands.Rename p to) = renames p (last_of p) (last_of to)
+begun _ = LacksName
 
 abbrev pub is_served : Command → Bool
 is_served (commands.Look p) = true
@@ -23,28 +56,18 @@ is_served (commands.Delete p) = true
 is_served (commands.Rename p to) = true
 is_served _ = false
 
--- A phase that has no request has its answer. One that has neither does not come: no served command begins without a name that
--- it needs.
-abbrev pub does_by : Option AnyReq → Option Answer → Does Answer
-does_by (Some q) a = Asks q
-does_by None (Some a) = Says a
-does_by None None = Says answers.NoName
+-- a running command: it walks, or is in a state of its operation, or has its answer
+abbrev pub Program : Type 0
+Program = Next (Walking Operation OperationState) Answer
 
-abbrev pub program_does : Counts → Memory → OpId → Program → Does Answer
-program_does counts m op p = does_by (phase_ask op (object_number op.actor m.serial) p.command p.phase) (phase_answer p.phase)
-
-abbrev pub program_hears : Counts → Memory → OpId → Program → AnyReq → AnyReply → Program
-program_hears counts m op p q x =
-    record p { phase = phase_hear (request_place counts q) op (object_number op.actor m.serial) p.command p.phase x }
+-- one that lacks a name has its answer at once
+abbrev pub started : Begun → Program
+started (Walks p o) = Goes (walk_on begins_in root p o)
+started LacksName = Comes NoName
 
 abbrev pub programs : Programs Program
 programs = record {
-  kind = record {
-    turns = λ counts m op p. record { memory = m; state = p };
-    does = program_does;
-    hears = program_hears;
-    learns = λ op p q x. [];
-  };
+  kind = kind_of (walking begins_in operations);
   serves = is_served;
-  starts = λ counts c. started c;
+  starts = λ counts c. started (begun c);
 }

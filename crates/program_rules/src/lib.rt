@@ -1,7 +1,11 @@
-//! The programs of the commands on names, as definitions: what each command asks, one request at a time, how it goes on at each
-//! reply, and the answer that it comes to.
+//! What each command on names asks, and how it goes on at a reply: the states of its operation, and the rules of each as functions. The
+//! rules of a command stand in a file of `specs` with its name.
 #![tactic(auto)]
 
-mod program;
+mod name_pair;
+mod operation;
+mod states;
 
-pub use program::{Phase, Program};
+pub use name_pair::NamePair;
+pub use operation::{Operation, OperationState};
+pub use states::{Delete, List, Look, Make, NewNode, Rename};

@@ -1,0 +1,64 @@
+-- All operations as one part, and how each begins. Each has a line in every function.
+use Rattle.std.specs.Prelude.{List}
+use Rattle.tect_ids.specs.declared.ids.Counts.{Counts}
+use Rattle.tect_ids.specs.declared.ids.DirId.{DirId}
+use Rattle.tect_ids.specs.declared.ids.OpId.{OpId}
+use Rattle.tect_ids.specs.declared.answer.Answer.{Answer}
+use Rattle.store_rules.specs.declared.any.AnyReq.{AnyReq}
+use Rattle.store_rules.specs.declared.any.AnyReply.{AnyReply}
+use Rattle.store_rules.specs.Names.{key_in}
+use Rattle.program_forms.specs.Memories.{Memory, Learnt}
+use Rattle.program_forms.specs.Kinds.{Turned}
+use Rattle.program_parts.specs.declared.next.Next.{Next}
+use Rattle.program_parts.specs.Parts.{Part, within, turned_within}
+use Rattle.program_rules.specs.declared.states.Make.TheVariants as making
+use Rattle.program_rules.specs.declared.states.Delete.TheVariants as deleting
+use Rattle.program_rules.specs.declared.states.Rename.TheVariants as renaming
+use Rattle.program_rules.specs.declared.operation.Operation.{Operation}
+use Rattle.program_rules.specs.declared.operation.Operation.TheVariants as operation
+use Rattle.program_rules.specs.declared.operation.OperationState.{OperationState}
+use Rattle.program_rules.specs.declared.operation.OperationState.TheVariants.{Look, List as Listing, Make, Delete, Rename}
+use Rattle.program_rules.specs.Look.{look, look_starts}
+use Rattle.program_rules.specs.List.{list}
+use Rattle.program_rules.specs.Make.{make}
+use Rattle.program_rules.specs.Delete.{delete}
+use Rattle.program_rules.specs.Rename.{rename}
+
+-- the operation as it begins in that directory
+abbrev pub begins_in : Operation → DirId → OperationState
+begins_in (operation.Look n) d = Look (look_starts n d)
+begins_in operation.List d = Listing record { dir = d }
+begins_in (operation.Make kind n) d = Make (making.New kind d n)
+begins_in (operation.Delete n) d = Delete (deleting.Unbind (key_in d n))
+begins_in (operation.Rename from to) d = Rename (renaming.Find d from to)
+
+abbrev pub operation_turns : Counts → Memory → OpId → OperationState → Turned (Next OperationState Answer)
+operation_turns c m op (Look s) = turned_within Look (look.turns c m op s)
+operation_turns c m op (Listing s) = turned_within Listing (list.turns c m op s)
+operation_turns c m op (Make s) = turned_within Make (make.turns c m op s)
+operation_turns c m op (Delete s) = turned_within Delete (delete.turns c m op s)
+operation_turns c m op (Rename s) = turned_within Rename (rename.turns c m op s)
+
+abbrev pub operation_asks : Counts → Memory → OpId → OperationState → AnyReq
+operation_asks c m op (Look s) = look.asks c m op s
+operation_asks c m op (Listing s) = list.asks c m op s
+operation_asks c m op (Make s) = make.asks c m op s
+operation_asks c m op (Delete s) = delete.asks c m op s
+operation_asks c m op (Rename s) = rename.asks c m op s
+
+abbrev pub operation_hears : Counts → Memory → OpId → OperationState → AnyReq → AnyReply → Next OperationState Answer
+operation_hears c m op (Look s) q x = within Look (look.hears c m op s q x)
+operation_hears c m op (Listing s) q x = within Listing (list.hears c m op s q x)
+operation_hears c m op (Make s) q x = within Make (make.hears c m op s q x)
+operation_hears c m op (Delete s) q x = within Delete (delete.hears c m op s q x)
+operation_hears c m op (Rename s) q x = within Rename (rename.hears c m op s q x)
+
+abbrev pub operation_learns : OpId → OperationState → AnyReq → AnyReply → List Learnt
+operation_learns op (Look s) q x = look.learns op s q x
+operation_learns op (Listing s) q x = list.learns op s q x
+operation_learns op (Make s) q x = make.learns op s q x
+operation_learns op (Delete s) q x = delete.learns op s q x
+operation_learns op (Rename s) q x = rename.learns op s q x
+
+abbrev pub operations : Part OperationState Answer
+operations = record { turns = operation_turns; asks = operation_asks; hears = operation_hears; learns = operation_learns }
