@@ -1,77 +1,93 @@
--- What a command on names knows in each phase, and when its answer is decided.
-use Rattle.std.specs.Prelude.{◌≡◌, ◌≢◌, ℕ, ◌≤◌, Bool, true, false, ◌&&◌, Option, Some, None, is_some, List, [], ◌∷◌}
+-- What each operation on names knows in its states, and when its answer is decided.
+use Rattle.std.specs.Prelude.{◌≡◌, ◌≢◌, ◌≤◌, true, false, None, is_some}
+use Rattle.tect_ids.specs.declared.ids.DirId.{DirId}
 use Rattle.tect_ids.specs.declared.ids.Hold.{Hold}
+use Rattle.tect_ids.specs.declared.ids.Node.{Node}
 use Rattle.tect_ids.specs.declared.ids.Node.TheVariants.{Dir}
 use Rattle.tect_ids.specs.declared.ids.OpId.{OpId}
-use Rattle.tect_ids.specs.declared.command.Command.{Command}
-use Rattle.tect_ids.specs.declared.command.Command.TheVariants as commands
 use Rattle.tect_ids.specs.declared.key.Key.{Key}
 use Rattle.tect_ids.specs.declared.answer.Answer.{Answer}
 use Rattle.tect_ids.specs.Keys.{hold_eq}
+use Rattle.tect_ids.specs.Numbers.{own_hold}
 use Rattle.store_rules.specs.Names.{key_in}
 use Rattle.program_forms.specs.Memories.{Memory}
-use Rattle.program_rules.specs.declared.program.Phase.{Phase}
-use Rattle.program_rules.specs.declared.program.Phase.TheVariants.{Walk, Bind, Grant, Swap, Release, End}
-use Rattle.program_rules.specs.declared.program.Program.{Program}
-use Rattle.program_rules.specs.Programs.{own_hold, new_path}
-use Rattle.program_rules.specs.Paths.{last_name}
+use Rattle.program_rules.specs.declared.states.Make.{Make}
+use Rattle.program_rules.specs.declared.states.Make.TheVariants as making
+use Rattle.program_rules.specs.declared.states.Delete.{Delete}
+use Rattle.program_rules.specs.declared.states.Delete.TheVariants as deleting
+use Rattle.program_rules.specs.declared.states.Rename.{Rename}
+use Rattle.program_rules.specs.declared.states.Rename.TheVariants as renaming
+use Rattle.program_rules.specs.declared.operation.Operation.{Operation}
+use Rattle.program_rules.specs.declared.operation.OperationState.{OperationState}
+use Rattle.program_rules.specs.declared.operation.OperationState.TheVariants as states
+use Rattle.program_rules.specs.NamePairs.{OldAndNew}
+use Rattle.program_rules.specs.Operations.{operation_decided}
+use Rattle.program_rules.specs.Served.{Program}
 use Rattle.store_world.specs.Worlds.{World}
-use Rattle.store_world.specs.Sound.{was_made, is_spent, IsGranted}
+use Rattle.store_world.specs.Sound.{was_made, IsGranted}
 use Rattle.store_world.specs.Later.{actor_of}
-use Rattle.store_world.specs.Requests.{OldSpent}
-use Rattle.program_laws.specs.Known.{Deciding, Known, is_odd}
+use Rattle.program_laws.specs.Known.{Deciding, Known, IsNewOp, is_odd}
+use Rattle.part_laws.specs.Parts.{next_known, next_deciding}
+use Rattle.part_laws.specs.Walks.{OnItsWay, walk_known, walk_deciding}
+use Rattle.part_laws.specs.Releases.{ReleaseKnows}
 
--- whether the path has a last name
-abbrev pub has_name : List (List ℕ) → Bool
-has_name [] = false
-has_name (n ∷ ns) = true
+-- the hold is the op's own, and its only one; it was granted for that entry, and is not bound yet
+pub record HasOwnHold (w : World) (op : OpId) (h : Hold) (n : Node) (k : Key) : Type 0 where
+  pub own : h ≡ own_hold op
+  pub granted : IsGranted w h n k
+  pub one : (other : Hold) → other.op ≡ op → hold_eq other (own_hold op) ≡ false → w.ghost.given other ≡ None
 
--- whether the command is served and has each last name that it needs
-abbrev pub is_whole : Command → Bool
-is_whole (commands.Look p) = true
-is_whole (commands.List p) = true
-is_whole (commands.Create p) = has_name p
-is_whole (commands.Mkdir p) = has_name p
-is_whole (commands.Delete p) = has_name p
-is_whole (commands.Rename p to) = has_name p && has_name to
-is_whole _ = false
+-- what was made has no name yet, and is the actor's
+pub record MakeBindKnows (w : World) (op : OpId) (h : Hold) (n : Node) (k : Key) : Type 0 where
+  pub hold : HasOwnHold w op h n k
+  pub unnamed : w.ghost.home n ≡ None
+  pub mine : actor_of n ≡ op.actor
 
--- the key that a rename gives in the directory of this one
-abbrev pub new_key : Key → Command → Key
-new_key k c = key_in k.dir (last_name (new_path c))
+abbrev pub MakeKnows : World → OpId → Memory → Make → Type 0
+MakeKnows w op m (making.New kind d n) = OnItsWay w op m d
+MakeKnows w op m (making.Bind kind k n h) = MakeBindKnows w op h n k
+MakeKnows w op m (making.Release r) = ReleaseKnows w op m r
 
--- What a command knows in a phase, which keeps its requests safe. The serial is that of its actor's next object.
-abbrev pub PhaseKnows : World → OpId → ℕ → Command → Phase → Type 0
-PhaseKnows w op serial c (Walk d rest) =
-    (was_made w.ghost (Dir d) ≡ true) × (w.ghost.given (own_hold op) ≡ None) × (serial ≤ op.number) × (is_whole c ≡ true)
-PhaseKnows w op serial c (Bind k n o) = IsGranted w (own_hold op) n k × (w.ghost.home n ≡ None) × (actor_of n ≡ op.actor)
-PhaseKnows w op serial c (Grant k n) =
-    (was_made w.ghost (Dir k.dir) ≡ true) × (w.ghost.given (own_hold op) ≡ None)
-    × (k.name ≢ last_name (new_path c)) × (has_name (new_path c) ≡ true) × (is_some (w.ghost.home n) ≡ true)
-PhaseKnows w op serial c (Swap k n) =
-    IsGranted w (own_hold op) n (new_key k c) × (k.name ≢ last_name (new_path c)) × (has_name (new_path c) ≡ true)
-PhaseKnows w op serial c (Release n h old a) = (is_spent w h ≡ true) × OldSpent w old × (is_odd a ≡ false)
-PhaseKnows w op serial c (End a) = is_odd a ≡ false
+abbrev pub DeleteKnows : World → OpId → Memory → Delete → Type 0
+DeleteKnows w op m (deleting.Unbind k) = IsNewOp w op
+DeleteKnows w op m (deleting.Release r) = ReleaseKnows w op m r
 
--- what is granted to a command is its one hold
-abbrev pub HasOneHold : World → OpId → Type 0
-HasOneHold w op = (h : Hold) → h.op ≡ op → hold_eq h (own_hold op) ≡ false → w.ghost.given h ≡ None
+-- a node that was found was named; the two names differ
+pub record RenameGrantKnows (w : World) (op : OpId) (d : DirId) (p : OldAndNew) (n : Node) : Type 0 where
+  pub made : was_made w.ghost (Dir d) ≡ true
+  pub new : IsNewOp w op
+  pub other : p.from ≢ p.to
+  pub named : is_some (w.ghost.home n) ≡ true
 
-pub record NamesKnow (w : World) (op : OpId) (m : Memory) (p : Program) : Type 0 where
-  pub at : PhaseKnows w op m.serial p.command p.phase
-  pub one : HasOneHold w op
+pub record RenameSwapKnows (w : World) (op : OpId) (d : DirId) (p : OldAndNew) (n : Node) (h : Hold) : Type 0 where
+  pub hold : HasOwnHold w op h n (key_in d p.to)
+  pub other : p.from ≢ p.to
+
+abbrev pub RenameKnows : World → OpId → Memory → Rename → Type 0
+RenameKnows w op m (renaming.Find d from to) = OnItsWay w op m d
+RenameKnows w op m (renaming.Grant d p n) = RenameGrantKnows w op d p n
+RenameKnows w op m (renaming.Swap d p n h) = RenameSwapKnows w op d p n h
+RenameKnows w op m (renaming.Release r) = ReleaseKnows w op m r
+
+-- ---- all of them
+
+abbrev pub OperationKnows : World → OpId → Memory → OperationState → Type 0
+OperationKnows w op m (states.Look s) = IsNewOp w op
+OperationKnows w op m (states.List s) = IsNewOp w op
+OperationKnows w op m (states.Make s) = MakeKnows w op m s
+OperationKnows w op m (states.Delete s) = DeleteKnows w op m s
+OperationKnows w op m (states.Rename s) = RenameKnows w op m s
+
+abbrev pub operation_known : Known OperationState Answer
+operation_known = record { Knows = OperationKnows; Ends = λ w a. is_odd a ≡ false }
+
+abbrev pub operation_deciding : Deciding OperationState Answer
+operation_deciding = record { decided = operation_decided }
+
+-- ---- of a running command, which first walks
 
 abbrev pub names_known : Known Program Answer
-names_known = record { Knows = NamesKnow; Ends = λ w a. is_odd a ≡ false }
-
--- where only releases are left it has its answer, and it binds nothing more
-abbrev pub phase_decided : Phase → Option Answer
-phase_decided (Walk d ns) = None
-phase_decided (Bind k n o) = None
-phase_decided (Grant k n) = None
-phase_decided (Swap k n) = None
-phase_decided (Release n h old a) = Some a
-phase_decided (End a) = Some a
+names_known = next_known (walk_known operation_known)
 
 abbrev pub names_deciding : Deciding Program Answer
-names_deciding = record { decided = λ p. phase_decided p.phase }
+names_deciding = next_deciding (walk_deciding operation_deciding)

@@ -40,3 +40,8 @@ delete = record {
   hears = λ c m op s q x. delete_hears (request_place c q) s x;
   learns = learns_nothing;
 }
+
+-- its answer, once it can't change any more; what the command has not bound by then it will not bind
+abbrev pub delete_decided : Delete → Option Answer
+delete_decided (Unbind k) = None
+delete_decided (Release r) = Some r.answer

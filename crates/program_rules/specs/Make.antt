@@ -75,3 +75,9 @@ make = record {
   hears = λ c m op s q x. make_hears (request_place c q) op (object_number op.actor m.serial) s x;
   learns = learns_nothing;
 }
+
+-- its answer, once it can't change any more; what the command has not bound by then it will not bind
+abbrev pub make_decided : Make → Option Answer
+make_decided (New kind d n) = None
+make_decided (Bind kind k node h) = None
+make_decided (Release r) = Some r.answer

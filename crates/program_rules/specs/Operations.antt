@@ -1,5 +1,5 @@
 -- All operations as one part, and how each begins. Each has a line in every function.
-use Rattle.std.specs.Prelude.{List}
+use Rattle.std.specs.Prelude.{Option, None, List}
 use Rattle.tect_ids.specs.declared.ids.Counts.{Counts}
 use Rattle.tect_ids.specs.declared.ids.DirId.{DirId}
 use Rattle.tect_ids.specs.declared.ids.OpId.{OpId}
@@ -20,9 +20,9 @@ use Rattle.program_rules.specs.declared.operation.OperationState.{OperationState
 use Rattle.program_rules.specs.declared.operation.OperationState.TheVariants.{Look, List as Listing, Make, Delete, Rename}
 use Rattle.program_rules.specs.Look.{look, look_starts}
 use Rattle.program_rules.specs.List.{list}
-use Rattle.program_rules.specs.Make.{make}
-use Rattle.program_rules.specs.Delete.{delete}
-use Rattle.program_rules.specs.Rename.{rename}
+use Rattle.program_rules.specs.Make.{make, make_decided}
+use Rattle.program_rules.specs.Delete.{delete, delete_decided}
+use Rattle.program_rules.specs.Rename.{rename, rename_decided}
 
 -- the operation as it begins in that directory
 abbrev pub begins_in : Operation → DirId → OperationState
@@ -62,3 +62,11 @@ operation_learns op (Rename s) q x = rename.learns op s q x
 
 abbrev pub operations : Part OperationState Answer
 operations = record { turns = operation_turns; asks = operation_asks; hears = operation_hears; learns = operation_learns }
+
+-- its answer, once it can't change any more
+abbrev pub operation_decided : OperationState → Option Answer
+operation_decided (Look s) = None
+operation_decided (Listing s) = None
+operation_decided (Make s) = make_decided s
+operation_decided (Delete s) = delete_decided s
+operation_decided (Rename s) = rename_decided s

@@ -72,3 +72,10 @@ rename = record {
   hears = λ c m op s q x. rename_hears (request_place c q) op s x;
   learns = learns_nothing;
 }
+
+-- its answer, once it can't change any more; what the command has not bound by then it will not bind
+abbrev pub rename_decided : Rename → Option Answer
+rename_decided (Find d from to) = None
+rename_decided (Grant d p node) = None
+rename_decided (Swap d p node h) = None
+rename_decided (Release r) = Some r.answer
