@@ -1,5 +1,5 @@
 -- Looks up an entry, or whether a directory stands.
-use Rattle.std.specs.Prelude.{ℕ, Bool, true, false, Option, Some, None, is_some, List, []}
+use Rattle.std.specs.Prelude.{ℕ, Bool, true, false, Option, Some, None, is_some, List}
 use Rattle.tect_ids.specs.declared.ids.DirId.{DirId}
 use Rattle.tect_ids.specs.declared.ids.Node.{Node}
 use Rattle.tect_ids.specs.declared.ids.Node.TheVariants as nodes
@@ -17,7 +17,7 @@ use Rattle.store_rules.specs.Views.{as_found, as_parent}
 use Rattle.program_parts.specs.declared.next.Next.{Next}
 use Rattle.program_parts.specs.declared.next.Next.TheVariants.{Goes, Comes}
 use Rattle.program_parts.specs.Parts.{Part, looks_nothing, learns_nothing}
-use Rattle.program_parts.specs.Refused.{refusal}
+use Rattle.program_parts.specs.Refused.{refusal, dir_refusal}
 use Rattle.program_rules.specs.declared.states.Look.{Look}
 use Rattle.program_rules.specs.declared.states.Look.TheVariants.{Check, Entry}
 
@@ -31,7 +31,7 @@ look_asks (Entry k) = Name (names.Look k)
 
 abbrev pub checked : Place → DirId → AnyReply → Bool → Next Look Answer
 checked place d x true = Comes (Found (nodes.Dir d))
-checked place d x false = Comes (refusal place (key_in d []) x)
+checked place d x false = Comes (dir_refusal place x)
 
 abbrev pub looked : Place → Key → AnyReply → Option Node → Next Look Answer
 looked place k x None = Comes (refusal place k x)
