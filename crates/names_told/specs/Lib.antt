@@ -1,3 +1,2 @@
-pub mod NamesKnown
 pub mod NamesTelling
 pub mod NamesBounding

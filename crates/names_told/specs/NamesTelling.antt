@@ -1,61 +1,91 @@
--- What the history tells of a running command on names before its answer is decided, and what explains the answer.
-use Rattle.std.specs.Prelude.{◌≡◌, Option, Some, None, List, []}
+-- What the history tells of each operation on names before its answer is decided, and what explains the answer.
+use Rattle.std.specs.Prelude.{◌≡◌, ℕ, Some, None, List, []}
+use Rattle.tect_ids.specs.declared.ids.DirId.{DirId}
 use Rattle.tect_ids.specs.declared.ids.Node.{Node}
-use Rattle.tect_ids.specs.declared.ids.Node.TheVariants.{Dir, File}
+use Rattle.tect_ids.specs.declared.ids.Node.TheVariants as nodes
 use Rattle.tect_ids.specs.declared.ids.OpId.{OpId}
-use Rattle.tect_ids.specs.declared.values.Over.{Over}
-use Rattle.tect_ids.specs.declared.values.Over.TheVariants as over
 use Rattle.tect_ids.specs.declared.command.Command.{Command}
-use Rattle.tect_ids.specs.declared.command.Command.TheVariants as commands
 use Rattle.tect_ids.specs.declared.answer.Answer.{Answer}
+use Rattle.tect_ids.specs.Numbers.{root}
+use Rattle.store_rules.specs.Names.{key_in}
 use Rattle.tree_model.specs.declared.step.TreeStep.TheVariants as step
 use Rattle.tree_model.specs.declared.step.StepValue.TheVariants as shown
 use Rattle.tree_model.specs.declared.step.TreeReply.TheVariants.{Ok}
-use Rattle.program_rules.specs.declared.program.Phase.{Phase}
-use Rattle.program_rules.specs.declared.program.Phase.TheVariants.{Walk, Bind, Grant, Swap, Release, End}
-use Rattle.program_rules.specs.declared.program.Program.{Program}
-use Rattle.program_rules.specs.Programs.{root, way, last}
-use Rattle.program_rules.specs.Asking.{IsSmooth}
+use Rattle.program_rules.specs.declared.states.Look.{Look}
+use Rattle.program_rules.specs.declared.states.Look.TheVariants as looking
+use Rattle.program_rules.specs.declared.states.NewNode.{NewNode}
+use Rattle.program_rules.specs.declared.states.NewNode.TheVariants as new
+use Rattle.program_rules.specs.declared.states.Make.{Make}
+use Rattle.program_rules.specs.declared.states.Make.TheVariants as making
+use Rattle.program_rules.specs.declared.states.Delete.{Delete}
+use Rattle.program_rules.specs.declared.states.Delete.TheVariants as deleting
+use Rattle.program_rules.specs.declared.states.Rename.{Rename}
+use Rattle.program_rules.specs.declared.states.Rename.TheVariants as renaming
+use Rattle.program_rules.specs.declared.operation.Operation.{Operation}
+use Rattle.program_rules.specs.declared.operation.Operation.TheVariants as operation
+use Rattle.program_rules.specs.declared.operation.OperationState.{OperationState}
+use Rattle.program_rules.specs.declared.operation.OperationState.TheVariants as states
+use Rattle.program_rules.specs.NamePairs.{OldAndNew}
+use Rattle.program_rules.specs.Served.{Walks, begun, Program}
 use Rattle.world_runs.specs.declared.event.Event.{Event}
-use Rattle.claim_words.specs.TreeSteps.{Told, tree_steps}
+use Rattle.claim_words.specs.Ways.{way}
+use Rattle.claim_words.specs.TreeSteps.{tree_steps}
 use Rattle.claim_words.specs.Points.{of_op, Walked, Seen}
 use Rattle.claim_words.specs.Because.{because}
 use Rattle.telling_laws.specs.Telling.{Telling}
+use Rattle.telling_laws.specs.Parts.{next_telling, walk_telling}
 
--- the command is a rename
-abbrev pub IsRename : Command → Type 0
-IsRename (commands.Rename p to) = Unit {0}
-IsRename c = ⊥
+-- the operation is the command's, behind the walk along its path
+abbrev pub Fits : Command → Operation → Type 0
+Fits c o = begun c ≡ Walks (way c) o
 
--- the node that a command binds, and what it replaces
-abbrev pub Binds : Command → Node → Over → Type 0
-Binds (commands.Create p) (File f) over.File = Unit {0}
-Binds (commands.Mkdir p) (Dir d) over.Absent = Unit {0}
-Binds c n o = ⊥
+-- the command's walk led to that directory, and the operation is the command's
+pub record CameTo (h : List Event) (op : OpId) (c : Command) (d : DirId) (o : Operation) : Type 0 where
+  pub walked : Walked root (way c) (of_op op (tree_steps h)) d []
+  pub fits : Fits c o
 
--- before its point a command walked to its directory, and a rename saw its node
-abbrev pub BeforePoint : List Told → OpId → Command → Phase → Type 0
-BeforePoint t op c (Walk d ns) = Walked root (way c) (of_op op t) d ns
-BeforePoint t op c (Bind k n o) = Walked root (way c) (of_op op t) k.dir [] × Binds c n o × (k.name ≡ last c)
-BeforePoint t op c (Grant k n) = Walked root (way c) (of_op op t) k.dir [] × IsRename c × (k.name ≡ last c)
-    × Seen (of_op op t) (step.Look k) (Ok (shown.Node n))
-BeforePoint t op c (Swap k n) = Walked root (way c) (of_op op t) k.dir [] × IsRename c × (k.name ≡ last c)
-    × Seen (of_op op t) (step.Look k) (Ok (shown.Node n))
-BeforePoint t op c (Release n h old a) = Unit {0}
-BeforePoint t op c (End a) = Unit {0}
+abbrev pub LookBefore : List Event → OpId → Command → Look → Type 0
+LookBefore h op c (looking.Check d) = CameTo h op c d (operation.Look None)
+LookBefore h op c (looking.Entry k) = CameTo h op c k.dir (operation.Look (Some k.name))
 
--- the answer of a phase after the point
-abbrev pub phase_decided : Phase → Option Answer
-phase_decided (Walk d ns) = None
-phase_decided (Bind k n o) = None
-phase_decided (Grant k n) = None
-phase_decided (Swap k n) = None
-phase_decided (Release n h old a) = Some a
-phase_decided (End a) = Some a
+-- the node is of that kind
+abbrev pub IsOfKind : NewNode → Node → Type 0
+IsOfKind new.File (nodes.File f) = Unit {0}
+IsOfKind new.Dir (nodes.Dir d) = Unit {0}
+IsOfKind kind n = ⊥
 
--- it is that command's program, and asks something or has its answer
-abbrev pub NamesBefore : List Event → OpId → Command → Program → Type 0
-NamesBefore h op c p = (p.command ≡ c) × BeforePoint (tree_steps h) op p.command p.phase × IsSmooth p.command p.phase
+abbrev pub MakeBefore : List Event → OpId → Command → Make → Type 0
+MakeBefore h op c (making.New kind d n) = CameTo h op c d (operation.Make kind n)
+MakeBefore h op c (making.Bind kind k n hold) = CameTo h op c k.dir (operation.Make kind k.name) × IsOfKind kind n
+MakeBefore h op c (making.Release r) = Unit {0}
 
+abbrev pub DeleteBefore : List Event → OpId → Command → Delete → Type 0
+DeleteBefore h op c (deleting.Unbind k) = CameTo h op c k.dir (operation.Delete k.name)
+DeleteBefore h op c (deleting.Release r) = Unit {0}
+
+-- a rename saw its node under the old name
+pub record SawSource (h : List Event) (op : OpId) (c : Command) (d : DirId) (p : OldAndNew) (n : Node) : Type 0 where
+  pub came : CameTo h op c d (operation.Rename p.from p.to)
+  pub seen : Seen (of_op op (tree_steps h)) (step.Look (key_in d p.from)) (Ok (shown.Node n))
+
+abbrev pub RenameBefore : List Event → OpId → Command → Rename → Type 0
+RenameBefore h op c (renaming.Find d from to) = CameTo h op c d (operation.Rename from to)
+RenameBefore h op c (renaming.Grant d p n) = SawSource h op c d p n
+RenameBefore h op c (renaming.Swap d p n hold) = SawSource h op c d p n
+RenameBefore h op c (renaming.Release r) = Unit {0}
+
+-- ---- all of them
+
+abbrev pub OperationBefore : List Event → OpId → Command → OperationState → Type 0
+OperationBefore h op c (states.Look s) = LookBefore h op c s
+OperationBefore h op c (states.List s) = CameTo h op c s.dir operation.List
+OperationBefore h op c (states.Make s) = MakeBefore h op c s
+OperationBefore h op c (states.Delete s) = DeleteBefore h op c s
+OperationBefore h op c (states.Rename s) = RenameBefore h op c s
+
+abbrev pub operation_telling : Telling OperationState
+operation_telling = record { Before = OperationBefore; because = because }
+
+-- of a running command, which first walks
 abbrev pub names_telling : Telling Program
-names_telling = record { decided = λ p. phase_decided p.phase; Before = NamesBefore; because = because }
+names_telling = next_telling (walk_telling Fits operation_telling)

@@ -4,3 +4,4 @@ pub mod Counting
 pub mod Telling
 pub mod Following
 pub mod Bounding
+pub mod Parts

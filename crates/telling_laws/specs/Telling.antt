@@ -1,6 +1,8 @@
 -- What is owed of programs so that each of their answers is explained by the history before it, and that it is so in all their runs.
+use Rattle.std.specs.FinMap.{get}
 use Rattle.std.specs.Prelude.{◌≡◌, ℕ, Bool, true, false, Option, Some, None, List, [], ◌∷◌, ◌++◌}
 use Rattle.tect_ids.specs.declared.ids.Counts.{Counts}
+use Rattle.tect_ids.specs.declared.ids.Node.{Node}
 use Rattle.tect_ids.specs.declared.ids.OpId.{OpId}
 use Rattle.tect_ids.specs.declared.command.Command.{Command}
 use Rattle.tect_ids.specs.declared.answer.Answer.{Answer}
@@ -8,6 +10,10 @@ use Rattle.tect_ids.specs.Keys.{op_eq}
 use Rattle.store_rules.specs.declared.any.AnyReq.{AnyReq}
 use Rattle.store_rules.specs.declared.any.AnyReply.{AnyReply}
 use Rattle.store_rules.specs.Store.{opening_store, store_reply}
+use Rattle.store_world.specs.Worlds.{World}
+use Rattle.store_world.specs.Sound.{Sound, was_made}
+use Rattle.store_world.specs.Requests.{Needs}
+use Rattle.program_laws.specs.Known.{Deciding}
 use Rattle.tree_model.specs.Tree.{Tree, opening_tree}
 use Rattle.program_forms.specs.declared.heard.Heard.{Heard}
 use Rattle.program_forms.specs.declared.standing.Standing.TheVariants.{Goes}
@@ -31,23 +37,28 @@ is_of op Dumped = false
 abbrev pub tree_of : List Event → Tree
 tree_of h = tree_after opening_tree (tree_steps h)
 
--- What the running commands know at a moment, after that history.
-abbrev pub KnowsAt : {S : Type 0} → (List Event → OpId → Memory → S → Type 0) → List Event → WorldState S → Type 0
-KnowsAt {S = S} K h m = (a : ℕ) (op : OpId) (s : S) → (m.actors a).running ≡ Some record { op = op; at = Goes s }
-    → K h op (m.actors a).memory s
+-- What is asked after that history is safe: some past of the store knows what the request needs, and the tree has made no more than was
+-- made in that past.
+pub record IsSafe (h : List Event) (q : AnyReq) : Type 0 where
+  pub world : World
+  pub store : world.store ≡ stored_after opening_store h
+  pub sound : Sound world
+  pub needs : Needs world q
+  pub made : (n : Node) → was_made world.ghost n ≡ false → get (tree_of h).made n ≡ None
 
--- at each moment of each run the running commands know that
-abbrev pub RunsKnow : {S : Type 0} → Programs S → (List Event → OpId → Memory → S → Type 0) → Type 0
-RunsKnow P K = (counts : Counts) (es : List Event) → IsWorldRun P counts es → KnowsAt K es (moment P counts es)
+-- at each moment of each run, what a running command asks next is safe
+abbrev pub RunsAskSafely : {S : Type 0} → Programs S → Type 0
+RunsAskSafely {S = S} P = (counts : Counts) (es : List Event) → IsWorldRun P counts es → (a : ℕ) (op : OpId) (s : S) (q : AnyReq)
+    → ((moment P counts es).actors a).running ≡ Some record { op = op; at = Goes s }
+    → next_does P.kind counts ((moment P counts es).actors a).memory op s ≡ Asks q → IsSafe es q
 
 -- in each run the tree allows what was said to each of its steps
 abbrev pub RunsFollowTree : {S : Type 0} → Programs S → Type 0
 RunsFollowTree P = (counts : Counts) (es : List Event) → IsWorldRun P counts es → IsTreeRun opening_tree (tree_steps es)
 
--- How commands with states S come to their answers: the answer of a state where it can't change any more; what the history tells of
--- the command before that; and what explains an answer.
+-- How commands with states S come to their answers: what the history tells of the command before its answer is decided, and what explains
+-- an answer.
 pub record Telling (S : Type 0) : Type 1 where
-  pub decided : S → Option Answer
   pub Before : List Event → OpId → Command → S → Type 0
   pub because : List Event → OpId → Command → Answer → Type 0
 
@@ -56,36 +67,36 @@ OfDecided A B None = A
 OfDecided A B (Some a) = B a
 
 -- what the history tells of a command in its state: what is so before its answer is decided, or what explains the answer
-abbrev pub Tells : {S : Type 0} → Telling S → List Event → OpId → Command → S → Type 0
-Tells T h op c s = OfDecided (T.Before h op c s) (T.because h op c) (T.decided s)
+abbrev pub Tells : {S : Type 0} → Deciding S Answer → Telling S → List Event → OpId → Command → S → Type 0
+Tells D T h op c s = OfDecided (T.Before h op c s) (T.because h op c) (D.decided s)
 
--- What is owed of programs whose running commands know that.
-pub record TellingLaws {S : Type 0} (P : Programs S) (K : List Event → OpId → Memory → S → Type 0) (T : Telling S) : Type 0 where
+-- What is owed of programs.
+pub record TellingLaws {S : Type 0} (P : Programs S) (D : Deciding S Answer) (T : Telling S) : Type 0 where
   -- as a served command begins, no step of its op has been
-  pub begins : (counts : Counts) (h : List Event) (op : OpId) (c : Command) (m : Memory) → P.serves c ≡ true → of_op op (tree_steps h) ≡ []
-      → K (h ++ Own op (Began c) ∷ []) op m (P.starts counts c) → Tells T (h ++ Own op (Began c) ∷ []) op c (P.starts counts c)
+  pub begins : (counts : Counts) (h : List Event) (op : OpId) (c : Command) → P.serves c ≡ true → of_op op (tree_steps h) ≡ []
+      → Tells D T (h ++ Own op (Began c) ∷ []) op c (P.starts counts c)
   -- by its look-ups in its actor's memory it goes on, or finds its answer
-  pub turns : (counts : Counts) (h : List Event) (op : OpId) (c : Command) (m : Memory) (s : S) → K h op m s → T.Before h op c s
-      → T.decided s ≡ None → Tells T h op c (turned P.kind counts m op s).state
+  pub turns : (counts : Counts) (h : List Event) (op : OpId) (c : Command) (m : Memory) (s : S) → T.Before h op c s → D.decided s ≡ None
+      → Tells D T h op c (turned P.kind counts m op s).state
   -- at the store's reply to its request, which the tree allows, if it is a step
   pub hears : (counts : Counts) (h : List Event) (op : OpId) (c : Command) (m : Memory) (s : S) (q : AnyReq) (x : AnyReply) (how : Heard)
-      → K h op m s → next_does P.kind counts m op s ≡ Asks q → x ≡ store_reply (stored_after opening_store h) q
-      → T.Before h op c (turned P.kind counts m op s).state → T.decided (turned P.kind counts m op s).state ≡ None
+      → IsSafe h q → next_does P.kind counts m op s ≡ Asks q → x ≡ store_reply (stored_after opening_store h) q
+      → T.Before h op c (turned P.kind counts m op s).state → D.decided (turned P.kind counts m op s).state ≡ None
       → IsTreeRun (tree_of h) (told_of (Own op (Acted q x how)))
-      → Tells T (h ++ Own op (Acted q x how) ∷ []) op c (state_heard P.kind counts m op s q x)
+      → Tells D T (h ++ Own op (Acted q x how) ∷ []) op c (state_heard P.kind counts m op s q x)
   -- other ops' events change nothing of it
   pub stays : (h : List Event) (e : Event) (op : OpId) (c : Command) (s : S) → is_of op e ≡ false → T.Before h op c s
       → T.Before (h ++ e ∷ []) op c s
   -- what explains an answer explains it later too
   pub lasts : (h es : List Event) (op : OpId) (c : Command) (a : Answer) → T.because h op c a → T.because (h ++ es) op c a
   -- once decided an answer stays so
-  pub turned_so : (counts : Counts) (m : Memory) (op : OpId) (s : S) (a : Answer) → T.decided s ≡ Some a
-      → T.decided (turned P.kind counts m op s).state ≡ Some a
+  pub turned_so : (counts : Counts) (m : Memory) (op : OpId) (s : S) (a : Answer) → D.decided s ≡ Some a
+      → D.decided (turned P.kind counts m op s).state ≡ Some a
   pub heard_so : (counts : Counts) (m : Memory) (op : OpId) (s : S) (q : AnyReq) (x : AnyReply) (a : Answer)
-      → T.decided (turned P.kind counts m op s).state ≡ Some a → T.decided (state_heard P.kind counts m op s q x) ≡ Some a
+      → D.decided (turned P.kind counts m op s).state ≡ Some a → D.decided (state_heard P.kind counts m op s q x) ≡ Some a
   -- what is said was decided
-  pub says : (counts : Counts) (h : List Event) (op : OpId) (c : Command) (m : Memory) (s : S) (a : Answer) → K h op m s
-      → Tells T h op c s → next_does P.kind counts m op s ≡ Says a → T.decided (turned P.kind counts m op s).state ≡ Some a
+  pub says : (counts : Counts) (m : Memory) (op : OpId) (s : S) (a : Answer) → next_does P.kind counts m op s ≡ Says a
+      → D.decided (turned P.kind counts m op s).state ≡ Some a
 
 -- in each run each answer is explained by the history before it
 abbrev pub RunsAreExplained : {S : Type 0} → Programs S → Telling S → Type 0
