@@ -54,14 +54,8 @@ name_reply_decides (replies.Swapped hold old) b = grind arith
 name_reply_decides (replies.Unbound node hold) b = grind arith
 name_reply_decides replies.Granted b = grind arith
 name_reply_decides (replies.Released was) b = grind arith
-name_reply_decides replies.NoDir b = grind arith
-name_reply_decides replies.NoName b = grind arith
 name_reply_decides replies.HasId b = grind arith
-name_reply_decides replies.Sealed b = grind arith
-name_reply_decides replies.Exists b = grind arith
-name_reply_decides replies.IsDir b = grind arith
-name_reply_decides replies.Full b = grind arith
-name_reply_decides (replies.Changed now) b = grind arith
+name_reply_decides (replies.Refused why) b = grind arith
 
 pub req_decides : (a b : AnyReq) → Decides ((any_req.ghosts).eq a b) (a ≡ b)
 req_decides (reqs.Name a) (reqs.Name b) = Decides-like _ (λ e. ap reqs.Name e) (λ e. cc) (name_req_decides a b)

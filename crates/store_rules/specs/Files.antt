@@ -1,5 +1,5 @@
 -- A shard of the File layer, and the rule of each request to it.
-use Rattle.std.specs.Prelude.{◌≡◌, Bool, true, false, not, Option, Some, None, is_some, if◌then◌else◌}
+use Rattle.std.specs.Prelude.{Bool, true, false, not, Option, Some, None, is_some, if◌then◌else◌}
 use Rattle.std.specs.FinMap.{FinMap, empty, get}
 use Rattle.ordered_rows.specs.Maps.{set_at}
 use Rattle.tect_ids.specs.declared.ids.FileId.{FileId}
@@ -15,7 +15,7 @@ use Rattle.store_rules.specs.declared.files.FileReq.TheVariants as req
 use Rattle.store_rules.specs.declared.files.FileReply.{FileReply}
 use Rattle.store_rules.specs.declared.files.FileReply.TheVariants.{Made, Granted, Released, HasId, Refused}
 use Rattle.tect_ids.specs.declared.values.Refusal.TheVariants.{NoFile}
-use Rattle.store_rules.specs.Outcomes.{Outcome, Leaves, Changes, changes, refuse, found}
+use Rattle.store_rules.specs.Outcomes.{Outcome, Changes, changes, refuse, found}
 
 abbrev pub Files : Type 0
 Files = FinMap file_cmp File

@@ -1,6 +1,6 @@
 -- A shard of the Name layer, and the rule of each request to it: what it answers, its refusals in their order, and what
 -- it changes where it is not refused.
-use Rattle.std.specs.Prelude.{◌≡◌, ℕ, Bool, true, false, not, List, Option, Some, None, is_some, nat_le, if◌then◌else◌, map}
+use Rattle.std.specs.Prelude.{ℕ, Bool, true, false, not, List, Option, Some, None, is_some, nat_le, if◌then◌else◌, map}
 use Rattle.std.specs.FinMap.{FinMap, empty, get, len, entries}
 use Rattle.ordered_rows.specs.Maps.{set_at}
 use Rattle.tect_ids.specs.declared.ids.DirId.{DirId}

@@ -1,5 +1,4 @@
 -- The shard of a request: that of the directory or file which it concerns.
-use Rattle.std.specs.Prelude.{ℕ}
 use Rattle.tect_ids.specs.declared.ids.Counts.{Counts}
 use Rattle.tect_ids.specs.declared.ids.DirId.{DirId}
 use Rattle.tect_ids.specs.declared.ids.FileId.{FileId}

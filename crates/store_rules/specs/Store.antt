@@ -1,11 +1,11 @@
 -- The whole store: the shards of a layer taken together as one map. A request goes to one layer.
-use Rattle.std.specs.Prelude.{◌≡◌, Bool, if◌then◌else◌}
+use Rattle.std.specs.Prelude.{Bool, if◌then◌else◌}
 use Rattle.std.specs.FinMap.{empty}
 use Rattle.store_rules.specs.declared.any.AnyReq.{AnyReq}
 use Rattle.store_rules.specs.declared.any.AnyReq.TheVariants as any
 use Rattle.store_rules.specs.declared.any.AnyReply.{AnyReply}
 use Rattle.store_rules.specs.declared.any.AnyReply.TheVariants as reply_of
-use Rattle.store_rules.specs.Outcomes.{Outcome, reply, changes}
+use Rattle.store_rules.specs.Outcomes.{reply, changes}
 use Rattle.store_rules.specs.Names.{Names, root_names, name_answer, name_change}
 use Rattle.store_rules.specs.Files.{Files, file_answer, file_change}
 

@@ -5,9 +5,7 @@ use Rattle.tect_ids.specs.declared.ids.Hold.{Hold}
 use Rattle.tect_ids.specs.declared.ids.Node.{Node}
 use Rattle.tect_ids.specs.declared.values.Listed.{Listed}
 use Rattle.store_rules.specs.declared.names.Replaced.{Replaced}
-use Rattle.store_rules.specs.declared.names.NameReply.{NameReply}
 use Rattle.store_rules.specs.declared.names.NameReply.TheVariants as names
-use Rattle.store_rules.specs.declared.files.FileReply.{FileReply}
 use Rattle.store_rules.specs.declared.files.FileReply.TheVariants as files
 use Rattle.store_rules.specs.declared.any.AnyReply.{AnyReply}
 use Rattle.store_rules.specs.declared.any.AnyReply.TheVariants.{Name, File}

@@ -1,3 +1,6 @@
+ghost use Rattle.std.specs.Prelude.{◌≡◌};
+ghost use Rattle.store_rules.specs.Places.{file_of};
+
 use key_maps::HoldList;
 use tect_ids::{FileId, Hold, Key, Refusal, Token};
 
@@ -26,6 +29,19 @@ pub enum FileReq {
         file: FileId,
         hold: Hold,
     },
+}
+
+impl FileReq {
+    /// The file that the request concerns.
+    pub fn file(&self) -> FileId
+        ensures { result ≡ file_of self.now }
+    {
+        match self {
+            FileReq::MakeFile { file, .. }
+            | FileReq::Grant { file, .. }
+            | FileReq::Release { file, .. } => *file,
+        }
+    }
 }
 
 /// What a shard of the File layer replies.

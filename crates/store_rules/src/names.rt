@@ -1,3 +1,6 @@
+ghost use Rattle.std.specs.Prelude.{◌≡◌};
+ghost use Rattle.store_rules.specs.Places.{dir_of};
+
 use key_maps::HoldList;
 use tect_ids::{DirId, FileId, Hold, Items, Key, Listed, Name, Node, Over, Refusal, Want};
 
@@ -67,6 +70,25 @@ pub enum NameReq {
         dir: DirId,
         hold: Hold,
     },
+}
+
+impl NameReq {
+    /// The directory that the request concerns.
+    pub fn dir(&self) -> DirId
+        ensures { result ≡ dir_of self.now }
+    {
+        match self {
+            NameReq::CheckDir { dir }
+            | NameReq::List { dir }
+            | NameReq::MakeDir { dir, .. }
+            | NameReq::Swap { dir, .. }
+            | NameReq::Grant { dir, .. }
+            | NameReq::Release { dir, .. } => *dir,
+            NameReq::Look { key } | NameReq::Bind { key, .. } | NameReq::Unbind { key, .. } => {
+                key.dir
+            }
+        }
+    }
 }
 
 /// What a shard of the Name layer replies.
