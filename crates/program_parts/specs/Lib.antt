@@ -1,4 +1,5 @@
 pub mod Parts
+pub mod Doings
 pub mod Refused
 pub mod Walks
 pub mod Releases

@@ -14,9 +14,9 @@ use Rattle.world_runs.specs.declared.event.Happening.TheVariants.{Began, NotBegu
 use Rattle.world_runs.specs.Moments.{opening, IsWorldRun}
 use Rattle.world_runs.specs.Report.{is_act_of, transactions}
 use Rattle.claim_words.specs.Headline.{command_of}
-use Rattle.telling_laws.specs.Counting.{is_look, is_no_look, is_look_of, is_other_of, looks_of, others_of}
-use Rattle.telling_laws.specs.Bounding.{one_if, Many, none, added, TakesAtMost, RunsAreShort}
-use Rattle.telling_laws.proofs.RunsFall.{taken_more, nothing_grows, runs_are_short}
+use Rattle.fall_laws.specs.Counting.{is_look, is_no_look, is_look_of, is_other_of, looks_of, others_of}
+use Rattle.fall_laws.specs.Bounding.{one_if, Many, none, added, TakesAtMost, RunsAreShort}
+use Rattle.fall_laws.proofs.RunsFall.{taken_more, nothing_grows, runs_are_short}
 use Rattle.names_told.specs.NamesBounding.{most_looks, names_bounding}
 use Rattle.names_told.proofs.NamesFall.{names_fall_so}
 use Rattle.run_claims.specs.Bounds.{IsShort}

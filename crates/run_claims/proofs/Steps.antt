@@ -20,8 +20,8 @@ use Rattle.world_runs.specs.declared.event.Event.TheVariants.{Own}
 use Rattle.world_runs.specs.declared.event.Happening.TheVariants.{Acted}
 use Rattle.world_runs.specs.Actors.{Actor, Running}
 use Rattle.world_runs.specs.Moments.{WorldState, May, after}
-use Rattle.telling_laws.specs.Counting.{is_look, is_no_look, is_look_of, is_other_of}
-use Rattle.telling_laws.specs.Bounding.{one_if}
+use Rattle.fall_laws.specs.Counting.{is_look, is_no_look, is_look_of, is_other_of}
+use Rattle.fall_laws.specs.Bounding.{one_if}
 use Rattle.names_told.specs.NamesBounding.{looks_left, others_left}
 use Rattle.names_told.proofs.Standings.{Asking, asks_of, stands_after, went_on_as}
 use Rattle.names_told.proofs.PhasesLeft.{Falls, phase_falls}

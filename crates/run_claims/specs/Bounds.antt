@@ -4,7 +4,7 @@ use Rattle.tect_ids.specs.declared.ids.OpId.{OpId}
 use Rattle.tect_ids.specs.declared.command.Command.{Command}
 use Rattle.world_runs.specs.declared.event.Event.{Event}
 use Rattle.world_runs.specs.Report.{transactions}
-use Rattle.telling_laws.specs.Counting.{looks_of, others_of}
+use Rattle.fall_laws.specs.Counting.{looks_of, others_of}
 use Rattle.names_told.specs.NamesBounding.{most_looks}
 
 -- The op's command takes no more looks than its path has names, at most four other transactions, and no transactions

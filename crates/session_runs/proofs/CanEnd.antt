@@ -18,8 +18,8 @@ use Rattle.world_runs.specs.Follows.{Acts, EndsAfter, AllFindMemory}
 use Rattle.world_runs.specs.Report.{is_act_of}
 use Rattle.script_runs.proofs.Running.{AllWell, RunsAs, running_does, running_is_of}
 use Rattle.script_runs.proofs.Histories.{find_memory-append}
-use Rattle.telling_laws.specs.Counting.{is_look_of, is_other_of}
-use Rattle.telling_laws.specs.Bounding.{one_if}
+use Rattle.fall_laws.specs.Counting.{is_look_of, is_other_of}
+use Rattle.fall_laws.specs.Bounding.{one_if}
 use Rattle.run_claims.proofs.Ops.{Runs, stand_looks, stand_others, same_op, op_runs}
 use Rattle.run_claims.proofs.Steps.{GoesOn, own_acts}
 use Rattle.run_claims.proofs.RunsShort.{event_splits}

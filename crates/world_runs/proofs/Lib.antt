@@ -5,3 +5,4 @@ pub mod OwnLines
 pub mod Fronts
 pub mod Prompt
 pub mod Refusals
+pub mod Standings

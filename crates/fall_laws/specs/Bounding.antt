@@ -17,7 +17,7 @@ use Rattle.world_runs.specs.declared.event.Happening.TheVariants.{Began, NotBegu
 use Rattle.world_runs.specs.Actors.{Actor, Running}
 use Rattle.world_runs.specs.Moments.{WorldState, opening, after, IsWorldRun}
 use Rattle.claim_words.specs.Headline.{command_of}
-use Rattle.telling_laws.specs.Counting.{is_look, is_no_look, looks_of, others_of}
+use Rattle.fall_laws.specs.Counting.{is_look, is_no_look, looks_of, others_of}
 
 -- how many transactions: looks, and others
 pub record Many : Type 0 where

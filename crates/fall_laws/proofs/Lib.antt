@@ -1,0 +1,2 @@
+pub mod RunsFall
+pub mod PartsFall
