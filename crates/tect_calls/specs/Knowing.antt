@@ -1,7 +1,8 @@
 -- What an actor knows between commands.
-use Rattle.std.specs.Prelude.{ℕ, ◌+◌, ◌*◌, ◌^◌, ◌≤◌}
+use Rattle.std.specs.Prelude.{ℕ, ◌≤◌}
 use Rattle.tect_ids.specs.declared.ids.Counts.{Counts}
 use Rattle.tect_ids.specs.declared.ids.OpId.{OpId}
+use Rattle.tect_ids.specs.Numbers.{object_number}
 use Rattle.program_forms.specs.Memories.{Memory}
 
 pub record Known : Type 0 where
@@ -11,7 +12,7 @@ pub record Known : Type 0 where
 
 -- the number of the next object that it makes as that op
 abbrev pub number_for : Known → OpId → ℕ
-number_for m op = op.actor * 2 ^ 32 + m.memory.serial
+number_for m op = object_number op.actor m.memory.serial
 
 -- the clients, and the house
 abbrev pub IsActor : ℕ → Type 0

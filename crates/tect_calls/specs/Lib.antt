@@ -1,2 +1,4 @@
 pub mod Knowing
 pub mod Teaching
+pub mod MadeDirs
+pub mod Readings

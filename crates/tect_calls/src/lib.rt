@@ -7,6 +7,7 @@ mod file_requests;
 mod memory;
 mod name_requests;
 mod places;
+mod readings;
 mod teaching;
 mod tokens;
 
@@ -18,6 +19,7 @@ pub use name_requests::{
     name_swap, name_unbind,
 };
 pub use places::place;
+pub use readings::{bound, found_dir, granted_hold, made_hold, swapped, unbound};
 pub use store_rules::{AnyReply, AnyReq};
 pub use teaching::{Learned, learn};
-pub use tokens::{Fact, Granted, Made, Spent};
+pub use tokens::{Fact, Freed, Granted, Made, MadeDir, Spent};

@@ -23,8 +23,8 @@ impl Model for Made {
 /// A directory was made.
 #[derive(Debug, Drop)]
 pub struct MadeDir {
-    dir: DirId,
-    made: Made,
+    pub(crate) dir: DirId,
+    pub(crate) made: Made,
 }
 
 impl Model for MadeDir {
@@ -132,11 +132,19 @@ impl Granted {
         self.hold
     }
 
-
     /// The op gives its hold up: it will not bind it any more. It takes no memory.
     pub fn give_up(self) -> Spent
         ensures { result ≡ self }
     {
         Spent { hold: self.hold }
+    }
+}
+
+impl Spent {
+    /// The hold itself.
+    pub fn hold(&self) -> Hold
+        ensures { result ≡ self.now }
+    {
+        self.hold
     }
 }
