@@ -1,5 +1,5 @@
 -- A clone of an entry, of a note or of a moment is the same one.
-use Rattle.std.proofs.Common.{◌≡◌, ℕ, ap, arith, rules}
+use Rattle.std.proofs.Common.{◌≡◌, ℕ, arith, rules}
 use Rattle.tect_ids.specs.declared.answer.Answer.{Answer}
 use Rattle.tect_ids.specs.declared.command.Command.{Command}
 use Rattle.tect_ids.specs.declared.ids.OpId.{OpId}

@@ -1,7 +1,6 @@
 -- How the last transaction was heard changes nothing else of a pass.
-use Rattle.std.proofs.Common.{◌≡◌, ℕ, ◌-◌, ◌<◌, Bool, ◌&&◌, List, [], ◌∷◌, ◌++◌, length, Option, refl, sym, ◌∙◌, ap, arith}
+use Rattle.std.proofs.Common.{◌≡◌, ℕ, ◌-◌, ◌&&◌, List, [], ◌∷◌, ◌++◌, length, Option, refl, ap, arith}
 use Rattle.std.proofs.Common.{suc, None, ◌==◌, nat_lt, slice_set, slice_index_or}
-use Rattle.std.specs.List.{sum_by}
 use Rattle.std.proofs.lemmas.List.Sums.{sum_by-cons}
 use Rattle.tect_ids.specs.declared.ids.OpId.{OpId}
 use Rattle.entry_words.specs.declared.entry.Entry.{Entry}

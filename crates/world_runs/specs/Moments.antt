@@ -1,18 +1,16 @@
 -- The moments of a run: the store and the actors, what may happen at a moment, and the moment after it. The programs are any.
-use Rattle.std.specs.Prelude.{◌≡◌, ℕ, ◌+◌, ◌<◌, ◌≤◌, ◌^◌, Bool, true, false, eqb, if◌then◌else◌, Option, Some, None, List, [], ◌∷◌, take}
+use Rattle.std.specs.Prelude.{◌≡◌, ℕ, eqb, if◌then◌else◌, Option, List, [], ◌∷◌}
 use Rattle.tect_ids.specs.declared.ids.Counts.{Counts}
 use Rattle.tect_ids.specs.declared.ids.OpId.{OpId}
 use Rattle.tect_ids.specs.declared.answer.Answer.{Answer}
-use Rattle.tect_ids.specs.Keys.{op_eq}
 use Rattle.store_rules.specs.declared.any.AnyReq.{AnyReq}
 use Rattle.store_rules.specs.Store.{Store, opening_store, store_reply, store_step}
-use Rattle.program_forms.specs.Kinds.{Does, Asks, Says, Programs, next_does}
-use Rattle.program_forms.specs.Memories.{Memory, opening_memory}
+use Rattle.program_forms.specs.Kinds.{Does, Programs}
 use Rattle.world_runs.specs.declared.event.Event.{Event}
 use Rattle.world_runs.specs.declared.event.Event.TheVariants.{Own, Dumped}
 use Rattle.world_runs.specs.declared.event.Happening.{Happening}
 use Rattle.world_runs.specs.declared.event.Happening.TheVariants.{Began, NotBegun, Acted, Ended, Stopped, Failed}
-use Rattle.world_runs.specs.Actors.{Actor, idle_actor, Running, program_of, OwnMay, own_after, running_does, asked_in, answer_in, has_ended}
+use Rattle.world_runs.specs.Actors.{Actor, idle_actor, Running, program_of, OwnMay, own_after, running_does, asked_in, answer_in}
 
 pub record WorldState (S : Type 0) : Type 0 where
   pub counts : Counts
@@ -85,7 +83,3 @@ IsWorldRun P counts events = RunFrom P (opening counts) events
 -- the moment after a history
 abbrev pub moment : {S : Type 0} → Programs S → Counts → List Event → WorldState S
 moment P counts events = after_all P (opening counts) events
-
--- so it is at each moment of a history, the first and the last among them
-abbrev pub AtEachMoment : {S : Type 0} → Programs S → (WorldState S → Type 0) → Counts → List Event → Type 0
-AtEachMoment P Q counts events = (n : ℕ) → Q (moment P counts (take n events))
