@@ -60,8 +60,8 @@ pub record WaitsAt {S R : Type 0} (P : Part S R) (left : S → Many) (s : S) : T
 more_left : (q : AnyReq) (after before : Many) → Takes q after before → Takes q after (plus before none)
 more_left q after before t = record { looks = omega (arith, t.looks); others = omega (arith, t.others) }
 
-pub waits_fall : {S R : Type 0} {P : Part S R} {left : S → Many} {s : S} → WaitsAt P left s → FallsIn P (never_grows left) s
-waits_fall {S} {R} {P} {left} {s} L = record {
+pub waits_fall : {S R : Type 0} (P : Part S R) (left : S → Many) (s : S) → WaitsAt P left s → FallsIn P (never_grows left) s
+waits_fall {S} {R} P left s L = record {
   turns = λ c m op.
       subst (λ (t : Turned (Next S R)). AtMost (next_left left t.state) (plus (left s) none)) (sym (L.looks c m op)) record {
         looks = omega arith;
@@ -94,8 +94,8 @@ falls_within f {B} {U} {d} {was} {grown} i L = record {
 
 -- ---- a part as a kind of commands
 
-asks_so : (q r : AnyReq) → Asks r ≡ Asks q → r ≡ q
-asks_so q r e = let k : asked_by (Asks r) ≡ asked_by (Asks q) = ap (λ (d : Does Answer). asked_by d) e in cc
+same_ask : (r q : AnyReq) → Some r ≡ Some q → r ≡ q
+same_ask r q e = cc
 
 no_ask : (r : Answer) (q : AnyReq) → Says r ≡ Asks q → ⊥
 no_ask r q e = let k : None ≡ Some q = ap (λ (d : Does Answer). asked_by d) e in cc
@@ -104,7 +104,8 @@ module _ {S : Type 0} {P : Part S Answer} {B : PartBounding S} (L : PartFalls P 
   heard_takes : (c : Counts) (m : Memory) (op : OpId) (n : Next S Answer) (q : AnyReq) (x : AnyReply) → next_asks P c m op n ≡ Asks q
       → Takes q (next_left B.left (next_hears P c m op n q x)) (plus (next_left B.left n) (B.grows c q x))
   heard_takes c m op (Goes s) q x e =
-      subst (λ (r : AnyReq). Takes r (next_left B.left (P.hears c m op s r x)) (plus (B.left s) (B.grows c r x))) (asks_so q _ e)
+      subst (λ (r : AnyReq). Takes r (next_left B.left (P.hears c m op s r x)) (plus (B.left s) (B.grows c r x)))
+      (same_ask (P.asks c m op s) q (ap (λ (d : Does Answer). asked_by d) e))
       (L.hears c m op s x)
   heard_takes c m op (Comes r) q x e = absurd (no_ask r q e)
 
@@ -128,38 +129,36 @@ module _ {S : Type 0} {P : Part S Answer} {B : PartBounding S} (L : PartFalls P 
 
 -- ---- a walk before an operation
 
-module _ {O S : Type 0} {begins : O → DirId → S} {P : Part S Answer} {B : PartBounding S} {most : O → Many}
-    (at_most : BeginsAtMost begins B.left most) where
+module _ {O S : Type 0} (begins : O → DirId → S) (left : S → Many) (most : O → Many) (at_most : BeginsAtMost begins left most) where
   -- as it begins, there is a look for each name
   pub walk_on_left : (d : DirId) (ns : List (List ℕ)) (o : O)
-      → AtMost (walk_left most B.left (walk_on begins d ns o)) record { looks = length ns + (most o).looks; others = (most o).others }
+      → AtMost (walk_left most left (walk_on begins d ns o)) record { looks = length ns + (most o).looks; others = (most o).others }
   walk_on_left d [] o = record { looks = omega (arith, (at_most o d).looks); others = omega (arith, (at_most o d).others) }
   walk_on_left d (n ∷ ns) o = record { looks = omega arith; others = omega arith }
 
   walked_takes : (place : Place) (k : Key) (ns : List (List ℕ)) (o : O) (x : AnyReply) (more : Many) (f : Option Node)
-      → Takes (any.Name (names.Look k)) (next_left (walk_left most B.left) (walked begins place k ns o x f))
+      → Takes (any.Name (names.Look k)) (next_left (walk_left most left) (walked begins place k ns o x f))
       (plus record { looks = 1 + length ns + (most o).looks; others = (most o).others } more)
   walked_takes place k ns o x more None = record { looks = omega arith; others = omega arith }
   walked_takes place k ns o x more (Some (nodes.Dir d)) =
-      let on : AtMost (walk_left most B.left (walk_on begins d ns o)) record { looks = length ns + (most o).looks; others = (most o).others } =
+      let on : AtMost (walk_left most left (walk_on begins d ns o)) record { looks = length ns + (most o).looks; others = (most o).others } =
       walk_on_left d ns o in
       record { looks = omega (arith, on.looks); others = omega (arith, on.others) }
   walked_takes place k ns o x more (Some (nodes.File f)) = record { looks = omega arith; others = omega arith }
 
-  there : IsWithin There B (walk_bounding most B)
-  there = record { left = λ s. refl; grows = λ c q x. refl }
-
-  walk_falls_in : PartFalls P B → (s : Walking O S) → FallsIn (walking begins P) (walk_bounding most B) s
-  walk_falls_in L (Way d n ns o) = record {
+module _ {O S : Type 0} (begins : O → DirId → S) (P : Part S Answer) (B : PartBounding S) (most : O → Many)
+    (at_most : BeginsAtMost begins B.left most) (L : PartFalls P B) where
+  walk_falls_in : (s : Walking O S) → FallsIn (walking begins P) (walk_bounding most B) s
+  walk_falls_in (Way d n ns o) = record {
     turns = λ c m op. record { looks = omega arith; others = omega arith };
     hears = λ c m op x.
         let q : AnyReq = any.Name (names.Look (key_in d n)) in
-        walked_takes (request_place c q) (key_in d n) ns o x (B.grows c q x) (as_found x);
+        walked_takes begins B.left most at_most (request_place c q) (key_in d n) ns o x (B.grows c q x) (as_found x);
   }
-  walk_falls_in L (There s) = falls_within There there (falls_in L s)
+  walk_falls_in (There s) = falls_within There record { left = λ t. refl; grows = λ c q x. refl } (falls_in L s)
 
-  pub walk_falls : PartFalls P B → PartFalls (walking begins P) (walk_bounding most B)
-  walk_falls L = part_falls (walk_falls_in L)
+  pub walk_falls : PartFalls (walking begins P) (walk_bounding most B)
+  walk_falls = part_falls walk_falls_in
 
 -- ---- the release
 
@@ -174,10 +173,9 @@ then_release_left q None a e = record { looks = rw e (omega arith); others = rw 
 then_release_left q (Some f) a e = record { looks = rw e (omega arith); others = rw e (omega arith) }
 
 pub release_falls : PartFalls releasing (never_grows release_left)
-release_falls = part_falls (λ r. waits_fall record {
+release_falls = part_falls (λ r. waits_fall releasing release_left r record {
   looks = λ c m op. refl;
-  hears = λ c m op x.
-      then_release_left _ r.second r.answer (release_no_look (r.first).node (r.first).hold);
+  hears = λ c m op x. then_release_left _ r.second r.answer (release_no_look (r.first).node (r.first).hold);
 })
 
 -- what is left once holds may be released

@@ -30,15 +30,15 @@ steps_more h e = tree_steps-append h (e ∷ []) ∙ ap (λ l. tree_steps h ++ l)
 
 pub tree_after-append : (t : Tree) (ss us : List Told) → tree_after t (ss ++ us) ≡ tree_after (tree_after t ss) us
 tree_after-append t [] us = refl
-tree_after-append t (s ∷ ss) us = tree_after-append (tree_next t s.does s.says) ss us
+tree_after-append t (s ∷ ss) us = tree_after-append (tree_next t s.op s.does s.says) ss us
 
 pub tree_run-append : (t : Tree) (ss us : List Told) → IsTreeRun t ss → IsTreeRun (tree_after t ss) us → IsTreeRun t (ss ++ us)
 tree_run-append t [] us r q = q
-tree_run-append t (s ∷ ss) us r q = (r.0, tree_run-append (tree_next t s.does s.says) ss us r.1 q)
+tree_run-append t (s ∷ ss) us r q = (r.0, tree_run-append (tree_next t s.op s.does s.says) ss us r.1 q)
 
 pub tree_run-rest : (t : Tree) (ss us : List Told) → IsTreeRun t (ss ++ us) → IsTreeRun (tree_after t ss) us
 tree_run-rest t [] us r = r
-tree_run-rest t (s ∷ ss) us r = tree_run-rest (tree_next t s.does s.says) ss us r.1
+tree_run-rest t (s ∷ ss) us r = tree_run-rest (tree_next t s.op s.does s.says) ss us r.1
 
 -- ---- the steps of one op
 

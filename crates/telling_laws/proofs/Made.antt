@@ -4,6 +4,7 @@ use Rattle.std.specs.FinMap.{get, empty, same_map}
 use Rattle.tect_ids.specs.declared.ids.DirId.{DirId}
 use Rattle.tect_ids.specs.declared.ids.FileId.{FileId}
 use Rattle.tect_ids.specs.declared.ids.Node.TheVariants as nodes
+use Rattle.tect_ids.specs.declared.ids.OpId.{OpId}
 use Rattle.tect_ids.specs.Keys.{dir_cmp, file_cmp, key_cmp}
 use Rattle.tect_ids.proofs.KeyTests.{dir_cmp_total, file_cmp_total, key_cmp_total, dir_antisymmetric, file_antisymmetric, key_antisymmetric}
 use Rattle.key_maps.proofs.Lookups.{maps}
@@ -27,22 +28,22 @@ pub all_made : (s : Store) (made : Made) → TreeMade (view s made) → AllMade 
 all_made s made h (nodes.Dir d) st = grind (arith, h.dirs d, get-map_values)
 all_made s made h (nodes.File f) st = grind (arith, h.files f, get-map_values)
 
-change_made : (t : Tree) (st : TreeStep) → TreeMade t → TreeMade (tree_change t st)
-change_made t (step.Check d) h = h
-change_made t (step.Look k) h = h
-change_made t (step.List d) h = h
-change_made t (step.MakeDir d p) h = record { dirs = λ e is. grind (arith, maps, h.dirs e); files = λ e is. grind (arith, maps, h.files e) }
-change_made t (step.MakeFile f k) h = record
+change_made : (t : Tree) (op : OpId) (st : TreeStep) → TreeMade t → TreeMade (tree_change t op st)
+change_made t op (step.Check d) h = h
+change_made t op (step.Look k) h = h
+change_made t op (step.List d) h = h
+change_made t op (step.MakeDir d p) h = record { dirs = λ e is. grind (arith, maps, h.dirs e); files = λ e is. grind (arith, maps, h.files e) }
+change_made t op (step.MakeFile f k) h = record
     { dirs = λ e is. grind (arith, maps, h.dirs e); files = λ e is. grind (arith, maps, h.files e) }
-change_made t (step.Bind k n o) h = record { dirs = h.dirs; files = h.files }
-change_made t (step.Swap d from to n) h = record { dirs = h.dirs; files = h.files }
-change_made t (step.Unbind k w) h = record { dirs = h.dirs; files = h.files }
-change_made t (step.GrantDir d) h = h
-change_made t (step.GrantFile f) h = h
+change_made t op (step.Bind k n o) h = record { dirs = h.dirs; files = h.files }
+change_made t op (step.Swap d from to n) h = record { dirs = h.dirs; files = h.files }
+change_made t op (step.Unbind k w) h = record { dirs = h.dirs; files = h.files }
+change_made t op (step.GrantDir d) h = h
+change_made t op (step.GrantFile f) h = h
 
-pub next_made : (t : Tree) (st : TreeStep) (x : TreeReply) → TreeMade t → TreeMade (tree_next t st x)
-next_made t st (Ok shown) h = change_made t st h
-next_made t st (Refused why) h = h
+pub next_made : (t : Tree) (op : OpId) (st : TreeStep) (x : TreeReply) → TreeMade t → TreeMade (tree_next t op st x)
+next_made t op st (Ok shown) h = change_made t op st h
+next_made t op st (Refused why) h = h
 
 -- ---- the opening moment
 

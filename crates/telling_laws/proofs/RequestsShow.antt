@@ -46,151 +46,152 @@ listing_alike : (m : FinMap key_cmp DirectoryEntry) (d : DirId)
 listing_alike m d = items_alike (entries (within m d)) ∙ ap (map as_listed)
     (sym (ap entries (within_seen shown_entry m d) ∙ entries-map_values shown_entry (within m d)))
 
--- what the reply says
-abbrev said : Store → AnyReq → TreeReply
-said s q = says (store_reply s q)
+module _ (s : Store) (made : Made) (op : OpId) where
+  -- what the reply says
+  abbrev said : AnyReq → TreeReply
+  said q = says (store_reply s q)
 
-turned : (s : Store) (made : Made) (q : AnyReq) (st : TreeStep) (b c : Bool) → b ≡ c
-    → (c ≡ true → Shows (store_change s q) (tree_change (view s made) st))
-    → Shows (if c then store_change s q else s) (if b then tree_change (view s made) st else view s made)
-turned s made q st true true e did = did refl
-turned s made q st false false e did = refl
-turned s made q st true false e did = absurd (let k : true ≡ false = e in cc)
-turned s made q st false true e did = absurd (let k : false ≡ true = e in cc)
+  turned : (q : AnyReq) (st : TreeStep) (b c : Bool) → b ≡ c
+      → (c ≡ true → Shows (store_change s q) (tree_change (view s made) op st))
+      → Shows (if c then store_change s q else s) (if b then tree_change (view s made) op st else view s made)
+  turned q st true true e did = did refl
+  turned q st false false e did = refl
+  turned q st true false e did = absurd (let k : true ≡ false = e in cc)
+  turned q st false true e did = absurd (let k : false ≡ true = e in cc)
 
--- a request that is a step: it is allowed, it is not refused just where it changes the store, and then it changes the view as the step does
-by_step : (s : Store) (made : Made) (q : AnyReq) (st : TreeStep) → tree_step q (store_reply s q) ≡ Some st
-    → said s q ≡ tree_reply (view s made) st
-    → is_ok (said s q) ≡ store_changes s q → (store_changes s q ≡ true → Shows (store_change s q) (tree_change (view s made) st))
-    → StepShows s made q
-by_step s made q st is allowed fits did = rw is (allowed, turned s made q st _ _ fits did)
+  -- a request that is a step: it is allowed, it is not refused just where it changes the store, and then it changes the view as the step does
+  by_step : (q : AnyReq) (st : TreeStep) → tree_step q (store_reply s q) ≡ Some st
+      → said q ≡ tree_reply (view s made) op st
+      → is_ok (said q) ≡ store_changes s q → (store_changes s q ≡ true → Shows (store_change s q) (tree_change (view s made) op st))
+      → StepShows s made op q
+  by_step q st is allowed fits did = rw is (allowed, turned q st _ _ fits did)
 
-unread : (b : Bool) (u t : Tree) (s : Store) → u ≡ t → Shows s t → Shows s (if b then u else t)
-unread true u t s e h = rw e h
-unread false u t s e h = h
+  unread : (b : Bool) (u t : Tree) (s : Store) → u ≡ t → Shows s t → Shows s (if b then u else t)
+  unread true u t s e h = rw e h
+  unread false u t s e h = h
 
--- a request that is a reading
-by_reading : (s : Store) (made : Made) (q : AnyReq) (st : TreeStep) → tree_step q (store_reply s q) ≡ Some st
-    → said s q ≡ tree_reply (view s made) st
-    → store_changes s q ≡ false → tree_change (view s made) st ≡ view s made
-    → StepShows s made q
-by_reading s made q st is allowed reads same = rw (is, reads)
-    (allowed, unread (is_ok (said s q)) (tree_change (view s made) st) (view s made) s same refl)
+  -- a request that is a reading
+  by_reading : (q : AnyReq) (st : TreeStep) → tree_step q (store_reply s q) ≡ Some st
+      → said q ≡ tree_reply (view s made) op st
+      → store_changes s q ≡ false → tree_change (view s made) op st ≡ view s made
+      → StepShows s made op q
+  by_reading q st is allowed reads same = rw (is, reads)
+      (allowed, unread (is_ok (said q)) (tree_change (view s made) op st) (view s made) s same refl)
 
-check_shows : (s : Store) (made : Made) (d : DirId) → StepShows s made (any.Name (names.CheckDir d))
-check_shows s made d = by_reading s made (any.Name (names.CheckDir d)) (step.Check d) refl (grind (arith, get-map_values)) (grind arith)
-    refl
+  check_shows : (d : DirId) → StepShows s made op (any.Name (names.CheckDir d))
+  check_shows d = by_reading (any.Name (names.CheckDir d)) (step.Check d) refl (grind (arith, get-map_values)) (grind arith)
+      refl
 
-look_shows : (s : Store) (made : Made) (k : Key) → StepShows s made (any.Name (names.Look k))
-look_shows s made k = by_reading s made (any.Name (names.Look k)) (step.Look k) refl (grind (arith, get-map_values)) (grind arith) refl
+  look_shows : (k : Key) → StepShows s made op (any.Name (names.Look k))
+  look_shows k = by_reading (any.Name (names.Look k)) (step.Look k) refl (grind (arith, get-map_values)) (grind arith) refl
 
-list_shows : (s : Store) (made : Made) (d : DirId) → StepShows s made (any.Name (names.List d))
-list_shows s made d = by_reading s made (any.Name (names.List d)) (step.List d) refl
-    (grind (arith, get-map_values, listing_alike s.names.entries d)) (grind arith) refl
+  list_shows : (d : DirId) → StepShows s made op (any.Name (names.List d))
+  list_shows d = by_reading (any.Name (names.List d)) (step.List d) refl
+      (grind (arith, get-map_values, listing_alike s.names.entries d)) (grind arith) refl
 
-make_dir_shows : (s : Store) (made : Made) (d p : DirId) (h : Hold) (k : Key) → AllMade s made → get made (nodes.Dir d) ≡ None
-    → StepShows s made (any.Name (names.MakeDir d p h k))
-make_dir_shows s made d p h k all new = by_step s made (any.Name (names.MakeDir d p h k)) (step.MakeDir d p) refl
-    (grind (arith, all (nodes.Dir d))) (grind arith)
-    (λ ok i. record {
-      dirs = dir_put shown_dir s.names.dirs d (Some record { parent = p; sealed = false; holds = set_at empty h (Some (uppers.Entry k)) })
-          i;
-      entries = map_values shown_entry s.names.entries;
-      files = map_values shown_file s.files;
-      made = set_at made (nodes.Dir d) (Some tt);
-    })
+  make_dir_shows : (d p : DirId) (h : Hold) (k : Key) → AllMade s made → get made (nodes.Dir d) ≡ None
+      → StepShows s made op (any.Name (names.MakeDir d p h k))
+  make_dir_shows d p h k all new = by_step (any.Name (names.MakeDir d p h k)) (step.MakeDir d p) refl
+      (grind (arith, all (nodes.Dir d))) (grind arith)
+      (λ ok i. record {
+        dirs = dir_put shown_dir s.names.dirs d (Some record { parent = p; sealed = false; holds = set_at empty h (Some (uppers.Entry k)) })
+            i;
+        entries = map_values shown_entry s.names.entries;
+        files = map_values shown_file s.files;
+        made = set_at made (nodes.Dir d) (Some tt);
+      })
 
-bind_shows : (s : Store) (made : Made) (k : Key) (n : Node) (h : Hold) (o : Over) → StepShows s made (any.Name (names.Bind k n h o))
-bind_shows s made k n h o = by_step s made (any.Name (names.Bind k n h o)) (step.Bind k n o) refl
-    (grind (arith, get-map_values, len_within_seen shown_entry s.names.entries k.dir)) (grind arith)
-    (λ ok i. record (view s made) { entries = key_put shown_entry s.names.entries k (Some record { node = n; hold = h }) i })
+  bind_shows : (k : Key) (n : Node) (h : Hold) (o : Over) → StepShows s made op (any.Name (names.Bind k n h o))
+  bind_shows k n h o = by_step (any.Name (names.Bind k n h o)) (step.Bind k n o) refl
+      (grind (arith, get-map_values, len_within_seen shown_entry s.names.entries k.dir)) (grind arith)
+      (λ ok i. record (view s made) { entries = key_put shown_entry s.names.entries k (Some record { node = n; hold = h }) i })
 
-unbind_shows : (s : Store) (made : Made) (k : Key) (w : Want) → StepShows s made (any.Name (names.Unbind k w))
-unbind_shows s made k w = by_step s made (any.Name (names.Unbind k w)) (step.Unbind k w) refl
-    (grind (arith, get-map_values)) (grind arith)
-    (λ ok i. record (view s made) { entries = key_put shown_entry s.names.entries k None i })
+  unbind_shows : (k : Key) (w : Want) → StepShows s made op (any.Name (names.Unbind k w))
+  unbind_shows k w = by_step (any.Name (names.Unbind k w)) (step.Unbind k w) refl
+      (grind (arith, get-map_values)) (grind arith)
+      (λ ok i. record (view s made) { entries = key_put shown_entry s.names.entries k None i })
 
-swap_shows : (s : Store) (made : Made) (d : DirId) (from to : List ℕ) (n : Node) (h : Hold) → name_eq from to ≡ false
-    → StepShows s made (any.Name (names.Swap d from to n h))
-swap_shows s made d from to n h other = by_step s made (any.Name (names.Swap d from to n h)) (step.Swap d from to n) refl
-    (grind (arith, get-map_values)) (grind arith)
-    (λ ok i. record (view s made) {
-      entries =
-          (key_put shown_entry _ (key_in d to) (Some record { node = n; hold = h }) ∙ ap (λ m. set_at m (key_in d to) (Some n))
-          (key_put shown_entry s.names.entries (key_in d from) None)) i;
-    })
+  swap_shows : (d : DirId) (from to : List ℕ) (n : Node) (h : Hold) → name_eq from to ≡ false
+      → StepShows s made op (any.Name (names.Swap d from to n h))
+  swap_shows d from to n h other = by_step (any.Name (names.Swap d from to n h)) (step.Swap d from to n) refl
+      (grind (arith, get-map_values)) (grind arith)
+      (λ ok i. record (view s made) {
+        entries =
+            (key_put shown_entry _ (key_in d to) (Some record { node = n; hold = h }) ∙ ap (λ m. set_at m (key_in d to) (Some n))
+            (key_put shown_entry s.names.entries (key_in d from) None)) i;
+      })
 
--- a request that is a step just where it is refused
-by_refused : (s : Store) (made : Made) (q : AnyReq) (st : TreeStep) (b : Bool) → store_changes s q ≡ b
-    → (b ≡ false → (tree_step q (store_reply s q) ≡ Some st) × (said s q ≡ tree_reply (view s made) st) × (is_ok (said s q) ≡ false))
-    → (b ≡ true → (tree_step q (store_reply s q) ≡ None) × (view (store_change s q) made ≡ view s made)) → StepShows s made q
-by_refused s made q st true e refused did =
-    let d : (tree_step q (store_reply s q) ≡ None) × (view (store_change s q) made ≡ view s made) = did refl in rw (e, d.0) d.1
-by_refused s made q st false e refused did =
-    let d : (tree_step q (store_reply s q) ≡ Some st) × (said s q ≡ tree_reply (view s made) st)
-    × (is_ok (said s q) ≡ false) = refused refl in
-    rw (e, d.0, d.2) (d.1, refl)
+  -- a request that is a step just where it is refused
+  by_refused : (q : AnyReq) (st : TreeStep) (b : Bool) → store_changes s q ≡ b
+      → (b ≡ false → (tree_step q (store_reply s q) ≡ Some st) × (said q ≡ tree_reply (view s made) op st) × (is_ok (said q) ≡ false))
+      → (b ≡ true → (tree_step q (store_reply s q) ≡ None) × (view (store_change s q) made ≡ view s made)) → StepShows s made op q
+  by_refused q st true e refused did =
+      let d : (tree_step q (store_reply s q) ≡ None) × (view (store_change s q) made ≡ view s made) = did refl in rw (e, d.0) d.1
+  by_refused q st false e refused did =
+      let d : (tree_step q (store_reply s q) ≡ Some st) × (said q ≡ tree_reply (view s made) op st)
+      × (is_ok (said q) ≡ false) = refused refl in
+      rw (e, d.0, d.2) (d.1, refl)
 
-unseen : (s : Store) (made : Made) (q : AnyReq) (b : Bool) → (b ≡ true → view (store_change s q) made ≡ view s made)
-    → view (if b then store_change s q else s) made ≡ view s made
-unseen s made q true did = did refl
-unseen s made q false did = refl
+  unseen : (q : AnyReq) (b : Bool) → (b ≡ true → view (store_change s q) made ≡ view s made)
+      → view (if b then store_change s q else s) made ≡ view s made
+  unseen q true did = did refl
+  unseen q false did = refl
 
--- what changes the holds alone is not seen
-dir_holds_alike : (s : Store) (made : Made) (d : DirId) (h : Hold) (u : Option Upper)
-    → view record s { names = record s.names { dirs = set_at s.names.dirs d (dir_with_hold (get s.names.dirs d) h u) } } made ≡ view s made
-dir_holds_alike s made d h u i = record (view s made)
-    { dirs = dir_alike shown_dir s.names.dirs d (dir_with_hold (get s.names.dirs d) h u) (grind arith) i }
+  -- what changes the holds alone is not seen
+  dir_holds_alike : (d : DirId) (h : Hold) (u : Option Upper)
+      → view record s { names = record s.names { dirs = set_at s.names.dirs d (dir_with_hold (get s.names.dirs d) h u) } } made ≡ view s made
+  dir_holds_alike d h u i = record (view s made)
+      { dirs = dir_alike shown_dir s.names.dirs d (dir_with_hold (get s.names.dirs d) h u) (grind arith) i }
 
-file_holds_alike : (s : Store) (made : Made) (f : FileId) (h : Hold) (u : Option Upper)
-    → view record s { files = set_at s.files f (file_with_hold (get s.files f) h u) } made ≡ view s made
-file_holds_alike s made f h u i = record (view s made)
-    { files = file_alike shown_file s.files f (file_with_hold (get s.files f) h u) (grind arith) i }
+  file_holds_alike : (f : FileId) (h : Hold) (u : Option Upper)
+      → view record s { files = set_at s.files f (file_with_hold (get s.files f) h u) } made ≡ view s made
+  file_holds_alike f h u i = record (view s made)
+      { files = file_alike shown_file s.files f (file_with_hold (get s.files f) h u) (grind arith) i }
 
-grant_dir_shows : (s : Store) (made : Made) (d : DirId) (h : Hold) (k : Key) → StepShows s made (any.Name (names.Grant d h k))
-grant_dir_shows s made d h k = by_refused s made (any.Name (names.Grant d h k)) (step.GrantDir d) _ refl
-    (λ refused. (grind arith, grind (arith, get-map_values), grind arith))
-    (λ ok. (grind arith, dir_holds_alike s made d h (Some (uppers.Entry k))))
+  grant_dir_shows : (d : DirId) (h : Hold) (k : Key) → StepShows s made op (any.Name (names.Grant d h k))
+  grant_dir_shows d h k = by_refused (any.Name (names.Grant d h k)) (step.GrantDir d) _ refl
+      (λ refused. (grind arith, grind (arith, get-map_values), grind arith))
+      (λ ok. (grind arith, dir_holds_alike d h (Some (uppers.Entry k))))
 
-grant_file_shows : (s : Store) (made : Made) (f : FileId) (h : Hold) (k : Key) → StepShows s made (any.File (files.Grant f h k))
-grant_file_shows s made f h k = by_refused s made (any.File (files.Grant f h k)) (step.GrantFile f) _ refl
-    (λ refused. (grind arith, grind (arith, get-map_values), grind arith))
-    (λ ok. (grind arith, file_holds_alike s made f h (Some (uppers.Entry k))))
+  grant_file_shows : (f : FileId) (h : Hold) (k : Key) → StepShows s made op (any.File (files.Grant f h k))
+  grant_file_shows f h k = by_refused (any.File (files.Grant f h k)) (step.GrantFile f) _ refl
+      (λ refused. (grind arith, grind (arith, get-map_values), grind arith))
+      (λ ok. (grind arith, file_holds_alike f h (Some (uppers.Entry k))))
 
-release_dir_shows : (s : Store) (made : Made) (d : DirId) (h : Hold) → StepShows s made (any.Name (names.Release d h))
-release_dir_shows s made d h = unseen s made (any.Name (names.Release d h)) _ (λ ok. dir_holds_alike s made d h None)
+  release_dir_shows : (d : DirId) (h : Hold) → StepShows s made op (any.Name (names.Release d h))
+  release_dir_shows d h = unseen (any.Name (names.Release d h)) _ (λ ok. dir_holds_alike d h None)
 
-release_file_shows : (s : Store) (made : Made) (f : FileId) (h : Hold) → StepShows s made (any.File (files.Release f h))
-release_file_shows s made f h = unseen s made (any.File (files.Release f h)) _ (λ ok. file_holds_alike s made f h None)
+  release_file_shows : (f : FileId) (h : Hold) → StepShows s made op (any.File (files.Release f h))
+  release_file_shows f h = unseen (any.File (files.Release f h)) _ (λ ok. file_holds_alike f h None)
 
-make_file_shows : (s : Store) (made : Made) (f : FileId) (h : Hold) (k : Key) (t : Option OpId) → AllMade s made
-    → get made (nodes.File f) ≡ None → StepShows s made (any.File (files.MakeFile f h k t))
-make_file_shows s made f h k t all new = by_step s made (any.File (files.MakeFile f h k t)) (step.MakeFile f t) refl
-    (grind (arith, all (nodes.File f))) (grind arith)
-    (λ ok i. record {
-      dirs = map_values shown_dir s.names.dirs;
-      entries = map_values shown_entry s.names.entries;
-      files = file_put shown_file s.files f (Some record { token = t; holds = set_at empty h (Some (uppers.Entry k)) }) i;
-      made = set_at made (nodes.File f) (Some tt);
-    })
+  make_file_shows : (f : FileId) (h : Hold) (k : Key) (t : Option OpId) → AllMade s made
+      → get made (nodes.File f) ≡ None → StepShows s made op (any.File (files.MakeFile f h k t))
+  make_file_shows f h k t all new = by_step (any.File (files.MakeFile f h k t)) (step.MakeFile f t) refl
+      (grind (arith, all (nodes.File f))) (grind arith)
+      (λ ok i. record {
+        dirs = map_values shown_dir s.names.dirs;
+        entries = map_values shown_entry s.names.entries;
+        files = file_put shown_file s.files f (Some record { token = t; holds = set_at empty h (Some (uppers.Entry k)) }) i;
+        made = set_at made (nodes.File f) (Some tt);
+      })
 
--- the whole table
-name_shows : (s : Store) (made : Made) (q : NameReq) → AllMade s made → MakesNew made (any.Name q) → StepShows s made (any.Name q)
-name_shows s made (names.CheckDir d) all new = check_shows s made d
-name_shows s made (names.Look k) all new = look_shows s made k
-name_shows s made (names.List d) all new = list_shows s made d
-name_shows s made (names.MakeDir d p h k) all new = make_dir_shows s made d p h k all new
-name_shows s made (names.Bind k n h o) all new = bind_shows s made k n h o
-name_shows s made (names.Swap d from to n h) all new = swap_shows s made d from to n h new
-name_shows s made (names.Unbind k w) all new = unbind_shows s made k w
-name_shows s made (names.Grant d h k) all new = grant_dir_shows s made d h k
-name_shows s made (names.Release d h) all new = release_dir_shows s made d h
+  -- the whole table
+  name_shows : (q : NameReq) → AllMade s made → MakesNew made (any.Name q) → StepShows s made op (any.Name q)
+  name_shows (names.CheckDir d) all new = check_shows d
+  name_shows (names.Look k) all new = look_shows k
+  name_shows (names.List d) all new = list_shows d
+  name_shows (names.MakeDir d p h k) all new = make_dir_shows d p h k all new
+  name_shows (names.Bind k n h o) all new = bind_shows k n h o
+  name_shows (names.Swap d from to n h) all new = swap_shows d from to n h new
+  name_shows (names.Unbind k w) all new = unbind_shows k w
+  name_shows (names.Grant d h k) all new = grant_dir_shows d h k
+  name_shows (names.Release d h) all new = release_dir_shows d h
 
-file_shows : (s : Store) (made : Made) (q : FileReq) → AllMade s made → MakesNew made (any.File q) → StepShows s made (any.File q)
-file_shows s made (files.MakeFile f h k t) all new = make_file_shows s made f h k t all new
-file_shows s made (files.Grant f h k) all new = grant_file_shows s made f h k
-file_shows s made (files.Release f h) all new = release_file_shows s made f h
+  file_shows : (q : FileReq) → AllMade s made → MakesNew made (any.File q) → StepShows s made op (any.File q)
+  file_shows (files.MakeFile f h k t) all new = make_file_shows f h k t all new
+  file_shows (files.Grant f h k) all new = grant_file_shows f h k
+  file_shows (files.Release f h) all new = release_file_shows f h
 
-pub request_shows : (s : Store) (made : Made) (q : AnyReq) → AllMade s made → MakesNew made q → StepShows s made q
-request_shows s made (any.Name q) all new = name_shows s made q all new
-request_shows s made (any.File q) all new = file_shows s made q all new
+  pub request_shows : (q : AnyReq) → AllMade s made → MakesNew made q → StepShows s made op q
+  request_shows (any.Name q) all new = name_shows q all new
+  request_shows (any.File q) all new = file_shows q all new

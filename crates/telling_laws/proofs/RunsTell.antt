@@ -11,6 +11,7 @@ use Rattle.tect_ids.proofs.KeyTests.{op_eq_cases}
 use Rattle.store_rules.specs.declared.any.AnyReq.{AnyReq}
 use Rattle.store_rules.specs.declared.any.AnyReply.{AnyReply}
 use Rattle.store_rules.specs.Store.{Store, opening_store, store_reply}
+use Rattle.program_laws.specs.Known.{Deciding}
 use Rattle.tree_model.specs.Tree.{opening_tree}
 use Rattle.program_forms.specs.declared.heard.Heard.{Heard}
 use Rattle.program_forms.specs.declared.heard.Heard.TheVariants as hearing
@@ -27,19 +28,20 @@ use Rattle.world_runs.specs.Actors.{Actor, Running, CanBegin, OwnMay, program_an
 use Rattle.world_runs.specs.Moments.{WorldState, opening, May, after, IsWorldRun, moment}
 use Rattle.world_runs.specs.OwnRuns.{stored_after}
 use Rattle.world_runs.specs.Refusals.{was_refused}
-use Rattle.world_runs.proofs.Actors.{changed, changed_there, moment-append}
+use Rattle.world_runs.proofs.Actors.{changed, moment-append}
 use Rattle.world_runs.proofs.Fronts.{front_runs, may_at}
 use Rattle.world_runs.proofs.Owns.{store_is_after}
 use Rattle.world_runs.proofs.Refusals.{refused-front, refused-rest}
+use Rattle.world_runs.proofs.Standings.{runs_at, Asking, asks_of, Saying, says_of, does_say, went_on_number, ended_number, own_grows}
 use Rattle.claim_words.specs.TreeSteps.{told_of, tree_steps, IsTreeRun}
 use Rattle.claim_words.specs.Points.{of_op}
 use Rattle.claim_words.specs.Headline.{begun_by, or_later, command_of, ExplainsBy, HadNoRoom}
-use Rattle.telling_laws.specs.Telling.{is_of, tree_of, KnowsAt, RunsKnow, RunsFollowTree, Telling, OfDecided, Tells, TellingLaws}
+use Rattle.telling_laws.specs.Telling.{is_of, tree_of, IsSafe, RunsAskSafely, RunsFollowTree, Telling, OfDecided, Tells, TellingLaws}
 use Rattle.telling_laws.specs.Telling.{RunsAreExplained}
 use Rattle.telling_laws.proofs.Histories.{steps_more, tree_run-rest, others_steps, others_begin, command_more, itself, run_front, run_rest}
-use Rattle.telling_laws.proofs.Owns.{runs_at, Asking, asks_of, Saying, says_of, does_say, went_on_number, ended_number, own_grows}
+use Rattle.telling_laws.proofs.RunsFollow.{AskSafely, asks_safely}
 
-module _ (S : Type 0) (P : Programs S) (K : List Event → OpId → Memory → S → Type 0) (T : Telling S) (L : TellingLaws P K T) where
+module _ (S : Type 0) (P : Programs S) (D : Deciding S Answer) (T : Telling S) (L : TellingLaws P D T) where
   -- ---- one command
 
   -- what is told stays told
@@ -49,43 +51,43 @@ module _ (S : Type 0) (P : Programs S) (K : List Event → OpId → Memory → S
   decided_stays h e op c s (Some a) other t = L.lasts h (e ∷ []) op c a t
 
   -- after its look-ups
-  turned_tells : (counts : Counts) (h : List Event) (op : OpId) (c : Command) (m : Memory) (s : S) → K h op m s → Tells T h op c s
-      → Tells T h op c (turned P.kind counts m op s).state
-  turned_tells counts h op c m s k t = by (T.decided s) refl t
+  turned_tells : (counts : Counts) (h : List Event) (op : OpId) (c : Command) (m : Memory) (s : S) → Tells D T h op c s
+      → Tells D T h op c (turned P.kind counts m op s).state
+  turned_tells counts h op c m s t = by (D.decided s) refl t
     where
-      by : (d : Option Answer) → T.decided s ≡ d → OfDecided (T.Before h op c s) (T.because h op c) d
-          → Tells T h op c (turned P.kind counts m op s).state
-      by None is b = L.turns counts h op c m s k b is
-      by (Some a) is b = let so : T.decided (turned P.kind counts m op s).state ≡ Some a = L.turned_so counts m op s a is in rw so b
+      by : (d : Option Answer) → D.decided s ≡ d → OfDecided (T.Before h op c s) (T.because h op c) d
+          → Tells D T h op c (turned P.kind counts m op s).state
+      by None is b = L.turns counts h op c m s b is
+      by (Some a) is b = let so : D.decided (turned P.kind counts m op s).state ≡ Some a = L.turned_so counts m op s a is in rw so b
 
   -- after a reply
   heard_tells : (counts : Counts) (h : List Event) (op : OpId) (c : Command) (m : Memory) (s : S) (q : AnyReq) (x : AnyReply) (how : Heard)
-      → K h op m s → next_does P.kind counts m op s ≡ Asks q → x ≡ store_reply (stored_after opening_store h) q
-      → IsTreeRun (tree_of h) (told_of (Own op (Acted q x how))) → Tells T h op c s
-      → Tells T (h ++ Own op (Acted q x how) ∷ []) op c (state_heard P.kind counts m op s q x)
-  heard_tells counts h op c m s q x how k asks is allowed t =
-      by (T.decided (turned P.kind counts m op s).state) refl (turned_tells counts h op c m s k t)
+      → IsSafe h q → next_does P.kind counts m op s ≡ Asks q → x ≡ store_reply (stored_after opening_store h) q
+      → IsTreeRun (tree_of h) (told_of (Own op (Acted q x how))) → Tells D T h op c s
+      → Tells D T (h ++ Own op (Acted q x how) ∷ []) op c (state_heard P.kind counts m op s q x)
+  heard_tells counts h op c m s q x how safe asks is allowed t =
+      by (D.decided (turned P.kind counts m op s).state) refl (turned_tells counts h op c m s t)
     where
-      by : (d : Option Answer) → T.decided (turned P.kind counts m op s).state ≡ d
+      by : (d : Option Answer) → D.decided (turned P.kind counts m op s).state ≡ d
           → OfDecided (T.Before h op c (turned P.kind counts m op s).state) (T.because h op c) d
-          → Tells T (h ++ Own op (Acted q x how) ∷ []) op c (state_heard P.kind counts m op s q x)
-      by None e b = L.hears counts h op c m s q x how k asks is b e allowed
+          → Tells D T (h ++ Own op (Acted q x how) ∷ []) op c (state_heard P.kind counts m op s q x)
+      by None e b = L.hears counts h op c m s q x how safe asks is b e allowed
       by (Some a) e b =
-          let so : T.decided (state_heard P.kind counts m op s q x) ≡ Some a = L.heard_so counts m op s q x a e in
+          let so : D.decided (state_heard P.kind counts m op s q x) ≡ Some a = L.heard_so counts m op s q x a e in
           rw so (L.lasts h (Own op (Acted q x how) ∷ []) op c a b)
 
   -- its answer
-  said_because : (counts : Counts) (h : List Event) (op : OpId) (c : Command) (m : Memory) (s : S) (a : Answer) → K h op m s
-      → next_does P.kind counts m op s ≡ Says a → Tells T h op c s → T.because h op c a
-  said_because counts h op c m s a k says t =
-      let is : T.decided (turned P.kind counts m op s).state ≡ Some a = L.says counts h op c m s a k t says in
-      rw is at (turned_tells counts h op c m s k t)
+  said_because : (counts : Counts) (h : List Event) (op : OpId) (c : Command) (m : Memory) (s : S) (a : Answer)
+      → next_does P.kind counts m op s ≡ Says a → Tells D T h op c s → T.because h op c a
+  said_because counts h op c m s a says t =
+      let is : D.decided (turned P.kind counts m op s).state ≡ Some a = L.says counts m op s a says in
+      rw is at (turned_tells counts h op c m s t)
 
   -- ---- all of a moment
 
   -- The command began, and was told so far; or it was refused. One that heard no more of its last reply ends with no answer.
   abbrev StandTells : List Event → OpId → Standing S → Type 0
-  StandTells h op (Goes s) = (c : Command) × (command_of h op ≡ Some c) × Tells T h op c s
+  StandTells h op (Goes s) = (c : Command) × (command_of h op ≡ Some c) × Tells D T h op c s
   StandTells h op Left = Unit {0}
   StandTells h op NoRoom = was_refused h op ≡ true
 
@@ -105,7 +107,7 @@ module _ (S : Type 0) (P : Programs S) (K : List Event → OpId → Memory → S
   stand_stays h e op (Goes s) other t = (
     t.0,
     command_more h e op ∙ ap (λ (z : Option Command). or_later z (begun_by e op)) t.1,
-    decided_stays h e op t.0 s (T.decided s) other t.2,
+    decided_stays h e op t.0 s (D.decided s) other t.2,
   )
   stand_stays h e op Left other t = tt
   stand_stays h e op NoRoom other t = refused-front h (e ∷ []) op t
@@ -117,7 +119,7 @@ module _ (S : Type 0) (P : Programs S) (K : List Event → OpId → Memory → S
 
   -- ---- an actor's event
 
-  module _ (h : List Event) (m : WorldState S) (t : AllTold h m) (knows : KnowsAt K h m) (stored : m.store ≡ stored_after opening_store h)
+  module _ (h : List Event) (m : WorldState S) (t : AllTold h m) (safe : AskSafely P h m) (stored : m.store ≡ stored_after opening_store h)
       (op : OpId) where
     -- the actor
     abbrev s : Actor S
@@ -127,7 +129,7 @@ module _ (S : Type 0) (P : Programs S) (K : List Event → OpId → Memory → S
     last : (at : Standing S) → s.running ≡ Some record { op = op; at = at } → op.number ≡ s.number
     last at is = let k : RunningTells h op.actor s.number (Some record { op = op; at = at }) = rw is at (t.tells op.actor) in k.1
 
-    -- no op later than the actor's number after_it is the event's
+    -- no op later than the actor's number after is the event's
     own_new : (hp : Happening) → OwnMay P m.counts s op hp → op.number ≤ (own_after P m.counts s op hp).number
     own_new (Began c) may = omega arith
     own_new (NotBegun c) may = omega arith
@@ -142,12 +144,11 @@ module _ (S : Type 0) (P : Programs S) (K : List Event → OpId → Memory → S
 
     -- what is told of the actor's own command after its event
     begun_tells : (c : Command) → CanBegin s op → P.serves c ≡ true
-        → K (h ++ Own op (Began c) ∷ []) op s.memory (P.starts m.counts c)
         → StandTells (h ++ Own op (Began c) ∷ []) op (Goes (P.starts m.counts c))
-    begun_tells c can served k = (
+    begun_tells c can served = (
       c,
       command_more h (Own op (Began c)) op ∙ rw (t.unbegun op (omega (arith, can.next)), itself op) refl,
-      L.begins m.counts h op c s.memory served (t.unasked op (omega (arith, can.next))) k,
+      L.begins m.counts h op c served (t.unasked op (omega (arith, can.next))),
     )
 
     acted_tells : (q : AnyReq) (x : AnyReply) (how : Heard) (state : S) → s.running ≡ Some record { op = op; at = Goes state }
@@ -167,7 +168,7 @@ module _ (S : Type 0) (P : Programs S) (K : List Event → OpId → Memory → S
         goes g run = (
           was.0,
           command_more h (Own op (Acted q x g)) op ∙ ap (λ (z : Option Command). or_later z None) was.1,
-          heard_tells m.counts h op was.0 s.memory state q x g (knows op.actor op state is) asks here run was.2,
+          heard_tells m.counts h op was.0 s.memory state q x g (safe op.actor op state q is asks) asks here run was.2,
         )
 
         by : (g : Heard) → IsTreeRun (tree_of h) (told_of (Own op (Acted q x g)))
@@ -182,38 +183,22 @@ module _ (S : Type 0) (P : Programs S) (K : List Event → OpId → Memory → S
         subst (λ (o : Option (Running S)). RunningTells (h ++ e ∷ []) op.actor (ended P m.counts s o).number (ended P m.counts s o).running)
         (sym is) tt
 
-    began_knows : (c : Command) → KnowsAt K (h ++ Own op (Began c) ∷ []) (after P m (Own op (Began c)))
-        → K (h ++ Own op (Began c) ∷ []) op s.memory (P.starts m.counts c)
-    began_knows c after_it =
-        let next : Actor S = own_after P m.counts s op (Began c) in
-        let there : Actor S = (after P m (Own op (Began c))).actors op.actor in
-        let runs : there.running ≡ Some record { op = op; at = Goes (P.starts m.counts c) } =
-        changed_there (λ (z : Actor S). z.running ≡ Some record { op = op; at = Goes (P.starts m.counts c) }) m.actors op.actor next refl in
-        let memory : there.memory ≡ s.memory = changed_there (λ (z : Actor S). z.memory ≡ s.memory) m.actors op.actor next refl in
-        subst (λ (mem : Memory). K (h ++ Own op (Began c) ∷ []) op mem (P.starts m.counts c)) memory
-        (after_it op.actor op (P.starts m.counts c) runs)
-
     own_tells : (hp : Happening) → May P m (Own op hp) → IsTreeRun (tree_of h) (told_of (Own op hp))
-        → KnowsAt K (h ++ Own op hp ∷ []) (after P m (Own op hp))
         → RunningTells (h ++ Own op hp ∷ []) op.actor (own_after P m.counts s op hp).number (own_after P m.counts s op hp).running
-    own_tells (Began c) may allowed after_it = (
-      refl,
-      refl,
-      begun_tells c (may.0).0 (may.0).1 (began_knows c after_it),
-    )
-    own_tells (NotBegun c) may allowed after_it = (refl, refl, refused-rest h (Own op (NotBegun c) ∷ []) op (rw (itself op) refl))
-    own_tells (Acted q x how) may allowed after_it =
+    own_tells (Began c) may allowed = (refl, refl, begun_tells c (may.0).0 (may.0).1)
+    own_tells (NotBegun c) may allowed = (refl, refl, refused-rest h (Own op (NotBegun c) ∷ []) op (rw (itself op) refl))
+    own_tells (Acted q x how) may allowed =
         let a : Asking S P m.counts s.memory s.running op q = asks_of S P m.counts s.memory s.running op q may.0 in
         subst (λ (o : Option (Running S)). RunningTells (h ++ Own op (Acted q x how) ∷ []) op.actor (went_on P m.counts s o q x how).number
         (went_on P m.counts s o q x how).running) (sym a.is)
         (refl, last (Goes a.state) a.is, acted_tells q x how a.state a.is a.asks may.1 allowed)
-    own_tells (Ended b) may allowed after_it =
+    own_tells (Ended b) may allowed =
         let a : Saying S P m.counts s.memory s.running op b = says_of S P m.counts s.memory s.running op b may.0 in
         ended_tells (Own op (Ended b)) _ a.is
-    own_tells Stopped may allowed after_it = tt
-    own_tells (Failed b) may allowed after_it = ended_tells (Own op (Failed b)) _ (runs_at s.running op ((may.0).1).0 ((may.0).1).1)
+    own_tells Stopped may allowed = tt
+    own_tells (Failed b) may allowed = ended_tells (Own op (Failed b)) _ (runs_at s.running op ((may.0).1).0 ((may.0).1).1)
 
-    -- an op that is later after_it was so before, and is another
+    -- an op that is later after it was so before, and is another
     later_op : (hp : Happening) → May P m (Own op hp) → (o : OpId) → ((after P m (Own op hp)).actors o.actor).number < o.number
         → ((m.actors o.actor).number < o.number) × (op_eq op o ≡ false)
     later_op hp may o = changed (λ (z : Actor S). z.number < o.number
@@ -232,10 +217,10 @@ module _ (S : Type 0) (P : Programs S) (K : List Event → OpId → Memory → S
         actors_differ a b differs = grind (arith, op_eq_cases a b)
 
     own_told : (hp : Happening) → May P m (Own op hp) → IsTreeRun (tree_of h) (told_of (Own op hp))
-        → KnowsAt K (h ++ Own op hp ∷ []) (after P m (Own op hp)) → AllTold (h ++ Own op hp ∷ []) (after P m (Own op hp))
-    own_told hp may allowed after_it = record {
+        → AllTold (h ++ Own op hp ∷ []) (after P m (Own op hp))
+    own_told hp may allowed = record {
       tells = λ b. changed (λ (z : Actor S). RunningTells (h ++ Own op hp ∷ []) b z.number z.running) m.actors op.actor
-          (own_after P m.counts s op hp) b (λ same. rw same (own_tells hp may allowed after_it))
+          (own_after P m.counts s op hp) b (λ same. rw same (own_tells hp may allowed))
           (λ differs. running_stays h (Own op hp) b _ _ (λ o own. grind (arith, op_eq_cases op o, own, differs)) (t.tells b));
       unbegun = λ o late.
           let k : ((m.actors o.actor).number < o.number) × (op_eq op o ≡ false) = later_op hp may o late in
@@ -252,30 +237,30 @@ module _ (S : Type 0) (P : Programs S) (K : List Event → OpId → Memory → S
     unasked = λ o late. others_steps h Dumped o refl ∙ t.unasked o late;
   }
 
-  event_told : (h : List Event) (m : WorldState S) (e : Event) → AllTold h m → KnowsAt K h m → m.store ≡ stored_after opening_store h
-      → May P m e → IsTreeRun (tree_of h) (told_of e) → KnowsAt K (h ++ e ∷ []) (after P m e) → AllTold (h ++ e ∷ []) (after P m e)
-  event_told h m (Own op hp) t knows stored may allowed after_it = own_told h m t knows stored op hp may allowed after_it
-  event_told h m Dumped t knows stored may allowed after_it = dump_told h m t
+  event_told : (h : List Event) (m : WorldState S) (e : Event) → AllTold h m → AskSafely P h m → m.store ≡ stored_after opening_store h
+      → May P m e → IsTreeRun (tree_of h) (told_of e) → AllTold (h ++ e ∷ []) (after P m e)
+  event_told h m (Own op hp) t safe stored may allowed = own_told h m t safe stored op hp may allowed
+  event_told h m Dumped t safe stored may allowed = dump_told h m t
 
   opening_told : (counts : Counts) → AllTold [] (opening counts)
   opening_told counts = record { tells = λ a. tt; unbegun = λ op late. refl; unasked = λ op late. refl }
 
   -- a command that has come to its answer
   stand_answers : (h : List Event) (op : OpId) (a : Answer) (counts : Counts) (m : Memory) (at : Standing S)
-      → ((s : S) → at ≡ Goes s → K h op m s) → program_answer P counts m (Some record { op = op; at = at }) ≡ Some a → StandTells h op at
+      → program_answer P counts m (Some record { op = op; at = at }) ≡ Some a → StandTells h op at
       → ExplainsBy T.because h op a ⊎ HadNoRoom h op a
-  stand_answers h op a counts m (Goes s) knows says t = inl record {
+  stand_answers h op a counts m (Goes s) says t = inl record {
     command = t.0;
     begun = t.1;
-    because = said_because counts h op t.0 m s a (knows s refl) (does_say S P counts m (next_does P.kind counts m op s) a says) t.2;
+    because = said_because counts h op t.0 m s a (does_say S P counts m (next_does P.kind counts m op s) a says) t.2;
   }
-  stand_answers h op a counts m Left knows says t = absurd (let z : None ≡ Some a = says in cc)
-  stand_answers h op a counts m NoRoom knows says t =
+  stand_answers h op a counts m Left says t = absurd (let z : None ≡ Some a = says in cc)
+  stand_answers h op a counts m NoRoom says t =
       let z : Some no_room ≡ Some a = says in inr (t, (let same : a ≡ no_room = cc in same))
 
   -- ---- each run
 
-  module _ (knows : RunsKnow P K) (follows : RunsFollowTree P) (counts : Counts) where
+  module _ (safely : RunsAskSafely P) (follows : RunsFollowTree P) (counts : Counts) where
     run_told : (h es : List Event) → IsWorldRun P counts (h ++ es) → AllTold h (moment P counts h)
         → AllTold (h ++ es) (moment P counts (h ++ es))
     run_told h [] run t = rw append-nil t
@@ -287,38 +272,33 @@ module _ (S : Type 0) (P : Programs S) (K : List Event → OpId → Memory → S
         let steps : IsTreeRun opening_tree (tree_steps h ++ told_of e) =
         subst (λ l. IsTreeRun opening_tree l) (steps_more h e) (follows counts (h ++ e ∷ []) more) in
         let now : moment P counts (h ++ e ∷ []) ≡ after P (moment P counts h) e = moment-append P counts h (e ∷ []) in
-        let after_it : KnowsAt K (h ++ e ∷ []) (after P (moment P counts h) e) =
-        subst (λ (n : WorldState S). KnowsAt K (h ++ e ∷ []) n) now (knows counts (h ++ e ∷ []) more) in
         let next : AllTold (h ++ e ∷ []) (moment P counts (h ++ e ∷ [])) =
         subst (λ (n : WorldState S). AllTold (h ++ e ∷ []) n) (sym now)
-        (event_told h (moment P counts h) e t (knows counts h front) (store_is_after P (opening counts) h) may
-        (tree_run-rest opening_tree (tree_steps h) (told_of e) steps) after_it) in
+        (event_told h (moment P counts h) e t (asks_safely P safely counts h front) (store_is_after P (opening counts) h) may
+        (tree_run-rest opening_tree (tree_steps h) (told_of e) steps)) in
         subst (λ (l : List Event). AllTold l (moment P counts l)) (append_assoc h (e ∷ []) es) (run_told (h ++ e ∷ []) es whole next)
 
     told_at : (es : List Event) (place : ℕ) → IsWorldRun P counts es → AllTold (take place es) (moment P counts (take place es))
     told_at es place run = run_told [] (take place es) (front_runs P place es (opening counts) run) (opening_told counts)
 
-    answer_told : (h : List Event) (op : OpId) (a : Answer) → IsWorldRun P counts h → AllTold h (moment P counts h)
+    answer_told : (h : List Event) (op : OpId) (a : Answer) → AllTold h (moment P counts h)
         → May P (moment P counts h) (Own op (Ended a)) → ExplainsBy T.because h op a ⊎ HadNoRoom h op a
-    answer_told h op a run t may =
+    answer_told h op a t may =
         let m : WorldState S = moment P counts h in
         let actor : Actor S = m.actors op.actor in
         let its : Saying S P m.counts actor.memory actor.running op a = says_of S P m.counts actor.memory actor.running op a may.0 in
         let tells : RunningTells h op.actor actor.number (Some record { op = op; at = its.at }) = rw its.is at (t.tells op.actor) in
-        stand_answers h op a m.counts actor.memory its.at
-        (λ s is. knows counts h run op.actor op s
-        (its.is ∙ ap (λ (z : Standing S). (let r : Option (Running S) = Some record { op = op; at = z } in r)) is))
-        its.says tells.2
+        stand_answers h op a m.counts actor.memory its.at its.says tells.2
 
-  pub runs_are_explained : RunsKnow P K → RunsFollowTree P → RunsAreExplained P T
-  runs_are_explained knows follows counts es run = record {
+  pub runs_are_explained : RunsAskSafely P → RunsFollowTree P → RunsAreExplained P T
+  runs_are_explained safely follows counts es run = record {
     tree = follows counts es run;
     begins = λ place op c is.
         let m : WorldState S = moment P counts (take place es) in
         let may : May P m (Own op (Began c)) = may_at P (opening counts) es place (Own op (Began c)) run is in
-        (told_at knows follows counts es place run).unasked op (omega (arith, ((may.0).0).next));
+        (told_at safely follows counts es place run).unasked op (omega (arith, ((may.0).0).next));
     answers = λ place op a is.
-        answer_told knows follows counts (take place es) op a (front_runs P place es (opening counts) run)
-        (told_at knows follows counts es place run)
+        answer_told safely follows counts (take place es) op a
+        (told_at safely follows counts es place run)
         (may_at P (opening counts) es place (Own op (Ended a)) run is);
   }

@@ -3,6 +3,7 @@ use Rattle.std.specs.Prelude.{◌≡◌, Bool, true, false, Option, Some, None, 
 use Rattle.std.specs.FinMap.{FinMap, get}
 use Rattle.tect_ids.specs.declared.ids.Node.{Node}
 use Rattle.tect_ids.specs.declared.ids.Node.TheVariants as nodes
+use Rattle.tect_ids.specs.declared.ids.OpId.{OpId}
 use Rattle.tect_ids.specs.Keys.{node_cmp, name_eq}
 use Rattle.store_rules.specs.declared.names.Directory.{Directory}
 use Rattle.store_rules.specs.declared.names.DirectoryEntry.{DirectoryEntry}
@@ -89,6 +90,6 @@ abbrev pub TreeFollows : Tree → OpId → Store → Option TreeStep → TreeRep
 TreeFollows t op s None x = Shows s t
 TreeFollows t op s (Some step) x = Allowed t op step x × Shows s (tree_next t op step x)
 
--- the request, seen by the tree that the store shows
-abbrev pub StepShows : Store → Made → AnyReq → Type 0
-StepShows s made q = TreeFollows (view s made) (store_step s q) (tree_step q (store_reply s q)) (says (store_reply s q))
+-- the request, seen by the tree that the store shows; it is that op's
+abbrev pub StepShows : Store → Made → OpId → AnyReq → Type 0
+StepShows s made op q = TreeFollows (view s made) op (store_step s q) (tree_step q (store_reply s q)) (says (store_reply s q))
