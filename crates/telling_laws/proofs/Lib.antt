@@ -4,3 +4,8 @@ pub mod Made
 pub mod Histories
 pub mod RunsFollow
 pub mod RunsTell
+pub mod Replies
+pub mod Walks
+pub mod Steps
+pub mod PartsTell
+pub mod WalksTell

@@ -13,6 +13,7 @@ use Rattle.program_forms.specs.declared.heard.Heard.{Heard}
 use Rattle.program_forms.specs.Memories.{Memory}
 use Rattle.program_parts.specs.declared.next.Next.{Next}
 use Rattle.program_parts.specs.declared.next.Next.TheVariants.{Goes, Comes}
+use Rattle.program_parts.specs.declared.releasing.Releasing.{Releasing}
 use Rattle.program_parts.specs.declared.walking.Walking.{Walking}
 use Rattle.program_parts.specs.declared.walking.Walking.TheVariants.{Way, There}
 use Rattle.program_parts.specs.Parts.{Part}
@@ -71,3 +72,8 @@ pub record WalkTells {O S : Type 0} (begins : O → DirId → S) (fits : Command
     pub before : (h : List Event) (op : OpId) (c : Command) (o : O) (d : DirId) → Walked root (way c) (of_op op (tree_steps h)) d []
         → fits c o → T.Before h op c (begins o d)
     pub point : (h : List Event) (op : OpId) (c : Command) (a : Answer) → Point (tree_steps h) op c a → T.because h op c a
+
+-- ---- the release, whose answer is decided from the first
+
+abbrev pub release_telling : (List Event → OpId → Command → Answer → Type 0) → Telling Releasing
+release_telling because = record { Before = λ h op c r. Unit {0}; because = because }
