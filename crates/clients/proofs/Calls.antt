@@ -18,7 +18,11 @@ use Rattle.world_runs.specs.Actors.{memory_after, memory_at_end, standing_heard,
 use Rattle.clients.specs.ActorState.{ActorState, op_of}
 use Rattle.clients.specs.ActorCalls.{standing_looked, actor_looked, looked, standing_now, running_now, asks_now, says_now, standing_plain, IsPlainOf}
 use Rattle.clients.specs.ActorCalls.{standing_on, memory_on, actor_on, gone_on, let_go}
-use Rattle.clients.specs.PassSteps.{heard_by, ended_by}
+use Rattle.clients.specs.PassSteps.{ended_by}
+
+-- the actor after its command went on at a reply
+abbrev pub heard_by : {S : Type 0} → Programs S → ActorState S → AnyReq → AnyReply → Heard → ActorState S
+heard_by P a q x h = record a { state = went_on P a.counts a.state a.state.running q x h }
 
 -- a command that has no answer as it stands asks
 pub goes_on : {R : Type 0} (d : Does R) → said_by d ≡ None → is_said d ≡ false

@@ -34,7 +34,8 @@ use Rattle.world_runs.specs.Limits.{KeepsRoom, OwnLimits}
 use Rattle.world_runs.specs.OwnRuns.{OwnMayHappen, OwnRun, own_next, own_state}
 use Rattle.world_runs.proofs.Actors.{same_number}
 use Rattle.clients.specs.ActorState.{ActorState, op_of}
-use Rattle.clients.specs.PassSteps.{Entered, heard_by, ended_by}
+use Rattle.clients.specs.PassSteps.{Entered, ended_by}
+use Rattle.clients.proofs.Calls.{heard_by}
 use Rattle.clients.proofs.Growing.{state_push, run_push, limits_push, own_push, program_own, went_own, plain_end, count_act, count_other}
 use Rattle.clients.proofs.Growing.{end_no_act, went_number, ended_number}
 use Rattle.clients.proofs.Weights.{fills, has_room}

@@ -30,10 +30,10 @@ use Rattle.clients.specs.ActorState.{ActorState, op_of}
 use Rattle.clients.specs.ActorCalls.{looked, asks_now, says_now, actor_on, gone_on, let_go, Advances}
 use Rattle.clients.specs.declared.steps.Step.{Step}
 use Rattle.clients.specs.Steps.{Unasked, Did, Denied, EndsSo}
-use Rattle.clients.specs.PassSteps.{heard_by, ended_by, Entered, Finishes, Tries, MarkedLeft, Marks, SettlesSo, EndsHere, HearsSo, StepEnds}
+use Rattle.clients.specs.PassSteps.{ended_by, Entered, Finishes, Tries, MarkedLeft, Marks, SettlesSo, EndsHere, HearsSo, StepEnds}
 use Rattle.clients.specs.PassSteps.{after_try, TookStep}
 use Rattle.program_calls.specs.Keeping.{KeepsSerial}
-use Rattle.clients.proofs.Calls.{looked_serial, looked_asks, looked_says, looked_plain, looked_on, looked_end, looked_op, says_end, says_answers}
+use Rattle.clients.proofs.Calls.{heard_by, looked_serial, looked_asks, looked_says, looked_plain, looked_on, looked_end, looked_op, says_end, says_answers}
 
 module _ {S : Type 0} (P : Programs S) where
   -- ---- how the command goes on at the reply

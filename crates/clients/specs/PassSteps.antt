@@ -19,15 +19,11 @@ use Rattle.entry_words.specs.Moments.{heard_last}
 use Rattle.passes.specs.declared.pass.Pass.{Pass}
 use Rattle.passes.specs.Commits.{IsFull}
 use Rattle.passes.specs.Adding.{entry_at, NotedEnd}
-use Rattle.world_runs.specs.Actors.{program_ask, program_answer, has_ended, went_on, ended}
+use Rattle.world_runs.specs.Actors.{program_ask, program_answer, has_ended, ended}
 use Rattle.clients.specs.ActorState.{ActorState, op_of}
 use Rattle.clients.specs.ActorCalls.{IsPlainOf, says_now, gone_on, looked, left_behind}
 use Rattle.clients.specs.declared.steps.Step.{Step}
 use Rattle.clients.specs.Steps.{Tried, Unasked, Did, Denied, Asks, DidThere, state_after, EndsSo}
-
--- the actor after its command went on at a reply
-abbrev pub heard_by : {S : Type 0} → Programs S → ActorState S → AnyReq → AnyReply → Heard → ActorState S
-heard_by P a q x h = record a { state = went_on P a.counts a.state a.state.running q x h }
 
 -- the actor after the end of its command
 abbrev pub ended_by : {S : Type 0} → Programs S → ActorState S → ActorState S
