@@ -48,4 +48,11 @@ impl NamePair {
     {
         &self.to
     }
+
+    /// The old name itself, with the new one let go. It takes no memory.
+    pub fn into_from(self) -> Name
+        ensures { result ≡ self.from }
+    {
+        self.from
+    }
 }
