@@ -11,7 +11,7 @@ use crate::shard::FileShard;
 use key_maps::{FileMap, HoldList};
 use std::alloc::Global;
 use store_rules::{File, FileReply};
-use tect_ids::{FileId, Hold, Key, NoMemory, Token, Upper};
+use tect_ids::{FileId, Hold, Key, NoMemory, Refusal, Token, Upper};
 
 impl FileShard {
     pub(crate) fn make_file_outcome(&self, file: FileId) -> Outcome
@@ -51,7 +51,7 @@ impl FileShard {
         ensures { outcome_of result ≡ grant_file_answer self.now file }
     {
         if self.files.get(file).is_none() {
-            return Outcome::Leaves(FileReply::NoFile);
+            return Outcome::refused(Refusal::NoFile);
         }
         Outcome::Changes(FileReply::Granted)
     }

@@ -1,8 +1,7 @@
 ghost use Rattle.std.specs.Prelude.{◌≡◌, IsTrue, IsOk, IfOk, OnOk, OnErr};
 ghost use Rattle.std.specs.FinMap.{empty};
 ghost use Rattle.store_rules.specs.Outcomes.{reply};
-ghost use Rattle.store_rules.specs.Files.{file_answer, file_step};
-ghost use Rattle.file_shard.specs.Memory.{takes_no_memory};
+ghost use Rattle.store_rules.specs.Files.{file_answer, file_rule, file_step};
 
 use key_maps::FileMap;
 use std::alloc::Global;
@@ -49,7 +48,7 @@ impl FileShard {
         ensures err { OnErr result (self.new ≡ self.old) }
 
         // What wants no memory is always answered.
-        ensures sure { IsTrue (takes_no_memory req.now) → IsOk result }
+        ensures sure { IsTrue (file_rule req.now).free → IsOk result }
     {
         match req {
             FileReq::MakeFile {
@@ -66,7 +65,7 @@ impl FileShard {
     /// What `step` would answer. It changes nothing.
     pub fn reply(&self, req: &FileReq) -> Result<FileReply, NoMemory>
         ensures answers { IfOk result (λ x. x ≡ reply (file_answer self.now req.now)) }
-        ensures sure { IsTrue (takes_no_memory req.now) → IsOk result }
+        ensures sure { IsTrue (file_rule req.now).free → IsOk result }
     {
         match req {
             FileReq::MakeFile { file, .. } => Ok(self.make_file_outcome(*file).into_reply()),
