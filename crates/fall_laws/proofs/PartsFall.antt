@@ -1,5 +1,5 @@
 -- a command made of a part takes as few transactions as the part; so do a part within another, a walk and a release
-use Rattle.std.proofs.Common.{◌≡◌, ◌+◌, ◌≤◌, ℕ, Bool, true, false, Option, Some, None, List, [], ◌∷◌, length, refl, sym, ap, subst, arith}
+use Rattle.std.proofs.Common.{◌≡◌, ◌+◌, ℕ, Bool, false, Option, Some, None, List, [], ◌∷◌, length, refl, sym, ap, subst, arith}
 use Rattle.tect_ids.specs.declared.ids.Counts.{Counts}
 use Rattle.tect_ids.specs.declared.ids.DirId.{DirId}
 use Rattle.tect_ids.specs.declared.ids.Hold.{Hold}
@@ -22,7 +22,6 @@ use Rattle.program_forms.specs.Memories.{Memory}
 use Rattle.program_forms.specs.Kinds.{Does, Asks, Says, asked_by, Turned, Programs, next_does}
 use Rattle.program_parts.specs.declared.next.Next.{Next}
 use Rattle.program_parts.specs.declared.next.Next.TheVariants.{Goes, Comes}
-use Rattle.program_parts.specs.declared.releasing.Releasing.{Releasing}
 use Rattle.program_parts.specs.declared.walking.Walking.{Walking}
 use Rattle.program_parts.specs.declared.walking.Walking.TheVariants.{Way, There}
 use Rattle.program_parts.specs.Parts.{Part, within, kind_of, next_asks, next_hears}
@@ -31,7 +30,7 @@ use Rattle.program_parts.specs.Releases.{release_ask, then_release, releasing}
 use Rattle.program_parts.specs.Walks.{walk_on, walked, walking}
 use Rattle.fall_laws.specs.Counting.{is_look}
 use Rattle.fall_laws.specs.Bounding.{Many, AtMost, Falls, FallLaws, none}
-use Rattle.fall_laws.specs.Parts.{PartBounding, PartFalls, Takes, plus, next_left, next_grown, next_bounding, never_grows}
+use Rattle.fall_laws.specs.Parts.{PartBounding, PartFalls, Takes, plus, next_left, next_bounding, never_grows}
 use Rattle.fall_laws.specs.Parts.{walk_left, walk_bounding, BeginsAtMost, releases_left, release_left}
 
 -- ---- a part state by state

@@ -6,13 +6,11 @@ use Rattle.tect_ids.specs.declared.command.Command.{Command}
 use Rattle.tect_ids.specs.declared.answer.Answer.{Answer}
 use Rattle.store_rules.specs.declared.any.AnyReq.{AnyReq}
 use Rattle.store_rules.specs.declared.any.AnyReply.{AnyReply}
-use Rattle.store_rules.specs.Store.{opening_store, store_reply}
 use Rattle.program_forms.specs.declared.heard.Heard.{Heard}
 use Rattle.program_forms.specs.Memories.{Memory}
-use Rattle.program_forms.specs.Kinds.{Does, Asks, Says, asked_by, said_by, Turned, Programs, turned, next_does, state_heard}
+use Rattle.program_forms.specs.Kinds.{Does, Asks, Says, asked_by, said_by, Turned, Programs, turned}
 use Rattle.program_parts.specs.declared.next.Next.{Next}
 use Rattle.program_parts.specs.declared.next.Next.TheVariants.{Goes, Comes}
-use Rattle.program_parts.specs.declared.releasing.Releasing.{Releasing}
 use Rattle.program_parts.specs.Parts.{Part, within, kind_of, next_asks, next_hears}
 use Rattle.program_parts.specs.Doings.{Doing, doing, doing_within}
 use Rattle.program_parts.specs.Releases.{then_release, releasing}
@@ -24,10 +22,9 @@ use Rattle.part_laws.proofs.Within.{within_decided, within_turned}
 use Rattle.world_runs.specs.declared.event.Event.{Event}
 use Rattle.world_runs.specs.declared.event.Event.TheVariants.{Own}
 use Rattle.world_runs.specs.declared.event.Happening.TheVariants.{Began, Acted}
-use Rattle.world_runs.specs.OwnRuns.{stored_after}
-use Rattle.claim_words.specs.TreeSteps.{told_of, tree_steps, IsTreeRun}
+use Rattle.claim_words.specs.TreeSteps.{tree_steps}
 use Rattle.claim_words.specs.Points.{of_op}
-use Rattle.telling_laws.specs.Telling.{is_of, tree_of, IsSafe, Telling, OfDecided, Tells, TellingLaws}
+use Rattle.telling_laws.specs.Telling.{is_of, IsSafe, Telling, OfDecided, Tells, TellingLaws}
 use Rattle.telling_laws.specs.Parts.{NextTells, NextBefore, next_telling, PartTells, release_telling}
 use Rattle.telling_laws.proofs.Steps.{reply_at, act_at, Allows}
 
@@ -165,9 +162,6 @@ then_release_tells because h op c (Some f) a b = b
 
 same_ask : (r q : AnyReq) → Some r ≡ Some q → r ≡ q
 same_ask r q e = cc
-
-same_answer : (r a : Answer) → Some r ≡ Some a → r ≡ a
-same_answer r a e = cc
 
 module _ {S : Type 0} {P : Part S Answer} {D : Deciding S Answer} {T : Telling S} (L : PartTells P D T) where
   next_tells : (h : List Event) (op : OpId) (c : Command) (n : Next S Answer) → NextTells D T h op c n

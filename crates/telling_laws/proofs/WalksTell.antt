@@ -1,6 +1,5 @@
 -- a walk before an operation: each look leads on, or is the command's point
-use Rattle.std.proofs.Common.{◌≡◌, ℕ, false, Option, Some, None, List, [], ◌∷◌, ◌++◌, refl}
-use Rattle.tect_ids.specs.declared.ids.Counts.{Counts}
+use Rattle.std.proofs.Common.{◌≡◌, ℕ, Option, Some, None, List, [], ◌∷◌, ◌++◌, refl}
 use Rattle.tect_ids.specs.declared.ids.DirId.{DirId}
 use Rattle.tect_ids.specs.declared.ids.FileId.{FileId}
 use Rattle.tect_ids.specs.declared.ids.Node.{Node}
@@ -18,7 +17,7 @@ use Rattle.store_rules.specs.declared.any.AnyReq.TheVariants as any
 use Rattle.store_rules.specs.declared.any.AnyReply.{AnyReply}
 use Rattle.store_rules.specs.Names.{key_in}
 use Rattle.store_rules.specs.Places.{request_place}
-use Rattle.store_rules.specs.Store.{Store, opening_store}
+use Rattle.store_rules.specs.Store.{opening_store}
 use Rattle.store_rules.specs.Views.{as_found}
 use Rattle.tree_model.specs.declared.step.TreeStep.TheVariants as step
 use Rattle.tree_model.specs.declared.step.StepValue.TheVariants as shown
@@ -34,13 +33,13 @@ use Rattle.program_laws.specs.Known.{Deciding}
 use Rattle.part_laws.specs.Walks.{walk_deciding}
 use Rattle.world_runs.specs.declared.event.Event.{Event}
 use Rattle.world_runs.specs.OwnRuns.{stored_after}
-use Rattle.claim_words.specs.TreeSteps.{says, tree_steps}
-use Rattle.claim_words.specs.Points.{of_op, StopsWalk, DecidesAt, Point}
+use Rattle.claim_words.specs.TreeSteps.{says}
+use Rattle.claim_words.specs.Points.{StopsWalk}
 use Rattle.telling_laws.specs.Telling.{Telling, Tells}
 use Rattle.telling_laws.specs.Parts.{NextTells, PartTells, WalkTells, walk_telling}
 use Rattle.telling_laws.proofs.Replies.{why_of, RefusesSo, look_some, look_none}
 use Rattle.telling_laws.proofs.Steps.{reply_at, act_at, Allows, WalkedTo, decides_now, walks_now, walked_stays}
-use Rattle.telling_laws.proofs.PartsTell.{TellsIn, WaitsAt, part_tells, tells_in, waits_tell, tells_within, told_before}
+use Rattle.telling_laws.proofs.PartsTell.{TellsIn, part_tells, tells_in, waits_tell, tells_within, told_before}
 
 -- what ends a walk
 stops_no : (k : Key) (a : Answer) (r : TreeReply) → r ≡ Refused (why_of r) → a ≡ refusal_answer k (why_of r) → StopsWalk k r a

@@ -1,5 +1,5 @@
 -- What is owed of a part of a command, so that the history explains the answers of a command made of parts.
-use Rattle.std.specs.Prelude.{◌≡◌, false, Option, Some, None, List, [], ◌∷◌, ◌++◌}
+use Rattle.std.specs.Prelude.{◌≡◌, false, Some, None, List, [], ◌∷◌, ◌++◌}
 use Rattle.tect_ids.specs.declared.ids.Counts.{Counts}
 use Rattle.tect_ids.specs.declared.ids.DirId.{DirId}
 use Rattle.tect_ids.specs.declared.ids.OpId.{OpId}
@@ -26,7 +26,7 @@ use Rattle.world_runs.specs.OwnRuns.{stored_after}
 use Rattle.claim_words.specs.Ways.{way}
 use Rattle.claim_words.specs.TreeSteps.{told_of, tree_steps, IsTreeRun}
 use Rattle.claim_words.specs.Points.{of_op, Walked, Point}
-use Rattle.telling_laws.specs.Telling.{is_of, tree_of, IsSafe, Telling, OfDecided, Tells}
+use Rattle.telling_laws.specs.Telling.{is_of, tree_of, IsSafe, Telling, Tells}
 
 -- what the history tells where the part goes on, or explains what it has come to
 abbrev pub NextTells : {S : Type 0} → Deciding S Answer → Telling S → List Event → OpId → Command → Next S Answer → Type 0

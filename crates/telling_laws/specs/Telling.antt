@@ -22,7 +22,7 @@ use Rattle.program_forms.specs.Kinds.{Asks, Says, Programs, turned, next_does, s
 use Rattle.world_runs.specs.declared.event.Event.{Event}
 use Rattle.world_runs.specs.declared.event.Event.TheVariants.{Own, Dumped}
 use Rattle.world_runs.specs.declared.event.Happening.TheVariants.{Began, Acted}
-use Rattle.world_runs.specs.Moments.{WorldState, IsWorldRun, moment}
+use Rattle.world_runs.specs.Moments.{IsWorldRun, moment}
 use Rattle.world_runs.specs.OwnRuns.{stored_after}
 use Rattle.claim_words.specs.TreeSteps.{told_of, tree_steps, tree_after, IsTreeRun}
 use Rattle.claim_words.specs.Points.{of_op}
