@@ -1,5 +1,4 @@
 pub mod Codes
 pub mod DirDumps
 pub mod Limits
-pub mod Memory
 pub mod Outcomes

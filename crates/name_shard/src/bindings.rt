@@ -14,7 +14,7 @@ use crate::outcome::Outcome;
 use crate::shard::NameShard;
 use key_maps::EntryTable;
 use store_rules::{DirectoryEntry, NameReply, Replaced};
-use tect_ids::{DirId, Hold, Key, Name, NoMemory, Node, Over, Want};
+use tect_ids::{DirId, Hold, Key, Name, NoMemory, Node, Over, Refusal, Want};
 
 // How many entries a directory may have.
 const ENTRY_LIMIT: u64 = 65_536;
@@ -25,18 +25,18 @@ impl NameShard {
         ensures { outcome_of result ≡ bind_answer self.now key.now over }
     {
         match self.refusal(key.dir) {
-            Some(refusal) => Outcome::Leaves(refusal),
+            Some(why) => Outcome::refused(why),
             None => self.bind_over(key, over),
         }
     }
 
     // Why the directory takes no change of its entries, if it takes none.
-    fn refusal(&self, dir: DirId) -> Option<NameReply>
+    fn refusal(&self, dir: DirId) -> Option<Refusal>
         ensures { result ≡ dir_refusal (get self.now.dirs dir) }
     {
         match self.dirs.get(dir) {
-            None => Some(NameReply::NoDir),
-            Some(directory) if directory.sealed => Some(NameReply::Sealed),
+            None => Some(Refusal::NoDir),
+            Some(directory) if directory.sealed => Some(Refusal::Sealed),
             Some(_) => None,
         }
     }
@@ -47,13 +47,13 @@ impl NameShard {
     {
         let Some(old) = self.entries.get(key) else {
             if self.entries.count(key.dir) >= ENTRY_LIMIT {
-                return Outcome::Leaves(NameReply::Full);
+                return Outcome::refused(Refusal::Full);
             }
             return Outcome::Changes(NameReply::Bound { old: None });
         };
         match (over, old.node) {
-            (Over::Absent, _) => Outcome::Leaves(NameReply::Exists),
-            (Over::File, Node::Dir(_)) => Outcome::Leaves(NameReply::IsDir),
+            (Over::Absent, _) => Outcome::refused(Refusal::Exists),
+            (Over::File, Node::Dir(_)) => Outcome::refused(Refusal::IsDir),
             (Over::File, Node::File(file)) => Outcome::Changes(NameReply::Bound {
                 old: Some(Replaced {
                     file,
@@ -87,7 +87,7 @@ impl NameShard {
         ensures { outcome_of result ≡ unbind_answer self.now key.now want }
     {
         match (self.refusal(key.dir), want) {
-            (Some(refusal), _) => Outcome::Leaves(refusal),
+            (Some(why), _) => Outcome::refused(why),
             (None, Want::AnyFile) => unbind_any(self.entries.get(key)),
             (None, Want::Exactly(node)) => unbind_node(self.entries.get(key), node),
         }
@@ -125,14 +125,14 @@ impl NameShard {
         requires { to.now.dir ≡ from.now.dir }
         ensures { outcome_of result ≡ swap_answer self.now from.now.dir from.now.name to.now.name node }
     {
-        if let Some(refusal) = self.refusal(from.dir) {
-            return Outcome::Leaves(refusal);
+        if let Some(why) = self.refusal(from.dir) {
+            return Outcome::refused(why);
         }
         let Some(renamed) = self.entries.get(from) else {
-            return Outcome::Leaves(NameReply::Changed { now: None });
+            return Outcome::refused(Refusal::Changed { now: None });
         };
         if !is_node(renamed.node, node) {
-            return Outcome::Leaves(NameReply::Changed {
+            return Outcome::refused(Refusal::Changed {
                 now: Some(renamed.node),
             });
         }
@@ -166,10 +166,10 @@ fn unbind_any(entry: Option<&DirectoryEntry>) -> Outcome
     ensures { outcome_of result ≡ unbind_any (option_copied entry.entry) }
 {
     let Some(entry) = entry else {
-        return Outcome::Leaves(NameReply::NoName);
+        return Outcome::refused(Refusal::NoName);
     };
     match entry.node {
-        Node::Dir(_) => Outcome::Leaves(NameReply::IsDir),
+        Node::Dir(_) => Outcome::refused(Refusal::IsDir),
         Node::File(_) => unbound(entry),
     }
 }
@@ -179,10 +179,10 @@ fn unbind_node(entry: Option<&DirectoryEntry>, node: Node) -> Outcome
     ensures { outcome_of result ≡ unbind_node (option_copied entry.entry) node }
 {
     let Some(entry) = entry else {
-        return Outcome::Leaves(NameReply::Changed { now: None });
+        return Outcome::refused(Refusal::Changed { now: None });
     };
     if !is_node(entry.node, node) {
-        return Outcome::Leaves(NameReply::Changed {
+        return Outcome::refused(Refusal::Changed {
             now: Some(entry.node),
         });
     }
@@ -212,8 +212,8 @@ fn swap_over(over: Option<&DirectoryEntry>, node: Node, hold: Hold) -> Outcome
         return Outcome::Changes(NameReply::Swapped { hold, old: None });
     };
     match (old.node, node) {
-        (Node::Dir(_), _) => Outcome::Leaves(NameReply::IsDir),
-        (Node::File(_), Node::Dir(_)) => Outcome::Leaves(NameReply::Exists),
+        (Node::Dir(_), _) => Outcome::refused(Refusal::IsDir),
+        (Node::File(_), Node::Dir(_)) => Outcome::refused(Refusal::Exists),
         (Node::File(file), Node::File(_)) => Outcome::Changes(NameReply::Swapped {
             hold,
             old: Some(Replaced {

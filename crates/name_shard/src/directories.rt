@@ -10,7 +10,7 @@ use crate::outcome::Outcome;
 use crate::shard::NameShard;
 use key_maps::{DirMap, HoldList};
 use store_rules::{Directory, NameReply};
-use tect_ids::{DirId, Hold, Key, NoMemory, Upper};
+use tect_ids::{DirId, Hold, Key, NoMemory, Refusal, Upper};
 
 // The requests that change a directory.
 impl NameShard {
@@ -56,7 +56,7 @@ impl NameShard {
         ensures { outcome_of result ≡ grant_dir_answer self.now dir }
     {
         if self.dirs.get(dir).is_none() {
-            return Outcome::Leaves(NameReply::NoDir);
+            return Outcome::refused(Refusal::NoDir);
         }
         Outcome::Changes(NameReply::Granted)
     }

@@ -6,7 +6,7 @@ ghost use Rattle.store_rules.specs.Names.{check_dir_answer, look_answer, list_an
 
 use crate::shard::NameShard;
 use store_rules::NameReply;
-use tect_ids::{DirId, Items, Key, Listed, NoMemory};
+use tect_ids::{DirId, Items, Key, Listed, NoMemory, Refusal};
 
 // The requests that change nothing.
 impl NameShard {
@@ -14,7 +14,9 @@ impl NameShard {
         ensures { result ≡ reply (check_dir_answer self.now dir) }
     {
         match self.dirs.get(dir) {
-            None => NameReply::NoDir,
+            None => NameReply::Refused {
+                why: Refusal::NoDir,
+            },
             Some(directory) => NameReply::DirIs {
                 parent: directory.parent,
                 sealed: directory.sealed,
@@ -26,10 +28,14 @@ impl NameShard {
         ensures { result ≡ reply (look_answer self.now key.now) }
     {
         if self.dirs.get(key.dir).is_none() {
-            return NameReply::NoDir;
+            return NameReply::Refused {
+                why: Refusal::NoDir,
+            };
         }
         match self.entries.get(key) {
-            None => NameReply::NoName,
+            None => NameReply::Refused {
+                why: Refusal::NoName,
+            },
             Some(entry) => NameReply::Found { node: entry.node },
         }
     }
@@ -38,7 +44,9 @@ impl NameShard {
         ensures { IfOk result (λ x. x ≡ reply (list_answer self.now dir)) }
     {
         match self.dirs.get(dir) {
-            None => Ok(NameReply::NoDir),
+            None => Ok(NameReply::Refused {
+                why: Refusal::NoDir,
+            }),
             Some(directory) => Ok(NameReply::Listing {
                 sealed: directory.sealed,
                 items: self.listed(dir)?,

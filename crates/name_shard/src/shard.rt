@@ -1,7 +1,6 @@
 ghost use Rattle.std.specs.Prelude.{◌≡◌, IsTrue, IsOk, IfOk, OnOk, OnErr, if◌then◌else◌};
-ghost use Rattle.store_rules.specs.Names.{root_names, no_names, name_answer, name_step};
+ghost use Rattle.store_rules.specs.Names.{root_names, no_names, name_rule, name_answer, name_step};
 ghost use Rattle.store_rules.specs.Outcomes.{reply};
-ghost use Rattle.name_shard.specs.Memory.{takes_no_memory};
 
 use key_maps::{DirMap, EntryTable, HoldList};
 use std::alloc::Global;
@@ -66,7 +65,7 @@ impl NameShard {
         ensures err { OnErr result (self.new ≡ self.old) }
 
         // What wants no memory is always answered.
-        ensures sure { IsTrue (takes_no_memory req.now) → IsOk result }
+        ensures sure { IsTrue (name_rule req.now).free → IsOk result }
     {
         match req {
             NameReq::CheckDir { dir } => Ok(self.check_dir(*dir)),
@@ -106,7 +105,7 @@ impl NameShard {
     /// What `step` would answer. It changes nothing.
     pub fn reply(&self, req: &NameReq) -> Result<NameReply, NoMemory>
         ensures answers { IfOk result (λ x. x ≡ reply (name_answer self.now req.now)) }
-        ensures sure { IsTrue (takes_no_memory req.now) → IsOk result }
+        ensures sure { IsTrue (name_rule req.now).free → IsOk result }
     {
         match req {
             NameReq::CheckDir { dir } => Ok(self.check_dir(*dir)),
