@@ -1,6 +1,8 @@
-pub mod Doing
-pub mod Refusals
-pub mod PhasesAsk
-pub mod PhasesKeep
-pub mod PhasesHold
+pub mod Holds
+pub mod Ends
+pub mod Look
+pub mod Make
+pub mod Delete
+pub mod Rename
+pub mod Operations
 pub mod Laws

@@ -42,7 +42,7 @@ module _ {O S : Type 0} (begins : O → DirId → S) {P : Part S Answer} {D : De
   -- ---- on its way
 
   -- it walks on, or its operation begins
-  on_knows : (v : World) (op : OpId) (m : Memory) (d : DirId) (ns : List (List ℕ)) (o : O) → Sound v → OnItsWay v op m d
+  pub on_knows : (v : World) (op : OpId) (m : Memory) (d : DirId) (ns : List (List ℕ)) (o : O) → Sound v → OnItsWay v op m d
       → (walk_known N).Knows v op m (walk_on begins d ns o)
   on_knows v op m d [] o sound k = b.knows v op m o d sound k
   on_knows v op m d (n ∷ ns) o sound k = k

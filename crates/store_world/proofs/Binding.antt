@@ -8,6 +8,7 @@ use Rattle.tect_ids.specs.declared.ids.Node.TheVariants.{Dir}
 use Rattle.tect_ids.specs.declared.key.Key.{Key}
 use Rattle.tect_ids.specs.declared.values.Over.{Over}
 use Rattle.tect_ids.specs.declared.values.Want.{Want}
+use Rattle.tect_ids.specs.Numbers.{root}
 use Rattle.key_maps.proofs.Lookups.{maps}
 use Rattle.store_rules.specs.declared.names.DirectoryEntry.{DirectoryEntry}
 use Rattle.store_rules.specs.declared.names.Replaced.{Replaced}
@@ -17,7 +18,7 @@ use Rattle.store_rules.specs.Names.{key_in, replaced}
 use Rattle.store_rules.specs.Store.{store_changes, store_reply}
 use Rattle.store_rules.specs.Views.{as_unbound, as_swapped}
 use Rattle.store_world.specs.Worlds.{World, Live, done}
-use Rattle.store_world.specs.Sound.{Sound, was_made, dead_in, root, parent, IsGranted}
+use Rattle.store_world.specs.Sound.{Sound, was_made, dead_in, parent, IsGranted}
 use Rattle.store_world.specs.Requests.{Needs, Kept}
 
 -- a hold's node was made, and so was the directory that it is for

@@ -1,7 +1,8 @@
 -- chains of parents stay while parents only come
 use Rattle.std.proofs.Common.{◌≡◌, ℕ, zero, suc, Option, Some, None, refl}
 use Rattle.tect_ids.specs.declared.ids.DirId.{DirId}
-use Rattle.store_world.specs.Sound.{at_parent, above, root}
+use Rattle.tect_ids.specs.Numbers.{root}
+use Rattle.store_world.specs.Sound.{at_parent, above}
 
 module _ (p q : DirId → Option DirId) (more : (d e : DirId) → p d ≡ Some e → q d ≡ Some e) where
   pub chain_stays : (n : ℕ) (d r : DirId) → above p n d ≡ Some r → above q n d ≡ Some r

@@ -7,13 +7,14 @@ use Rattle.tect_ids.specs.declared.ids.Node.TheVariants.{Dir, File}
 use Rattle.tect_ids.specs.declared.ids.OpId.{OpId}
 use Rattle.tect_ids.specs.declared.key.Key.{Key}
 use Rattle.tect_ids.specs.Keys.{dir_eq}
+use Rattle.tect_ids.specs.Numbers.{root}
 use Rattle.key_maps.proofs.Lookups.{maps}
 use Rattle.store_rules.specs.declared.names.NameReq.TheVariants as names
 use Rattle.store_rules.specs.declared.files.FileReq.TheVariants as files
 use Rattle.store_rules.specs.declared.any.AnyReq.TheVariants as any
 use Rattle.store_rules.specs.Store.{store_changes}
 use Rattle.store_world.specs.Worlds.{World, done}
-use Rattle.store_world.specs.Sound.{Sound, parent, above, root}
+use Rattle.store_world.specs.Sound.{Sound, parent, above}
 use Rattle.store_world.specs.Requests.{Needs, Kept}
 use Rattle.store_world.proofs.Chains.{climbs_still, climbs_from}
 

@@ -1,0 +1,113 @@
+-- the laws of all operations as one part, each by a line, and what each begins with
+use Rattle.std.proofs.Common.{◌≡◌, None, refl}
+use Rattle.tect_ids.specs.declared.ids.DirId.{DirId}
+use Rattle.tect_ids.specs.declared.ids.OpId.{OpId}
+use Rattle.program_forms.specs.Memories.{Memory}
+use Rattle.program_rules.specs.declared.operation.Operation.{Operation}
+use Rattle.program_rules.specs.declared.operation.Operation.TheVariants as operation
+use Rattle.program_rules.specs.declared.operation.OperationState.{OperationState}
+use Rattle.program_rules.specs.declared.operation.OperationState.TheVariants.{Look, List, Make, Delete, Rename}
+use Rattle.program_rules.specs.Look.{look}
+use Rattle.program_rules.specs.List.{list}
+use Rattle.program_rules.specs.Make.{make}
+use Rattle.program_rules.specs.Delete.{delete}
+use Rattle.program_rules.specs.Rename.{rename}
+use Rattle.program_rules.specs.Operations.{begins_in, operations, operation_decided}
+use Rattle.store_world.specs.Worlds.{World}
+use Rattle.part_laws.specs.Parts.{PartLaws}
+use Rattle.part_laws.specs.Walks.{OnItsWay, BeginsLaws}
+use Rattle.part_laws.proofs.States.{LawsAt, part_laws}
+use Rattle.part_laws.proofs.Within.{Embeds, embedded}
+use Rattle.names_laws.specs.Known.{OperationKnows, operation_known, operation_deciding}
+use Rattle.names_laws.proofs.Look.{reading_known, reading_deciding, look_laws, list_laws}
+use Rattle.names_laws.proofs.Make.{make_known, make_deciding, make_laws}
+use Rattle.names_laws.proofs.Delete.{delete_known, delete_deciding, delete_laws}
+use Rattle.names_laws.proofs.Rename.{rename_known, rename_deciding, rename_laws}
+
+look_within : Embeds Look look reading_deciding reading_known operations operation_deciding operation_known
+look_within = record {
+  turns = λ c m op s. refl;
+  asks = λ c m op s. refl;
+  hears = λ c m op s q x. refl;
+  decided = λ s. refl;
+  knows = λ w op m s k. k;
+  known = λ w op m s k. k;
+  ends = λ w a e. e;
+}
+
+list_within : Embeds List list reading_deciding reading_known operations operation_deciding operation_known
+list_within = record {
+  turns = λ c m op s. refl;
+  asks = λ c m op s. refl;
+  hears = λ c m op s q x. refl;
+  decided = λ s. refl;
+  knows = λ w op m s k. k;
+  known = λ w op m s k. k;
+  ends = λ w a e. e;
+}
+
+make_within : Embeds Make make make_deciding make_known operations operation_deciding operation_known
+make_within = record {
+  turns = λ c m op s. refl;
+  asks = λ c m op s. refl;
+  hears = λ c m op s q x. refl;
+  decided = λ s. refl;
+  knows = λ w op m s k. k;
+  known = λ w op m s k. k;
+  ends = λ w a e. e;
+}
+
+delete_within : Embeds Delete delete delete_deciding delete_known operations operation_deciding operation_known
+delete_within = record {
+  turns = λ c m op s. refl;
+  asks = λ c m op s. refl;
+  hears = λ c m op s q x. refl;
+  decided = λ s. refl;
+  knows = λ w op m s k. k;
+  known = λ w op m s k. k;
+  ends = λ w a e. e;
+}
+
+rename_within : Embeds Rename rename rename_deciding rename_known operations operation_deciding operation_known
+rename_within = record {
+  turns = λ c m op s. refl;
+  asks = λ c m op s. refl;
+  hears = λ c m op s q x. refl;
+  decided = λ s. refl;
+  knows = λ w op m s k. k;
+  known = λ w op m s k. k;
+  ends = λ w a e. e;
+}
+
+operations_at : (s : OperationState) → LawsAt operations operation_deciding operation_known s
+operations_at (Look s) = embedded Look look_within look_laws s
+operations_at (List s) = embedded List list_within list_laws s
+operations_at (Make s) = embedded Make make_within make_laws s
+operations_at (Delete s) = embedded Delete delete_within delete_laws s
+operations_at (Rename s) = embedded Rename rename_within rename_laws s
+
+pub operations_laws : PartLaws operations operation_deciding operation_known
+operations_laws = part_laws operations_at (λ by w v a l e. e)
+
+-- ---- where each begins
+
+begins_undecided : (o : Operation) (d : DirId) → operation_decided (begins_in o d) ≡ None
+begins_undecided (operation.Look n) d = refl
+begins_undecided operation.List d = refl
+begins_undecided (operation.Make kind n) d = refl
+begins_undecided (operation.Delete n) d = refl
+begins_undecided (operation.Rename from to) d = refl
+
+begins_knows : (w : World) (op : OpId) (m : Memory) (o : Operation) (d : DirId) → OnItsWay w op m d → OperationKnows w op m (begins_in o d)
+begins_knows w op m (operation.Look n) d k = k.new
+begins_knows w op m operation.List d k = k.new
+begins_knows w op m (operation.Make kind n) d k = k
+begins_knows w op m (operation.Delete n) d k = k.new
+begins_knows w op m (operation.Rename from to) d k = k
+
+pub begins_laws : BeginsLaws begins_in operation_deciding operation_known
+begins_laws = record {
+  undecided = begins_undecided;
+  knows = λ w op m o d sound k. begins_knows w op m o d k;
+  plain = λ w a e. e;
+}
