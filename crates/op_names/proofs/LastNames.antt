@@ -1,21 +1,9 @@
--- the last name of a path, by its place
-use Rattle.std.proofs.Common.{◌≡◌, ℕ, suc, ◌-◌, ◌<◌, ◌≤◌, false, List, [], ◌∷◌, length, take}
-use Rattle.std.proofs.Common.{slice_index_or, Some, refl, ap, ◌∙◌, arith}
-use Rattle.tect_ids.specs.Keys.{name_eq}
-use Rattle.tect_ids.proofs.KeyTests.{name_eq_cases}
-use Rattle.program_rules.specs.Paths.{but_last, last_name}
-use Rattle.program_rules.specs.Programs.{at_last}
-
--- what stands last is the last name
-pub last_at : (p : List (List ℕ)) (x : List ℕ) → 1 ≤ length p → x ≡ slice_index_or p (length p - 1) x → x ≡ last_name p
-last_at [] x some is = absurd (omega (arith, some))
-last_at (n ∷ []) x some is = grind (arith, is)
-last_at (n ∷ m ∷ ns) x some is = last_at (m ∷ ns) x (omega arith) (grind (arith, is))
-
-pub at_last_is : {X : Type 0} (p : List (List ℕ)) (f : List ℕ → X) (x : List ℕ) → 1 ≤ length p → x ≡ slice_index_or p (length p - 1) x
-    → Some (f x) ≡ at_last p f
-at_last_is [] f x some is = absurd (omega (arith, some))
-at_last_is (n ∷ ns) f x some is = ap (λ l. Some (f l)) (last_at (n ∷ ns) x some is)
+-- The last name of a path, taken off its end.
+use Rattle.std.proofs.Common.{◌≡◌, ℕ, suc, ◌-◌, ◌<◌, List, [], ◌∷◌, ◌++◌, length, take}
+use Rattle.std.proofs.Common.{slice_index_or, Option, Some, None, refl, ap, ◌∙◌, arith}
+use Rattle.std.specs.Option.{option_to_list}
+use Rattle.tect_ids.specs.Paths.{but_last, last_name}
+use Rattle.program_rules.specs.Served.{last_of}
 
 -- without the last one
 pub but_last_is : (p : List (List ℕ)) → take (length p - 1) p ≡ but_last p
@@ -26,17 +14,19 @@ but_last_is (n ∷ m ∷ ns) =
     let rest : length ns ≡ length (m ∷ ns) - 1 = omega arith in
     ap (λ i. take i (n ∷ m ∷ ns)) all ∙ ap (λ l. n ∷ l) (ap (λ i. take i (m ∷ ns)) rest ∙ but_last_is (m ∷ ns))
 
--- a name is not empty
-pub empty_differs : (l : List ℕ) → 0 < length l → name_eq l [] ≡ false
-empty_differs l some = grind (arith, name_eq_cases l [])
+last_at : (n : List ℕ) (ns : List (List ℕ)) (d : List ℕ) → slice_index_or (n ∷ ns) (length ns) d ≡ last_name (n ∷ ns)
+last_at n [] d = refl
+last_at n (m ∷ ns) d = last_at m ns d
 
-pub last_compared : (p : List (List ℕ)) (l x : List ℕ) → 1 ≤ length p → x ≡ slice_index_or p (length p - 1) x
-    → name_eq l x ≡ name_eq l (last_name p)
-last_compared p l x some is = ap (name_eq l) (last_at p x some is)
+nothing_taken : (ns : List (List ℕ)) (o : Option (List ℕ)) → [] ≡ ns ++ option_to_list o → o ≡ None
+nothing_taken ns None e = refl
+nothing_taken [] (Some x) e = absurd (grind (arith, e))
+nothing_taken (n ∷ ns) (Some x) e = absurd (grind (arith, e))
 
-no_names : (p : List (List ℕ)) → length p < 1 → p ≡ []
-no_names [] few = refl
-no_names (n ∷ ns) few = absurd (omega (arith, few))
-
-pub nothing_compared : (p : List (List ℕ)) (l : List ℕ) → length p < 1 → 0 < length l → name_eq l (last_name p) ≡ false
-nothing_compared p l few some = rw (no_names p few) (empty_differs l some)
+-- what is taken off the end, if anything is there
+pub last_is : (p ns : List (List ℕ)) (o : Option (List ℕ)) (k : ℕ) → p ≡ ns ++ option_to_list o → k ≡ length p
+    → ((d : List ℕ) → 0 < k → o ≡ Some (slice_index_or p (k - 1) d)) → o ≡ last_of p
+last_is [] ns o k all count last = nothing_taken ns o all
+last_is (n ∷ ms) ns o k all count last =
+    let at : k - 1 ≡ length ms = omega (arith, count) in
+    last [] (omega (arith, count)) ∙ ap Some (ap (λ i. slice_index_or (n ∷ ms) i []) at ∙ last_at n ms [])

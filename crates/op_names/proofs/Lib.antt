@@ -1,4 +1,2 @@
 pub mod LastNames
-pub mod Tokens
-pub mod Others
-pub mod Hearings
+pub mod PlainStates

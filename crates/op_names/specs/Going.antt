@@ -1,13 +1,21 @@
--- What a command comes to at a reply, in the words of the code.
+-- Where a running command stands, in the words of the code.
+use Rattle.std.specs.Prelude.{Option, Some, None}
+use Rattle.tect_ids.specs.declared.ids.Counts.{Counts}
 use Rattle.tect_ids.specs.declared.ids.OpId.{OpId}
-use Rattle.store_rules.specs.declared.any.AnyReq.{AnyReq}
+use Rattle.tect_ids.specs.declared.answer.Answer.{Answer}
 use Rattle.store_rules.specs.declared.any.AnyReply.{AnyReply}
-use Rattle.store_rules.specs.Places.{request_place}
-use Rattle.program_rules.specs.declared.program.Program.{Program}
-use Rattle.program_rules.specs.Programs.{phase_hear}
-use Rattle.tect_calls.specs.Knowing.{Known, number_for}
+use Rattle.program_forms.specs.Memories.{Memory}
+use Rattle.program_parts.specs.declared.next.Next.TheVariants.{Goes, Comes}
+use Rattle.program_parts.specs.Walks.{walk_asks, walk_hears}
+use Rattle.program_rules.specs.Operations.{begins_in, operations}
+use Rattle.program_rules.specs.Served.{Program}
 
--- the program after the reply to that request
-abbrev pub program_after : Known → OpId → Program → AnyReq → AnyReply → Program
-program_after m op p q x =
-    record p { phase = phase_hear (request_place m.counts q) op (number_for m op) p.command p.phase x }
+-- its answer, if it has come to one
+abbrev pub answer_of : Program → Option Answer
+answer_of (Goes s) = None
+answer_of (Comes a) = Some a
+
+-- where it stands after the reply to its request
+abbrev pub went_on : Counts → Memory → OpId → Program → AnyReply → Program
+went_on c m op (Goes s) x = walk_hears begins_in operations c m op s (walk_asks operations c m op s) x
+went_on c m op (Comes a) x = Comes a

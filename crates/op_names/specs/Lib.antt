@@ -1,6 +1,6 @@
-pub mod Walking
-pub mod Carrying
-pub mod Needs
+pub mod Shards
+pub mod Ways
+pub mod Going
+pub mod Plain
 pub mod RunningInside
 pub mod Looking
-pub mod Going

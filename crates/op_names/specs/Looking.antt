@@ -2,21 +2,26 @@
 use Rattle.std.specs.Prelude.{◌≡◌, refl}
 use Rattle.tect_ids.specs.declared.ids.Counts.{Counts}
 use Rattle.tect_ids.specs.declared.ids.OpId.{OpId}
-use Rattle.tect_ids.specs.declared.answer.Answer.{Answer}
 use Rattle.program_forms.specs.Memories.{Memory}
-use Rattle.program_forms.specs.Kinds.{Does, Asks, Says, Turned, turned, turned_by}
+use Rattle.program_forms.specs.Kinds.{Turned, turned}
 use Rattle.program_calls.specs.Keeping.{KeepsSerial}
-use Rattle.program_rules.specs.declared.program.Program.{Program}
-use Rattle.program_rules.specs.Served.{programs, program_does}
+use Rattle.program_parts.specs.declared.next.Next.TheVariants.{Goes, Comes}
+use Rattle.program_parts.specs.declared.walking.Walking.TheVariants.{Way, There}
+use Rattle.program_rules.specs.declared.operation.OperationState.TheVariants.{Look, List, Make, Delete, Rename}
+use Rattle.program_rules.specs.Served.{Program, programs}
 
-nothing_by : (d : Does Answer) (m : Memory) (p : Program)
-    → (let t : Turned Program = record { memory = m; state = p } in turned_by d m p t ≡ t)
-nothing_by (Asks q) m p = refl
-nothing_by (Says a) m p = refl
+-- what an actor knows, and where its command stands
+abbrev pub as_before : Memory → Program → Turned Program
+as_before m p = record { memory = m; state = p }
 
-pub looks_nothing : (c : Counts) (m : Memory) (op : OpId) (p : Program)
-    → (let t : Turned Program = record { memory = m; state = p } in turned programs.kind c m op p ≡ t)
-looks_nothing c m op p = nothing_by (program_does c m op p) m p
+pub looks_nothing : (c : Counts) (m : Memory) (op : OpId) (p : Program) → turned programs.kind c m op p ≡ as_before m p
+looks_nothing c m op (Comes a) = refl
+looks_nothing c m op (Goes (Way d n ns o)) = refl
+looks_nothing c m op (Goes (There (Look s))) = refl
+looks_nothing c m op (Goes (There (List s))) = refl
+looks_nothing c m op (Goes (There (Make s))) = refl
+looks_nothing c m op (Goes (There (Delete s))) = refl
+looks_nothing c m op (Goes (There (Rename s))) = refl
 
 pub no_serial : KeepsSerial programs
 no_serial c m op p i = (looks_nothing c m op p i).memory.serial

@@ -1,15 +1,30 @@
-//! The commands on names, run with tokens: which requests a command makes, one at a time, and how it goes on at each reply. A
-//! running command holds the tokens that its next request needs, and each reply gives it those that the request after it needs.
+//! The commands on names as code: the requests that a command makes, one at a time, and how it goes on at each reply. The state of a running
+//! command holds the tokens that its next request needs, and each reply gives those that the request after it needs.
 #![tactic(auto)]
 
-mod ask;
-mod carrying;
-mod hear;
-mod held;
-mod paths;
+// A part within another: where it goes on, the other is in that state of it.
+macro_rules! within {
+    ($state:path, $next:expr) => {
+        match $next {
+            Next::Goes { state } => Next::Goes {
+                state: $state(state),
+            },
+            Next::Comes { result: answer } => Next::Comes { result: answer },
+        }
+    };
+}
+
+mod delete;
+mod list;
+mod look;
+mod make;
+mod operations;
+mod places;
 mod refusals;
+mod release;
+mod rename;
 mod running;
-mod showing;
 mod start;
+mod walk;
 
 pub use running::Running;

@@ -1,107 +1,90 @@
-ghost use Rattle.std.specs.Prelude.{◌≡◌, IsSome, Some, IfOk, OnOk, OnErr};
-ghost use Rattle.store_rules.specs.declared.any.AnyReq.{AnyReq};
-ghost use Rattle.program_rules.specs.Programs.{phase_ask, phase_answer};
-ghost use Rattle.program_rules.specs.Asking.{IsSmooth};
+ghost use Rattle.std.specs.Prelude.{◌≡◌, IfOk, IfErr, OnOk, OnErr};
 ghost use Rattle.program_calls.specs.Hearing.{IsPlain, GoesOn};
-ghost use Rattle.tect_calls.specs.Knowing.{number_for};
-ghost use Rattle.op_names.specs.Going.{program_after};
+ghost use Rattle.op_names.specs.Going.{answer_of, went_on};
 
-use crate::ask::ask;
-use crate::carrying::{carry, facts_of, opening_of};
-use crate::hear::{Heard, hear};
-use crate::held::HeldTokens;
-use crate::showing::show;
 use crate::start::start;
+use crate::walk::{self, Going};
 use program_calls::Programs;
-use program_rules::{Phase, Program};
+use program_parts::Next;
 use std::alloc::Global;
 use std::marker::Model;
 use std::mem;
 use store_rules::AnyReply;
-use tect_calls::{Asked, Memory, place};
+use tect_calls::{Asked, Memory};
 use tect_ids::{Answer, Command, NoMemory, OpId};
 
-/// A running command with the tokens that its next request needs, which are those of the op as which it began. As another op it has
-/// none: then `next` and `hear` answer as for want of memory. Contracts see the program alone.
+/// A running command: it goes on, with the tokens that its next request needs, or has its answer, which is no want of memory or of room.
 #[derive(Drop)]
 pub struct Running {
-    alloc: Global,
-    op: OpId,
-    program: Program,
-    shown: HeldTokens,
+    state: Next<Going, Answer>,
 }
 
 impl Model for Running {
-    ghost use Rattle.program_rules.specs.declared.program.Program.{Program};
+    ghost use Rattle.program_rules.specs.Served.{Program};
     ghost use Rattle.op_names.specs.RunningInside.{IsRunning};
 
     ghost Value = { Program };
 
-    ghost view = { λ running. running.program };
+    ghost view = { λ running. running.state };
 
     ghost invariant = { IsRunning };
 }
 
+// Where a command goes on at the reply to its request. For want of memory it is given back.
+fn hear_reply(
+    state: Next<Going, Answer>,
+    memory: &Memory,
+    op: OpId,
+    reply: &AnyReply,
+) -> Result<Next<Going, Answer>, Next<Going, Answer>>
+    ensures ok { IfOk result (λ next. next ≡ went_on memory.now.counts memory.now.memory op state reply.now) }
+    ensures err { IfErr result (λ same. same ≡ state) }
+{
+    match state {
+        Next::Goes { state } => match walk::hear(state, memory, op, reply) {
+            Ok(next) => Ok(next),
+            Err(state) => Err(Next::Goes { state }),
+        },
+        Next::Comes { result: answer } => Ok(Next::Comes { result: answer }),
+    }
+}
+
+fn put(state: &mut Next<Going, Answer>, next: Next<Going, Answer>)
+    ensures { state.new ≡ next }
+{
+    *state = next;
+}
+
 impl Running {
-    // What is so of each running command.
-    fn known(&self)
-        ensures { IsSmooth self.now.command self.now.phase }
-    {
-        let _op = self.op;
-    }
-
-    // The request that the command makes next, with the tokens that it needs. As another op than its own it has none, which counts
-    // as a want of memory.
-    fn ask_as(&self, memory: &Memory, op: OpId) -> Result<Option<Asked>, NoMemory>
-        ensures { IfOk result (λ asked. asked ≡ phase_ask op (number_for memory.now op) self.now.command self.now.phase) }
-    {
-        if op != self.op {
-            return Err(NoMemory);
-        }
-        match ask(op, &self.program, memory.number_for(op))? {
-            Some(req) => Ok(Some(show(&self.shown, req))),
-            None => Ok(None),
-        }
-    }
-
     // Goes on at the reply to its request. For want of memory nothing is changed.
     fn go_on(&mut self, memory: &Memory, op: OpId, reply: &AnyReply) -> Result<(), NoMemory>
-        requires asked { IsSome (phase_ask op (number_for memory.now op) self.old.command self.old.phase) }
-        ensures ok { OnOk result ((req : AnyReq)
-            → phase_ask op (number_for memory.now op) self.old.command self.old.phase ≡ Some req
-            → self.new ≡ program_after memory.now op self.old req reply.now) }
+        ensures ok { OnOk result (self.new ≡ went_on memory.now.counts memory.now.memory op self.old reply.now) }
         ensures err { OnErr result (self.new ≡ self.old) }
     {
-        if op != self.op {
-            return Err(NoMemory);
+        let nothing = Next::Comes {
+            result: Answer::Done,
+        };
+        match hear_reply(mem::replace(&mut self.state, nothing), memory, op, reply) {
+            Ok(next) => {
+                put(&mut self.state, next);
+                Ok(())
+            }
+            Err(same) => {
+                put(&mut self.state, same);
+                Err(NoMemory)
+            }
         }
-        let alloc = self.alloc;
-        let number = memory.number_for(op);
-        let Some(req) = ask(op, &self.program, number)? else {
-            unreachable!()
-        };
-        let (first, second) = facts_of(alloc, &req, reply)?;
-        let heard = Heard {
-            reply,
-            place: place(&req, &memory.counts()),
-            number,
-        };
-        hear(&mut self.program, alloc, op, &heard)?;
-        let had = mem::replace(&mut self.shown, HeldTokens::Nothing);
-        self.shown = carry(&self.program.phase, had, first, second);
-        Ok(())
     }
 
     // Gives the answer away, where the command has one.
     fn take_answer(&mut self) -> Option<Answer>
-        ensures answer { result ≡ phase_answer self.old.phase }
+        ensures answer { result ≡ answer_of self.old }
         ensures plain { IsPlain result }
         ensures goes { GoesOn self.old self.new result }
     {
-        self.known();
-        match &mut self.program.phase {
-            Phase::End { answer } => Some(mem::replace(answer, Answer::Done)),
-            _ => None,
+        match &mut self.state {
+            Next::Comes { result: answer } => Some(mem::replace(answer, Answer::Done)),
+            Next::Goes { .. } => None,
         }
     }
 }
@@ -115,28 +98,28 @@ impl Programs for Running {
     ghost keeps_serial = { no_serial };
 
     fn start(
-        alloc: Global,
+        _alloc: Global,
         _memory: &Memory,
-        op: OpId,
+        _op: OpId,
         command: Command,
     ) -> Result<Running, NoMemory> {
-        let program = start(command)?;
-        let shown = opening_of(&program.phase);
         Ok(Running {
-            alloc,
-            op,
-            program,
-            shown,
+            state: start(command),
         })
     }
 
     fn next(&mut self, memory: &mut Memory, op: OpId) -> Result<Option<Asked>, NoMemory> {
-        self.ask_as(memory, op)
+        match &self.state {
+            Next::Goes { state } => Ok(Some(walk::ask(state, memory, op)?)),
+            Next::Comes { .. } => Ok(None),
+        }
     }
 
     fn answer(&self) -> Option<&Answer> {
-        self.known();
-        self.program.answer()
+        match &self.state {
+            Next::Comes { result: answer } => Some(answer),
+            Next::Goes { .. } => None,
+        }
     }
 
     fn hear(
@@ -146,7 +129,6 @@ impl Programs for Running {
         reply: &AnyReply,
     ) -> Result<Option<Answer>, NoMemory> {
         let heard = self.go_on(memory, op, reply);
-        self.known();
         if reply.is_made() {
             memory.take_serial();
         }
