@@ -88,7 +88,8 @@ file_waits d name = record {
   goes_on = λ c w op m n sound r a k kept serial.
       let f : FileId = record { 0 = object_number op.actor m.serial } in
       let q : AnyReq = any.File (files.MakeFile f (own_hold op) (key_in d name) None) in
-      made_knows (next w q) op n (request_place c q) new.File (key_in d name) (File f) (store_reply w.store q) (is_made (store_reply w.store q))
+      let x : AnyReply = store_reply w.store q in
+      made_knows (next w q) op n (request_place c q) new.File (key_in d name) (File f) x (is_made x)
       kept.taught.0
       record {
         hold = own_granted w (next w q) op (touched_by q) (File f) (key_in d name) (λ h ne. ne) kept.later k.new kept.taught.1;
@@ -112,7 +113,8 @@ dir_waits d name = record {
   goes_on = λ c w op m n sound r a k kept serial.
       let f : DirId = record { 0 = object_number op.actor m.serial } in
       let q : AnyReq = any.Name (names.MakeDir f d (own_hold op) (key_in d name)) in
-      made_knows (next w q) op n (request_place c q) new.Dir (key_in d name) (Dir f) (store_reply w.store q) (is_made (store_reply w.store q))
+      let x : AnyReply = store_reply w.store q in
+      made_knows (next w q) op n (request_place c q) new.Dir (key_in d name) (Dir f) x (is_made x)
       kept.taught.0
       record {
         hold = own_granted w (next w q) op (touched_by q) (Dir f) (key_in d name) (λ h ne. ne) kept.later k.new kept.taught.1;

@@ -121,7 +121,8 @@ grant_waits : (d : DirId) (p : OldAndNew) (node : Node) → WaitsAt rename renam
 grant_waits d p (Dir g) = record {
   looks = λ c m op. refl;
   undecided = refl;
-  meets = λ c w op m sound r a k. plain w op m _ refl ((k.new).given (own_hold op) refl, k.made, k.named) (hold_own op m (own_hold op) refl);
+  meets = λ c w op m sound r a k.
+      plain w op m _ refl ((k.new).given (own_hold op) refl, k.made, k.named) (hold_own op m (own_hold op) refl);
   stays = λ by w v op m sound l apart k. grant_stays by w v op l apart d p (Dir g) k;
   goes_on = λ c w op m n sound r a k kept serial.
       let q : AnyReq = any.Name (names.Grant g (own_hold op) (key_in d p.to)) in
@@ -140,7 +141,8 @@ grant_waits d p (Dir g) = record {
 grant_waits d p (File g) = record {
   looks = λ c m op. refl;
   undecided = refl;
-  meets = λ c w op m sound r a k. plain w op m _ refl ((k.new).given (own_hold op) refl, k.made, k.named) (hold_own op m (own_hold op) refl);
+  meets = λ c w op m sound r a k.
+      plain w op m _ refl ((k.new).given (own_hold op) refl, k.made, k.named) (hold_own op m (own_hold op) refl);
   stays = λ by w v op m sound l apart k. grant_stays by w v op l apart d p (File g) k;
   goes_on = λ c w op m n sound r a k kept serial.
       let q : AnyReq = any.File (files.Grant g (own_hold op) (key_in d p.to)) in
