@@ -1,6 +1,6 @@
 -- what the dumps of the shards are together
-use Rattle.std.proofs.Common.{◌-◌, ◌≡◌, ◌≢◌, ℕ, ◌+◌, ◌<◌, ◌≤◌, ◌%◌, Bool, true, false, ◌&&◌, T, cond, if◌then◌else◌, Option, Some, None}
-use Rattle.std.proofs.Common.{is_some, List, [], ◌∷◌, ◌++◌, map, length, get_or, refl, sym, ap, ◌∙◌, subst, arith}
+use Rattle.std.proofs.Common.{◌-◌, ◌≡◌, ℕ, ◌+◌, ◌%◌, Bool, true, false, T, cond, if◌then◌else◌, Option, Some, None}
+use Rattle.std.proofs.Common.{is_some, List, [], ◌∷◌, ◌++◌, map, get_or, refl, sym, ap, ◌∙◌, subst, arith}
 use Rattle.std.specs.Prelude.{option_map}
 use Rattle.std.specs.List.{flat_map, AllByRecursion}
 use Rattle.std.specs.List.Sorted.{IsPermutation, IsSorted}
@@ -8,7 +8,7 @@ use Rattle.std.proofs.lemmas.List.{map-append}
 use Rattle.std.proofs.lemmas.List.Concat.{flat_map_single}
 use Rattle.std.specs.declared.cmp.Ordering.{Ordering}
 use Rattle.std.specs.declared.cmp.Ordering.TheVariants.{Less, Equal, Greater}
-use Rattle.std.specs.Ordering.{eq_by_cmp, is_lt, is_eq, ordering_reverse}
+use Rattle.std.specs.Ordering.{is_lt, is_eq, ordering_reverse}
 use Rattle.std.specs.Cmp.{IsTotalOrder, tied_itself}
 use Rattle.std.specs.FinMap.{FinMap, get, contains_key, keys, empty, entries, entries_sorted, find, is_sorted, get-entries}
 use Rattle.std.specs.FinMap.Entries.{below_all}
@@ -17,7 +17,7 @@ use Rattle.tect_ids.specs.declared.ids.DirId.{DirId}
 use Rattle.tect_ids.specs.declared.ids.FileId.{FileId}
 use Rattle.tect_ids.specs.declared.ids.Place.{Place}
 use Rattle.tect_ids.specs.declared.dump.DumpLine.{DumpLine}
-use Rattle.tect_ids.specs.Places.{id_hash, HasPlaces}
+use Rattle.tect_ids.specs.Places.{id_hash}
 use Rattle.tect_ids.specs.Keys.{dir_cmp, file_cmp}
 use Rattle.tect_ids.proofs.KeyTests.{num_eq_cases, dir_cmp_total, file_cmp_total, dir_antisymmetric, file_antisymmetric}
 use Rattle.key_maps.specs.Maps.{within}
@@ -29,7 +29,7 @@ use Rattle.store_rules.specs.Dumps.{dir_lines, names_dump, file_line, files_dump
 use Rattle.store_shards.specs.Shards.{dir_place, file_place, place_eq}
 use Rattle.store_shards.proofs.Names.{same_within}
 use Rattle.name_shard.specs.DirDumps.{lines_of_dir, dir_dump}
-use Rattle.all_shards.specs.Whole.{names_together, files_together, together, names_at, files_at, parts_of, AreShards}
+use Rattle.all_shards.specs.Whole.{names_together, files_together, AreShards}
 use Rattle.all_shards.proofs.Together.{place_own, files_at_index, chosen}
 use Rattle.all_shards.proofs.Stepped.{any_default, dir_index, file_index}
 use Rattle.all_shards.proofs.Sorted.{both, sorted_keys, distinct_keys}

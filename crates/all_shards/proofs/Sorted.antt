@@ -1,5 +1,5 @@
 -- the keys of several maps, each in one of them, are the keys of all together once they are sorted
-use Rattle.std.proofs.Common.{◌≡◌, ◌≢◌, ℕ, zero, suc, ◌+◌, ◌<◌, ◌≤◌, ◌%◌, Bool, true, false, ◌&&◌, ◌||◌, T, cond, if◌then◌else◌, Option}
+use Rattle.std.proofs.Common.{◌≡◌, ℕ, suc, ◌+◌, ◌<◌, Bool, true, false, ◌&&◌, ◌||◌, T, cond, Option}
 use Rattle.std.proofs.Common.{Some, None, is_some, List, [], ◌∷◌, ◌++◌, map, length, get_or, refl, sym, ap, ◌∙◌, subst, arith}
 use Rattle.std.specs.List.{flat_map, list_any, IsDistinct, AllByRecursion}
 use Rattle.std.specs.List.Sorted.{IsPermutation, IsSorted, IsStrictlySortedBy}
@@ -7,14 +7,14 @@ use Rattle.std.specs.declared.cmp.Ordering.{Ordering}
 use Rattle.std.specs.declared.cmp.Ordering.TheVariants.{Less, Equal, Greater}
 use Rattle.std.specs.Ordering.{eq_by_cmp, is_lt, is_eq, ordering_reverse}
 use Rattle.std.specs.Cmp.{IsTotalOrder, tied_itself}
-use Rattle.std.specs.FinMap.{FinMap, IsAntisymmetric, get, contains_key, keys, entries, entries_sorted, find, is_sorted, from_entries}
-use Rattle.std.specs.FinMap.{get-from_entries, get-entries, contains_key-keys}
+use Rattle.std.specs.FinMap.{FinMap, IsAntisymmetric, contains_key, keys, entries, entries_sorted, find, is_sorted, from_entries}
+use Rattle.std.specs.FinMap.{get-from_entries, contains_key-keys}
 use Rattle.std.specs.FinMap.Entries.{below_all, is_some-find, same_entries}
 use Rattle.std.proofs.lemmas.List.{map-append}
 use Rattle.std.proofs.lemmas.List.Sorted.{list_any-IsPermutation}
 use Rattle.std.proofs.lemmas.Map.Keys.{sorted_head, sorted_tail, sorted_from_all_adjacent, apart_from_distinct, IsDistinct-from_sorted}
 use Rattle.std.proofs.lemmas.Map.Keys.{IsDistinct-IsPermutation}
-use Rattle.all_shards.proofs.Rows.{all_rows, found_nowhere}
+use Rattle.all_shards.proofs.Rows.{found_nowhere}
 
 -- ---- lists of keys
 

@@ -1,5 +1,5 @@
 -- a request at the shard of its place is a step of the store that the shards are together
-use Rattle.std.proofs.Common.{zero, suc, ◌≡◌, ◌≢◌, ℕ, ◌+◌, ◌-◌, ◌<◌, ◌≤◌, ◌%◌, Bool, true, false, eqb, nat_lt, if◌then◌else◌, List, [], ◌∷◌}
+use Rattle.std.proofs.Common.{zero, suc, ◌≡◌, ◌≢◌, ℕ, ◌-◌, ◌<◌, ◌≤◌, ◌%◌, Bool, true, false, nat_lt, if◌then◌else◌, List, [], ◌∷◌}
 use Rattle.std.proofs.Common.{length, get_or, set, replicate, refl, sym, ap, ◌∙◌, subst, arith}
 use Rattle.std.proofs.lemmas.List.{get_or-set_same, get_or-set_other, get_or-replicate, get_or_past, length-set, length-replicate}
 use Rattle.std.specs.FinMap.{empty}
@@ -19,9 +19,9 @@ use Rattle.store_rules.specs.declared.any.AnyReply.TheVariants as reply_of
 use Rattle.store_rules.specs.Outcomes.{reply, changes}
 use Rattle.store_rules.specs.Places.{dir_of, file_of, request_place}
 use Rattle.store_rules.specs.Store.{Store, opening_store, store_reply, store_step}
-use Rattle.store_shards.specs.Shards.{AreWhole, Parts, dir_place, file_place, place_eq, root_place, opening_parts, parts_reply, parts_step}
+use Rattle.store_shards.specs.Shards.{AreWhole, Parts, dir_place, file_place, place_eq, root_place, opening_parts, parts_step}
 use Rattle.store_shards.proofs.Parts.{opening_whole, same_reply, step_whole}
-use Rattle.all_shards.specs.Whole.{WholeStore, together, names_at, files_at, parts_of, AreShards}
+use Rattle.all_shards.specs.Whole.{together, names_at, files_at, parts_of, AreShards}
 use Rattle.all_shards.specs.Opening.{IsOpening}
 use Rattle.all_shards.proofs.Together.{below, together_is, are_shards, files_at_index}
 

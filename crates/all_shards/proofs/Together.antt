@@ -1,5 +1,5 @@
 -- shards that are the whole of a store are that store together
-use Rattle.std.proofs.Common.{◌≡◌, ◌≢◌, ℕ, ◌+◌, ◌-◌, ◌<◌, ◌%◌, Bool, true, false, eqb, nat_lt, if◌then◌else◌, Option, None, List, length}
+use Rattle.std.proofs.Common.{◌≡◌, ◌≢◌, ℕ, ◌+◌, ◌-◌, ◌<◌, ◌%◌, Bool, true, false, nat_lt, if◌then◌else◌, Option, None, List, length}
 use Rattle.std.proofs.Common.{get_or, refl, sym, ap, ◌∙◌, subst, arith}
 use Rattle.std.specs.FinMap.{get, empty, get-from_entries}
 use Rattle.tect_ids.specs.declared.ids.Counts.{Counts}
@@ -12,10 +12,10 @@ use Rattle.tect_ids.proofs.KeyTests.{num_eq_cases, dir_cmp_total, file_cmp_total
 use Rattle.store_rules.specs.Names.{Names, no_names}
 use Rattle.store_rules.specs.Files.{Files}
 use Rattle.store_rules.specs.Store.{Store}
-use Rattle.store_shards.specs.Shards.{AreWhole, Parts, dir_place, file_place, place_eq}
+use Rattle.store_shards.specs.Shards.{AreWhole, dir_place, file_place, place_eq}
 use Rattle.store_shards.proofs.Names.{same_names}
 use Rattle.store_shards.proofs.Files.{same_files}
-use Rattle.all_shards.specs.Whole.{names_together, files_together, together, names_at, files_at, parts_of, AreShards}
+use Rattle.all_shards.specs.Whole.{names_together, files_together, together, files_at, parts_of, AreShards}
 use Rattle.all_shards.proofs.Rows.{found_at_home}
 
 pub below : (x n : ℕ) → 0 < n → x % n < n

@@ -2,7 +2,6 @@ use Rattle.std.proofs.Common.{map, ap, ◌∙◌, arith}
 use Rattle.std.proofs.lemmas.List.{take_all}
 use Rattle.std.specs.List.{flat_map}
 use Rattle.std.specs.FinMap.{keys}
-use Rattle.store_rules.specs.Files.{Files}
 use Rattle.all_shards.specs.Whole.{WholeStore}
 use Rattle.all_shards.proofs.Dumped.{files_sorted}
 use Rattle.all_shards.proofs.Lent.{flat_map-map}
