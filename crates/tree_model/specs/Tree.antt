@@ -3,6 +3,7 @@ use Rattle.std.specs.Prelude.{◌≡◌, ℕ, Bool, true, false, not, List, Opti
 use Rattle.std.specs.FinMap.{FinMap, empty, get, len, entries}
 use Rattle.ordered_rows.specs.Maps.{set_at}
 use Rattle.tect_ids.specs.declared.ids.DirId.{DirId}
+use Rattle.tect_ids.specs.declared.ids.FileId.{FileId}
 use Rattle.tect_ids.specs.declared.ids.Node.{Node}
 use Rattle.tect_ids.specs.declared.ids.OpId.{OpId}
 use Rattle.tect_ids.specs.declared.ids.Node.TheVariants.{Dir, File}
@@ -63,60 +64,102 @@ at_name d n = record { dir = d; name = n }
 abbrev pub as_listed : Key × Node → Listed
 as_listed e = record { name = (e.0).name; node = e.1 }
 
--- what stands at a name decides whether it may be bound
-abbrev pub bind_reply : Tree → Key → Option Node → Over → TreeReply
-bind_reply t k (Some n) over.Absent = Refused Exists
-bind_reply t k (Some n) over.File = unless (is_dir n) IsDir (Ok shown.Done)
-bind_reply t k None o = unless (nat_le tree_entry_limit (len (within t.entries k.dir))) Full (Ok shown.Done)
+-- Check
+abbrev pub check_reply : Tree → DirId → TreeReply
+check_reply t d = finding (get t.dirs d) NoDir (λ x. Ok (shown.Parent x.parent x.sealed))
 
-abbrev pub swap_reply : Option Node → Node → TreeReply
-swap_reply None n = Ok shown.Done
-swap_reply (Some old) n = unless (is_dir old) IsDir (unless (is_dir n) Exists (Ok shown.Done))
+-- Look
+abbrev pub look_reply : Tree → Key → TreeReply
+look_reply t k = finding (get t.dirs k.dir) NoDir (λ d. finding (get t.entries k) NoName (λ n. Ok (shown.Node n)))
 
-abbrev pub unbind_reply : Option Node → Want → TreeReply
-unbind_reply None AnyFile = Refused NoName
-unbind_reply (Some n) AnyFile = unless (is_dir n) IsDir (Ok shown.Done)
-unbind_reply None (Exactly want) = Refused (Changed None)
-unbind_reply (Some n) (Exactly want) = unless (not (node_eq n want)) (Changed (Some n)) (Ok shown.Done)
+-- List
+abbrev pub list_reply : Tree → DirId → TreeReply
+list_reply t d = finding (get t.dirs d) NoDir (λ x. Ok (shown.Entries x.sealed (map as_listed (entries (within t.entries d)))))
 
--- what the tree says to a step of that op
-abbrev pub tree_reply : Tree → OpId → TreeStep → TreeReply
-tree_reply t op (step.Check d) = finding (get t.dirs d) NoDir (λ x. Ok (shown.Parent x.parent x.sealed))
-tree_reply t op (step.Look k) = finding (get t.dirs k.dir) NoDir (λ d. finding (get t.entries k) NoName (λ n. Ok (shown.Node n)))
-tree_reply t op (step.List d) = finding (get t.dirs d) NoDir (λ x. Ok (shown.Entries x.sealed (map as_listed (entries (within t.entries d)))))
-tree_reply t op (step.MakeDir d p) = unless (is_some (get t.made (Dir d))) Exists (Ok shown.Done)
-tree_reply t op (step.MakeFile f token) = unless (is_some (get t.made (File f))) Exists (Ok shown.Done)
-tree_reply t op (step.Bind k n o) = finding (get t.dirs k.dir) NoDir (λ d. unless d.sealed Sealed (bind_reply t k (get t.entries k) o))
-tree_reply t op (step.Swap d from to n) =
+-- MakeDir and MakeFile
+abbrev pub make_reply : Tree → Node → TreeReply
+make_reply t n = unless (is_some (get t.made n)) Exists (Ok shown.Done)
+
+abbrev pub with_dir : Tree → DirId → DirId → Tree
+with_dir t d p = record t {
+  dirs = set_at t.dirs d (Some record { parent = p; sealed = false });
+  made = set_at t.made (Dir d) (Some tt);
+}
+
+abbrev pub with_file : Tree → FileId → Option OpId → Tree
+with_file t f token = record t {
+  files = set_at t.files f (Some record { token = token });
+  made = set_at t.made (File f) (Some tt);
+}
+
+abbrev pub set_name : Tree → Key → Option Node → Tree
+set_name t k n = record t { entries = set_at t.entries k n }
+
+-- Bind: what stands at the name decides
+abbrev pub bind_over : Tree → Key → Option Node → Over → TreeReply
+bind_over t k (Some n) over.Absent = Refused Exists
+bind_over t k (Some n) over.File = unless (is_dir n) IsDir (Ok shown.Done)
+bind_over t k None o = unless (nat_le tree_entry_limit (len (within t.entries k.dir))) Full (Ok shown.Done)
+
+abbrev pub bind_reply : Tree → Key → Over → TreeReply
+bind_reply t k o = finding (get t.dirs k.dir) NoDir (λ d. unless d.sealed Sealed (bind_over t k (get t.entries k) o))
+
+-- Swap: what stands at the new name decides
+abbrev pub swap_over : Option Node → Node → TreeReply
+swap_over None n = Ok shown.Done
+swap_over (Some old) n = unless (is_dir old) IsDir (unless (is_dir n) Exists (Ok shown.Done))
+
+abbrev pub swap_reply : Tree → DirId → List ℕ → List ℕ → Node → TreeReply
+swap_reply t d from to n =
     finding (get t.dirs d) NoDir (λ x.
     unless x.sealed Sealed
     (finding (get t.entries (at_name d from)) (Changed None) (λ o.
     unless (not (node_eq o n)) (Changed (Some o))
     (unless (name_eq from to) Exists
-    (swap_reply (get t.entries (at_name d to)) n)))))
-tree_reply t op (step.Unbind k w) = finding (get t.dirs k.dir) NoDir (λ d. unless d.sealed Sealed (unbind_reply (get t.entries k) w))
-tree_reply t op (step.GrantDir d) = finding (get t.dirs d) NoDir (λ x. Ok shown.Done)
-tree_reply t op (step.GrantFile f) = finding (get t.files f) NoFile (λ x. Ok shown.Done)
+    (swap_over (get t.entries (at_name d to)) n)))))
 
-abbrev pub set_name : Tree → Key → Option Node → Tree
-set_name t k n = record t { entries = set_at t.entries k n }
+abbrev pub renamed : Tree → DirId → List ℕ → List ℕ → Node → Tree
+renamed t d from to n = set_name (set_name t (at_name d from) None) (at_name d to) (Some n)
+
+-- Unbind: of any file, or of just this node
+abbrev pub unbind_want : Option Node → Want → TreeReply
+unbind_want None AnyFile = Refused NoName
+unbind_want (Some n) AnyFile = unless (is_dir n) IsDir (Ok shown.Done)
+unbind_want None (Exactly want) = Refused (Changed None)
+unbind_want (Some n) (Exactly want) = unless (not (node_eq n want)) (Changed (Some n)) (Ok shown.Done)
+
+abbrev pub unbind_reply : Tree → Key → Want → TreeReply
+unbind_reply t k w = finding (get t.dirs k.dir) NoDir (λ d. unless d.sealed Sealed (unbind_want (get t.entries k) w))
+
+-- GrantDir and GrantFile
+abbrev pub grant_dir_reply : Tree → DirId → TreeReply
+grant_dir_reply t d = finding (get t.dirs d) NoDir (λ x. Ok shown.Done)
+
+abbrev pub grant_file_reply : Tree → FileId → TreeReply
+grant_file_reply t f = finding (get t.files f) NoFile (λ x. Ok shown.Done)
+
+-- what the tree says to a step of that op
+abbrev pub tree_reply : Tree → OpId → TreeStep → TreeReply
+tree_reply t op (step.Check d) = check_reply t d
+tree_reply t op (step.Look k) = look_reply t k
+tree_reply t op (step.List d) = list_reply t d
+tree_reply t op (step.MakeDir d p) = make_reply t (Dir d)
+tree_reply t op (step.MakeFile f token) = make_reply t (File f)
+tree_reply t op (step.Bind k n o) = bind_reply t k o
+tree_reply t op (step.Swap d from to n) = swap_reply t d from to n
+tree_reply t op (step.Unbind k w) = unbind_reply t k w
+tree_reply t op (step.GrantDir d) = grant_dir_reply t d
+tree_reply t op (step.GrantFile f) = grant_file_reply t f
 
 -- what a step of that op does where the tree says Ok
 abbrev pub tree_change : Tree → OpId → TreeStep → Tree
 tree_change t op (step.Check d) = t
 tree_change t op (step.Look k) = t
 tree_change t op (step.List d) = t
-tree_change t op (step.MakeDir d p) = record t {
-  dirs = set_at t.dirs d (Some record { parent = p; sealed = false });
-  made = set_at t.made (Dir d) (Some tt);
-}
-tree_change t op (step.MakeFile f token) = record t {
-  files = set_at t.files f (Some record { token = token });
-  made =
-      set_at t.made (File f) (Some tt);
-}
+tree_change t op (step.MakeDir d p) = with_dir t d p
+tree_change t op (step.MakeFile f token) = with_file t f token
 tree_change t op (step.Bind k n o) = set_name t k (Some n)
-tree_change t op (step.Swap d from to n) = set_name (set_name t (at_name d from) None) (at_name d to) (Some n)
+tree_change t op (step.Swap d from to n) = renamed t d from to n
 tree_change t op (step.Unbind k w) = set_name t k None
 tree_change t op (step.GrantDir d) = t
 tree_change t op (step.GrantFile f) = t

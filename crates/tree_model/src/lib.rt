@@ -5,7 +5,7 @@
 mod step;
 mod tree;
 
-pub use step::{Refusal, StepValue, TreeDir, TreeFile, TreeReply, TreeStep};
+pub use step::{StepValue, TreeDir, TreeFile, TreeReply, TreeStep};
 pub use tree::Tree;
 
 #[cfg(test)]

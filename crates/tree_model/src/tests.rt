@@ -1,14 +1,19 @@
 use crate::{StepValue, Tree, TreeReply, TreeStep};
 use std::test::Fail;
-use tect_ids::{DirId, FileId, ROOT};
+use tect_ids::{DirId, FileId, OpId, ROOT};
 
 const DIR: DirId = DirId(4294967297);
 
 const FILE: FileId = FileId(4294967298);
 
+const OP: OpId = OpId {
+    actor: 1,
+    number: 1,
+};
+
 /// Whether the tree says to the step that it is done.
 fn does(tree: &mut Tree, step: &TreeStep) -> Result<bool, Fail> {
-    let reply = tree.play(step)?;
+    let reply = tree.play(OP, step)?;
     Ok(matches!(
         &reply,
         TreeReply::Ok {
@@ -31,7 +36,7 @@ fn makes(tree: &mut Tree) -> Result<bool, Fail> {
 
 /// How many entries the tree lists in the root.
 fn count_in_root(tree: &mut Tree) -> Result<usize, Fail> {
-    match tree.play(&TreeStep::List { dir: ROOT })? {
+    match tree.play(OP, &TreeStep::List { dir: ROOT })? {
         TreeReply::Ok {
             value: StepValue::Entries { items, .. },
         } => Ok(items.len()),

@@ -1,16 +1,18 @@
-ghost use Rattle.std.specs.Prelude.{◌≡◌, Some, None, IfOk, OnOk, OnErr, is_some, true, false, map};
+ghost use Rattle.std.specs.Prelude.{◌≡◌, Some, None, IfOk, OnOk, OnErr, true, false, map};
 ghost use Rattle.std.specs.FinMap.{get, entries};
 ghost use Rattle.key_maps.specs.Maps.{within};
 ghost use Rattle.tect_ids.specs.Keys.{name_eq};
-ghost use Rattle.tree_model.specs.Tree.{opening_tree, tree_reply, tree_change, tree_next, is_ok, unless, swap_reply};
-ghost use Rattle.tree_model.specs.Tree.{unbind_reply, at_name, as_listed, set_name};
-ghost use Rattle.tect_ids.specs.declared.ids.Node.{Node as AnyNode};
+ghost use Rattle.tree_model.specs.Tree.{opening_tree, tree_reply, tree_change, tree_next, is_ok, at_name, as_listed, set_name};
+ghost use Rattle.tree_model.specs.Tree.{check_reply, look_reply, list_reply, make_reply, bind_reply, swap_reply, swap_over};
+ghost use Rattle.tree_model.specs.Tree.{unbind_reply, unbind_want, grant_dir_reply, grant_file_reply, with_dir, with_file, renamed};
 
-use crate::step::{Refusal, StepValue, TreeDir, TreeFile, TreeReply, TreeStep};
+use crate::step::{StepValue, TreeDir, TreeFile, TreeReply, TreeStep};
 use key_maps::{DirMap, EntryTable, FileMap, NodeMap};
 use std::alloc::Global;
 use std::marker::Model;
-use tect_ids::{DirId, FileId, Items, Key, Listed, Name, NoMemory, Node, Over, ROOT, Token, Want};
+use tect_ids::{
+    DirId, FileId, Items, Key, Listed, Name, NoMemory, Node, OpId, Over, ROOT, Refusal, Token, Want,
+};
 
 const ENTRY_LIMIT: u64 = 65_536;
 
@@ -61,23 +63,23 @@ impl Tree {
         })
     }
 
-    /// Plays the step, and says what the tree says to it. A step that is refused changes nothing, and for want of memory
-    /// none does.
-    pub fn play(&mut self, step: &TreeStep) -> Result<TreeReply, NoMemory>
-        ensures reply { IfOk result (λ x. x ≡ tree_reply self.old step.now) }
-        ensures next { OnOk result (self.new ≡ tree_next self.old step.now (tree_reply self.old step.now)) }
+    /// Plays the step of that op, and says what the tree says to it. A step that is refused changes nothing, and for want
+    /// of memory none does.
+    pub fn play(&mut self, op: OpId, step: &TreeStep) -> Result<TreeReply, NoMemory>
+        ensures reply { IfOk result (λ x. x ≡ tree_reply self.old op step.now) }
+        ensures next { OnOk result (self.new ≡ tree_next self.old op step.now (tree_reply self.old op step.now)) }
         ensures err { OnErr result (self.new ≡ self.old) }
     {
-        let reply = self.reply(step)?;
+        let reply = self.reply(op, step)?;
         if matches!(&reply, TreeReply::Ok { .. }) {
-            self.change(step)?;
+            self.change(op, step)?;
         }
         Ok(reply)
     }
 
-    // What the tree says to the step.
-    fn reply(&self, step: &TreeStep) -> Result<TreeReply, NoMemory>
-        ensures { IfOk result (λ x. x ≡ tree_reply self.now step.now) }
+    // What the tree says to the step of that op.
+    fn reply(&self, op: OpId, step: &TreeStep) -> Result<TreeReply, NoMemory>
+        ensures { IfOk result (λ x. x ≡ tree_reply self.now op step.now) }
     {
         match step {
             TreeStep::Check { dir } => Ok(self.check(*dir)),
@@ -99,7 +101,7 @@ impl Tree {
     }
 
     fn check(&self, dir: DirId) -> TreeReply
-        ensures { result ≡ tree_reply self.now (TreeStep.Check dir) }
+        ensures { result ≡ check_reply self.now dir }
     {
         match self.dirs.get(dir) {
             Some(found) => shows(StepValue::Parent {
@@ -111,7 +113,7 @@ impl Tree {
     }
 
     fn look(&self, key: &Key) -> TreeReply
-        ensures { result ≡ tree_reply self.now (TreeStep.Look key.now) }
+        ensures { result ≡ look_reply self.now key.now }
     {
         if self.dirs.get(key.dir).is_none() {
             return refuses(Refusal::NoDir);
@@ -123,7 +125,7 @@ impl Tree {
     }
 
     fn list(&self, dir: DirId) -> Result<TreeReply, NoMemory>
-        ensures { IfOk result (λ x. x ≡ tree_reply self.now (TreeStep.List dir)) }
+        ensures { IfOk result (λ x. x ≡ list_reply self.now dir) }
     {
         let Some(found) = self.dirs.get(dir) else {
             return Ok(refuses(Refusal::NoDir));
@@ -149,7 +151,7 @@ impl Tree {
     }
 
     fn make(&self, node: Node) -> TreeReply
-        ensures { result ≡ unless (is_some (get self.now.made node)) Refusal.Exists (TreeReply.Ok StepValue.Done) }
+        ensures { result ≡ make_reply self.now node }
     {
         match self.made.get(node) {
             Some(()) => refuses(Refusal::Exists),
@@ -157,9 +159,8 @@ impl Tree {
         }
     }
 
-    // The same for every node.
     fn bind(&self, key: &Key, over: Over) -> TreeReply
-        ensures { (node : AnyNode) → result ≡ tree_reply self.now (TreeStep.Bind key.now node over) }
+        ensures { result ≡ bind_reply self.now key.now over }
     {
         match self.dirs.get(key.dir) {
             None => return refuses(Refusal::NoDir),
@@ -177,7 +178,7 @@ impl Tree {
 
     #[tactic(auto, using(crate::proofs::Trees::node_same), unfolding(tect_ids::specs::Keys::name_eq))]
     fn swap(&self, dir: DirId, from: &Name, to: &Name, node: Node) -> Result<TreeReply, NoMemory>
-        ensures { IfOk result (λ x. x ≡ tree_reply self.now (TreeStep.Swap dir from.now to.now node)) }
+        ensures { IfOk result (λ x. x ≡ swap_reply self.now dir from.now to.now node) }
     {
         match self.dirs.get(dir) {
             None => return Ok(refuses(Refusal::NoDir)),
@@ -207,18 +208,18 @@ impl Tree {
     }
 
     fn unbind(&self, key: &Key, want: Want) -> TreeReply
-        ensures { result ≡ tree_reply self.now (TreeStep.Unbind key.now want) }
+        ensures { result ≡ unbind_reply self.now key.now want }
     {
         match self.dirs.get(key.dir) {
             None => return refuses(Refusal::NoDir),
             Some(dir) if dir.sealed => return refuses(Refusal::Sealed),
             Some(_) => {}
         }
-        unbind_from(self.entries.get(key).copied(), want)
+        unbind_want(self.entries.get(key).copied(), want)
     }
 
     fn grant_dir(&self, dir: DirId) -> TreeReply
-        ensures { result ≡ tree_reply self.now (TreeStep.GrantDir dir) }
+        ensures { result ≡ grant_dir_reply self.now dir }
     {
         match self.dirs.get(dir) {
             Some(_) => shows(StepValue::Done),
@@ -227,7 +228,7 @@ impl Tree {
     }
 
     fn grant_file(&self, file: FileId) -> TreeReply
-        ensures { result ≡ tree_reply self.now (TreeStep.GrantFile file) }
+        ensures { result ≡ grant_file_reply self.now file }
     {
         match self.files.get(file) {
             Some(_) => shows(StepValue::Done),
@@ -236,9 +237,9 @@ impl Tree {
     }
 
     // Does what the tree said Ok to.
-    fn change(&mut self, step: &TreeStep) -> Result<(), NoMemory>
-        requires { is_ok (tree_reply self.old step.now) ≡ true }
-        ensures ok { OnOk result (self.new ≡ tree_change self.old step.now) }
+    fn change(&mut self, op: OpId, step: &TreeStep) -> Result<(), NoMemory>
+        requires { is_ok (tree_reply self.old op step.now) ≡ true }
+        ensures ok { OnOk result (self.new ≡ tree_change self.old op step.now) }
         ensures err { OnErr result (self.new ≡ self.old) }
     {
         match step {
@@ -266,7 +267,7 @@ impl Tree {
     #[tactic(auto, using(crate::proofs::Trees::made_back))]
     fn add_dir(&mut self, dir: DirId, parent: DirId) -> Result<(), NoMemory>
         requires { get self.old.made (Node.Dir dir) ≡ None }
-        ensures ok { OnOk result (self.new ≡ tree_change self.old (TreeStep.MakeDir dir parent)) }
+        ensures ok { OnOk result (self.new ≡ with_dir self.old dir parent) }
         ensures err { OnErr result (self.new ≡ self.old) }
     {
         let node = Node::Dir(dir);
@@ -287,7 +288,7 @@ impl Tree {
     #[tactic(auto, using(crate::proofs::Trees::made_back))]
     fn add_file(&mut self, file: FileId, token: Option<Token>) -> Result<(), NoMemory>
         requires { get self.old.made (Node.File file) ≡ None }
-        ensures ok { OnOk result (self.new ≡ tree_change self.old (TreeStep.MakeFile file token)) }
+        ensures ok { OnOk result (self.new ≡ with_file self.old file token) }
         ensures err { OnErr result (self.new ≡ self.old) }
     {
         let node = Node::File(file);
@@ -312,7 +313,7 @@ impl Tree {
     #[tactic(auto, using(crate::proofs::Trees::names_swap))]
     fn rename(&mut self, dir: DirId, from: &Name, to: &Name, node: Node) -> Result<(), NoMemory>
         requires { name_eq from.now to.now ≡ false }
-        ensures ok { OnOk result (self.new ≡ tree_change self.old (TreeStep.Swap dir from.now to.now node)) }
+        ensures ok { OnOk result (self.new ≡ renamed self.old dir from.now to.now node) }
         ensures err { OnErr result (self.new ≡ self.old) }
     {
         let from = self.key(dir, from)?;
@@ -325,7 +326,7 @@ impl Tree {
 
 // What stands at the new name decides.
 fn swap_over(now: Option<Node>, node: Node) -> TreeReply
-    ensures { result ≡ swap_reply now node }
+    ensures { result ≡ swap_over now node }
 {
     match (now, node) {
         (None, _) | (Some(Node::File(_)), Node::File(_)) => shows(StepValue::Done),
@@ -335,8 +336,8 @@ fn swap_over(now: Option<Node>, node: Node) -> TreeReply
 }
 
 #[tactic(auto, using(crate::proofs::Trees::node_same))]
-fn unbind_from(now: Option<Node>, want: Want) -> TreeReply
-    ensures { result ≡ unbind_reply now want }
+fn unbind_want(now: Option<Node>, want: Want) -> TreeReply
+    ensures { result ≡ unbind_want now want }
 {
     match (now, want) {
         (None, Want::AnyFile) => refuses(Refusal::NoName),
