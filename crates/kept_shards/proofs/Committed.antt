@@ -1,9 +1,9 @@
 -- a transaction at a kept machine is one of the whole store
-use Rattle.std.proofs.Common.{◌≡◌, ℕ, zero, suc, ◌+◌, ◌-◌, ◌<◌, ◌≤◌, ◌&&◌, Bool, true, false, Option, Some, None, List, [], ◌∷◌, ◌++◌, map}
+use Rattle.std.proofs.Common.{◌≡◌, ℕ, ◌+◌, ◌-◌, ◌<◌, ◌≤◌, ◌&&◌, Bool, true, false, Some, List, [], ◌∷◌, ◌++◌, map}
 use Rattle.std.proofs.Common.{length, get_or, set, refl, sym, ap, ◌∙◌, subst, Result, Ok, Err, IfOk, OnOk, arith}
 use Rattle.std.specs.Prelude.{OnErr, slice_get, nat_lt, option_map}
 use Rattle.std.proofs.lemmas.Bool.Decides.{nat_tests}
-use Rattle.std.proofs.lemmas.List.{set-get_or, map-set, map-append, set-append_left, set-append_right}
+use Rattle.std.proofs.lemmas.List.{set-get_or, map-set, set-append_left, set-append_right}
 use Rattle.std.proofs.Math.ListN.{length-map}
 use Rattle.std.proofs.lemmas.Option.{slice_get-map, get_or_from_slice_get}
 use Rattle.tect_ids.specs.declared.ids.Counts.{Counts}

@@ -1,6 +1,6 @@
 -- one kept machine more that did nothing yet
-use Rattle.std.proofs.Common.{◌≡◌, ℕ, zero, suc, ◌+◌, ◌<◌, ◌≤◌, ◌%◌, ◌⊎◌, Bool, true, false, eqb, if◌then◌else◌, Option, Some, None, List}
-use Rattle.std.proofs.Common.{[], ◌∷◌, ◌++◌, map, length, get_or, replicate, refl, sym, ap, ◌∙◌, subst, inl, inr, arith, length-append}
+use Rattle.std.proofs.Common.{◌≡◌, ℕ, zero, suc, ◌+◌, ◌<◌, ◌%◌, ◌⊎◌, false, eqb, if◌then◌else◌, Some, List}
+use Rattle.std.proofs.Common.{[], ◌∷◌, ◌++◌, length, refl, sym, ap, ◌∙◌, inl, inr, arith, length-append}
 use Rattle.std.specs.Prelude.{slice_get}
 use Rattle.std.proofs.lemmas.Grind.{common_steps}
 use Rattle.tect_ids.specs.declared.ids.Counts.{Counts}
@@ -12,7 +12,7 @@ use Rattle.entry_words.specs.declared.entry.Label.{Label}
 use Rattle.tect_ids.specs.Places.{id_hash}
 use Rattle.all_shards.proofs.Together.{below}
 use Rattle.store_rules.specs.Names.{Names, root_names, no_names}
-use Rattle.store_shards.specs.Shards.{place_eq, root_place}
+use Rattle.store_shards.specs.Shards.{root_place}
 use Rattle.all_shards.specs.Opening.{IsOpening}
 use Rattle.kept_shards.specs.Opening.{AreNew}
 

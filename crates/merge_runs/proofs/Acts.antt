@@ -1,6 +1,5 @@
 -- The entries of a list are those of the transactions among its moments, however they were heard.
 use Rattle.std.proofs.Common.{◌≡◌, inl, inr, List, [], ◌∷◌, refl, ap, subst, map}
-use Rattle.std.specs.List.{Contains}
 use Rattle.entry_words.specs.declared.entry.Entry.{Entry}
 use Rattle.entry_words.specs.declared.entry.Moment.{Moment}
 use Rattle.entry_words.specs.declared.entry.Moment.TheVariants.{Act, Local}

@@ -3,14 +3,12 @@ use Rattle.std.proofs.Common.{◌≡◌, ℕ, zero, suc, ◌+◌, ◌<◌, List,
 use Rattle.std.proofs.Common.{append-nil, append_assoc, slice_index_or}
 use Rattle.std.specs.List.{flat_map, All}
 use Rattle.std.proofs.lemmas.List.Elements.{All-head, All-tail}
-use Rattle.entry_words.specs.declared.entry.Moment.{Moment}
 use Rattle.passes.specs.declared.pass.Pass.{Pass}
 use Rattle.merge_runs.specs.declared.keyed.Keyed.{Keyed}
 use Rattle.merge_runs.specs.declared.spot.Spot.{Spot}
 use Rattle.merge_runs.specs.Keyed.{moment_in, IsAt}
 use Rattle.merge_runs.specs.Merged.{moments_of}
 use Rattle.merge_runs.specs.MergedRuns.{moments_at, moment_at, IsSpot}
-use Rattle.merge_runs.proofs.Order.{In}
 use Rattle.merge_runs.proofs.Members.{in_map}
 use Rattle.merge_runs.proofs.Trails.{all_in, in_all}
 

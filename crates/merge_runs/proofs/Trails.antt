@@ -1,13 +1,12 @@
 -- The entries of a pass are the transactions among its moments.
-use Rattle.std.proofs.Common.{◌≡◌, ◌≢◌, ℕ, inl, inr, List, [], ◌∷◌, ap, refl, get_or}
+use Rattle.std.proofs.Common.{◌≡◌, ◌≢◌, ℕ, List, refl, get_or}
 use Rattle.std.specs.List.{All, Contains}
 use Rattle.std.proofs.lemmas.List.Elements.{All-contains, Contains-get_or}
 use Rattle.place_kit.specs.declared.any.AnyKept.{AnyKept}
 use Rattle.entry_words.specs.declared.entry.Entry.{Entry}
 use Rattle.entry_words.specs.declared.entry.Moment.{Moment}
-use Rattle.entry_words.specs.declared.entry.Moment.TheVariants.{Act, Local}
+use Rattle.entry_words.specs.declared.entry.Moment.TheVariants.{Act}
 use Rattle.passes.specs.declared.pass.Pass.{Pass}
-use Rattle.entry_words.specs.Moments.{trail_of}
 use Rattle.merge_runs.specs.Merged.{moments_of, entries_of, trails, IsStored}
 use Rattle.merge_runs.specs.Splits.{IsActOf, IsStoredMoment}
 use Rattle.merge_runs.proofs.Order.{In}

@@ -4,13 +4,12 @@ use Rattle.key_maps.proofs.Lookups.{maps}
 use Rattle.store_rules.specs.declared.any.AnyReq.TheVariants.{Name}
 use Rattle.store_rules.specs.declared.any.AnyReply.TheVariants as replies
 use Rattle.store_rules.specs.declared.names.Directory.{Directory}
-use Rattle.store_rules.specs.declared.names.NameReq.{NameReq}
 use Rattle.store_rules.specs.declared.names.NameReq.TheVariants as names
-use Rattle.store_rules.specs.declared.names.NameReply.TheVariants.{DirIs, NoDir, Released}
-use Rattle.store_rules.specs.Outcomes.{Leaves, Changes, reply, refuse, found}
-use Rattle.store_rules.specs.Names.{Names, dir_lists}
+use Rattle.tect_ids.specs.declared.values.Refusal.TheVariants.{NoDir}
+use Rattle.store_rules.specs.declared.names.NameReply.TheVariants.{DirIs, Refused}
+use Rattle.store_rules.specs.Outcomes.{Leaves, reply, found}
+use Rattle.store_rules.specs.Names.{Names}
 use Rattle.std.specs.FinMap.{get}
-use Rattle.std.specs.Prelude.{not}
 use Rattle.store_rules.specs.Views.{as_parent}
 use Rattle.place_kit.specs.Machines.{has_root, name_opening, name_replies}
 
@@ -20,7 +19,7 @@ opens_so false = grind (arith, maps)
 
 -- a directory that is asked for stands where the reply says so
 stands : (d : Option Directory)
-    → is_some (as_parent (replies.Name (reply (found d NoDir (λ x. Leaves (DirIs x.parent x.sealed)))))) ≡ is_some d
+    → is_some (as_parent (replies.Name (reply (found d (Refused NoDir) (λ x. Leaves (DirIs x.parent x.sealed)))))) ≡ is_some d
 stands None = refl
 stands (Some d) = refl
 

@@ -70,7 +70,7 @@ impl Machine for NameShard {
             NameReply::DirIs { parent, sealed } => {
                 Ok(AnyReply::Name(NameReply::DirIs { parent, sealed }))
             }
-            NameReply::NoDir => Ok(AnyReply::Name(NameReply::NoDir)),
+            NameReply::Refused { why } => Ok(AnyReply::Name(NameReply::Refused { why })),
             NameReply::Released { was } => Ok(AnyReply::Name(NameReply::Released { was })),
             _ => Ok(AnyReply::Name(reply.clone()?)),
         }

@@ -7,7 +7,7 @@ use passes::{MOST_MOMENTS, Pass};
 use std::alloc::Global;
 use std::test::Fail;
 use store_rules::{NameReply, NameReq};
-use tect_ids::{Key, Name, Place, ROOT};
+use tect_ids::{Key, Name, Place, ROOT, Refusal};
 
 const ACTOR: u32 = 7;
 
@@ -28,7 +28,9 @@ fn look(alloc: Global, kept: &mut Kept<NameShard>, pass: &mut Pass) -> Result<()
         name: Name::new(alloc, b"gone")?,
     };
     match kept.commit(pass, NameReq::Look { key })? {
-        NameReply::NoName => Ok(()),
+        NameReply::Refused {
+            why: Refusal::NoName,
+        } => Ok(()),
         reply => Err(Fail::new(format_args!("{reply:?}"))),
     }
 }

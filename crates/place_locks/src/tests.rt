@@ -79,7 +79,14 @@ fn two_actors_commit_at_their_places(rt: HostRuntime) -> Result<(), Fail> {
     let root = "Name(DirIs { parent: DirId(0), sealed: false })";
     is_told(&rt, alloc, &places, &mut first, name_check_dir(ROOT), root)?;
     let look = name_look(key(alloc)?);
-    is_told(&rt, alloc, &places, &mut second, look, "Name(NoName)")?;
+    is_told(
+        &rt,
+        alloc,
+        &places,
+        &mut second,
+        look,
+        "Name(Refused { why: NoName })",
+    )?;
     let make = make_file(alloc, FIRST)?;
     is_told(&rt, alloc, &places, &mut first, make, "File(Made)")?;
     let make = make_file(alloc, SECOND)?;

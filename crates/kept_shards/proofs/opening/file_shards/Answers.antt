@@ -1,12 +1,10 @@
-use Rattle.std.proofs.Common.{◌≡◌, replicate, arith, ◌++◌, ◌∷◌, [], List, map, ap, ◌∙◌, rules}
+use Rattle.std.proofs.Common.{replicate, arith, ◌++◌, ◌∷◌, [], List, ap, ◌∙◌}
 use Rattle.std.proofs.lemmas.List.{map-append, replicate-append-replicate}
-use Rattle.place_kit.specs.declared.any.AnyKept.{AnyKept}
 use Rattle.place_kit.specs.declared.any.AnyKept.TheVariants.{File}
 use Rattle.std.specs.FinMap.{empty}
 use Rattle.entry_words.specs.declared.entry.Entry.{Entry}
 use Rattle.passes.specs.Logged.{Logged}
 use Rattle.store_rules.specs.Files.{Files}
-use Rattle.kept_shards.specs.Opening.{AreNew}
 use Rattle.kept_shards.proofs.Opened.{new_push, file_label}
 use Rattle.kept_shards.proofs.opening.file_shards.Goals as goal
 

@@ -1,12 +1,8 @@
-use Rattle.std.proofs.Common.{◌≡◌, ◌+◌, arith, ◌++◌, ◌∷◌, [], List, map, ap, ◌∙◌, rules}
+use Rattle.std.proofs.Common.{◌≡◌, ◌+◌, arith, ap}
 use Rattle.std.proofs.lemmas.List.{map-append}
-use Rattle.place_kit.specs.declared.any.AnyKept.{AnyKept}
 use Rattle.place_kit.specs.declared.any.AnyKept.TheVariants.{Name}
 use Rattle.entry_words.specs.declared.entry.Entry.{Entry}
 use Rattle.passes.specs.Logged.{Logged}
-use Rattle.store_rules.specs.Names.{Names}
-use Rattle.all_shards.specs.Opening.{IsOpening}
-use Rattle.kept_shards.specs.Opening.{AreNew}
 use Rattle.kept_shards.proofs.Opened.{new_push, opening_push}
 use Rattle.kept_shards.proofs.opening.name_shards.Goals as goal
 

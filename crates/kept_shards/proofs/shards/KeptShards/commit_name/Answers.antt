@@ -1,4 +1,4 @@
-use Rattle.std.proofs.Common.{◌≡◌, ◌↔◌, Result, Err, refl, ap, sym, ◌∙◌, subst}
+use Rattle.std.proofs.Common.{◌≡◌, ◌↔◌, Err, refl, ap, sym, ◌∙◌, subst}
 use Rattle.tect_ids.specs.declared.ids.Place.{Place}
 use Rattle.store_rules.specs.Places.{request_place}
 use Rattle.store_rules.specs.declared.any.AnyReq.TheVariants as any
