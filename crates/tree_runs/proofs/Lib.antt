@@ -1,4 +1,3 @@
-pub mod Tracks
-pub mod Runs
-pub mod Histories
+pub mod Pasts
+pub mod AskSafely
 pub mod Headlines

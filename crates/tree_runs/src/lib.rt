@@ -7,25 +7,26 @@ ghost use Rattle.claim_words.specs.Headline.{Headline};
 ghost use Rattle.store_rules.specs.Store.{Store};
 ghost use Rattle.store_rules.specs.declared.any.AnyReq.{AnyReq};
 ghost use Rattle.tect_ids.specs.declared.ids.Counts.{Counts};
+ghost use Rattle.tect_ids.specs.declared.ids.OpId.{OpId};
 ghost use Rattle.tree_model.specs.Tree.{opening_tree};
 ghost use Rattle.program_rules.specs.Served.{programs};
 ghost use Rattle.world_runs.specs.declared.event.Event.{Event};
 ghost use Rattle.world_runs.specs.Moments.{IsWorldRun, moment};
-ghost use Rattle.telling_laws.specs.Telling.{RunsKnow};
-ghost use Rattle.names_told.specs.NamesKnown.{NamesKnow};
+ghost use Rattle.telling_laws.specs.Telling.{RunsAskSafely};
 ghost use Rattle.claim_words.specs.TreeSteps.{tree_steps, tree_after, IsTreeRun};
 ghost use Rattle.telling_laws.specs.View.{Made, Shows, AllMade, MakesNew, StepShows};
 
 /// Each request is no step of the tree, and then what the store shows stays; or it is a step to which the tree allows what
 /// the store replied, and then what the store shows follows the tree.
 pub fn store_shows_a_tree()
-    ensures { (store : Store) (made : Made) (req : AnyReq) → AllMade store made → MakesNew made req → StepShows store made req }
+    ensures { (store : Store) (made : Made) (op : OpId) (req : AnyReq) → AllMade store made → MakesNew made req
+        → StepShows store made op req }
 {}
 
-/// In every run of the world each running command knows that what it is to make was not made before, and each rename that its two names
-/// differ.
-pub fn running_commands_know()
-    ensures { RunsKnow programs NamesKnow }
+/// In every run of the world what each running command asks next is safe: what it needs is so of the store and its past, and what it is to
+/// make the tree has not made.
+pub fn running_commands_ask_safely()
+    ensures { RunsAskSafely programs }
 {}
 
 /// In every run of the world the tree allows what was said to each of its steps, and the store at the end shows the tree
