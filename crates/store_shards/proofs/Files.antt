@@ -1,15 +1,17 @@
 -- a request to a shard that has its file is answered and done as on the whole, and leaves the other shards
-use Rattle.std.proofs.Common.{◌≡◌, Bool, true, false, Option, if◌then◌else◌, refl, arith}
-use Rattle.std.specs.FinMap.{get, same_map}
+use Rattle.std.proofs.Common.{◌≡◌, Bool, true, false, Option, Some, None, if◌then◌else◌, ap, arith}
+use Rattle.std.specs.FinMap.{empty, get, same_map}
 use Rattle.tect_ids.specs.declared.ids.FileId.{FileId}
+use Rattle.tect_ids.specs.declared.key.Upper.TheVariants as uppers
 use Rattle.tect_ids.proofs.KeyTests.{file_cmp_total, file_antisymmetric}
 use Rattle.key_maps.proofs.Lookups.{maps}
 use Rattle.ordered_rows.specs.Maps.{set_at}
 use Rattle.store_rules.specs.declared.files.File.{File}
+use Rattle.store_rules.specs.declared.files.FileReply.{FileReply}
 use Rattle.store_rules.specs.declared.files.FileReq.{FileReq}
 use Rattle.store_rules.specs.declared.files.FileReq.TheVariants as req
-use Rattle.store_rules.specs.Files.{Files, file_answer, file_change, file_step}
-use Rattle.store_rules.specs.Outcomes.{changes}
+use Rattle.store_rules.specs.Files.{Files, FileRule, file_with_hold, file_rule, file_answer, file_change, file_step}
+use Rattle.store_rules.specs.Outcomes.{Outcome, changes}
 use Rattle.store_rules.specs.Places.{file_of}
 use Rattle.store_shards.specs.Shards.{KeepsFiles}
 
@@ -26,32 +28,41 @@ module _ (here : FileId → Bool) (s w : Files) (is : KeepsFiles here s w) where
   other_set : (f : FileId) (y : Option File) → here f ≡ false → KeepsFiles here s (set_at w f y)
   other_set f y other g = grind (arith, maps, is g)
 
-  -- each request is answered as on the whole
+  -- What a rule owes: in a shard that has its file it answers and changes as on the whole; in the whole alone it changes
+  -- nothing that a shard of another file has.
+  record IsLocal (rule : FileRule) : Type 0 where
+    answers : here rule.file ≡ true → rule.answer s ≡ rule.answer w
+    own : here rule.file ≡ true → KeepsFiles here (rule.change s) (rule.change w)
+    other : here rule.file ≡ false → KeepsFiles here s (rule.change w)
+
+  -- a rule that sets its file by what that was
+  sets_file : (f : FileId) (x : Option File → Option File) (answer : Files → Outcome FileReply) (free : Bool)
+      → (here f ≡ true → answer s ≡ answer w)
+      → IsLocal record { file = f; answer = answer; change = λ v. set_at v f (x (get v f)); free = free }
+  sets_file f x answer free same = record {
+    answers = same;
+    own = λ own. own_set f _ _ own (ap x (own_file f own));
+    other = λ other. other_set f _ other;
+  }
+
+  -- each request
+  local : (r : FileReq) → IsLocal (file_rule r)
+  local (req.MakeFile f h k t) =
+      sets_file f (λ x. Some record { token = t; holds = set_at empty h (Some (uppers.Entry k)) }) _ _ (λ own. rw (own_file f own))
+  local (req.Grant f h k) = sets_file f (λ x. file_with_hold x h (Some (uppers.Entry k))) _ _ (λ own. rw (own_file f own))
+  local (req.Release f h) = sets_file f (λ x. file_with_hold x h None) _ _ (λ own. rw (own_file f own))
+
   pub same_file_answer : (r : FileReq) → here (file_of r) ≡ true → file_answer s r ≡ file_answer w r
-  same_file_answer (req.MakeFile f h k t) own = rw (own_file f own)
-  same_file_answer (req.Grant f h k) own = rw (own_file f own)
-  same_file_answer (req.Release f h) own = rw (own_file f own)
-
-  -- what a request does to a shard that has its file, and to the whole
-  own_change : (r : FileReq) → here (file_of r) ≡ true → KeepsFiles here (file_change s r) (file_change w r)
-  own_change (req.MakeFile f h k t) own = own_set f _ _ own refl
-  own_change (req.Grant f h k) own = own_set f _ _ own (rw (own_file f own))
-  own_change (req.Release f h) own = own_set f _ _ own (rw (own_file f own))
-
-  -- what a request of another shard does to the whole
-  other_change : (r : FileReq) → here (file_of r) ≡ false → KeepsFiles here s (file_change w r)
-  other_change (req.MakeFile f h k t) other = other_set f _ other
-  other_change (req.Grant f h k) other = other_set f _ other
-  other_change (req.Release f h) other = other_set f _ other
+  same_file_answer r own = (local r).answers own
 
   -- the same, refused or not
   own_by : (r : FileReq) (b : Bool) → here (file_of r) ≡ true
       → KeepsFiles here (if b then file_change s r else s) (if b then file_change w r else w)
-  own_by r true own = own_change r own
+  own_by r true own = (local r).own own
   own_by r false own = is
 
   other_by : (r : FileReq) (b : Bool) → here (file_of r) ≡ false → KeepsFiles here s (if b then file_change w r else w)
-  other_by r true other = other_change r other
+  other_by r true other = (local r).other other
   other_by r false other = is
 
   -- the shard does the request where it has the file, and else stays

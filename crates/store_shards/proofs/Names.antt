@@ -1,19 +1,23 @@
 -- a request to a shard that has its directory is answered and done as on the whole, and leaves the other shards
-use Rattle.std.proofs.Common.{◌≡◌, Bool, true, false, Option, Some, None, if◌then◌else◌, refl, arith}
-use Rattle.std.specs.FinMap.{get, same_map}
+use Rattle.std.proofs.Common.{◌≡◌, Bool, true, false, Option, Some, None, if◌then◌else◌, refl, ap, arith}
+use Rattle.std.specs.FinMap.{empty, get, same_map}
 use Rattle.tect_ids.specs.declared.ids.DirId.{DirId}
 use Rattle.tect_ids.specs.declared.key.Key.{Key}
+use Rattle.tect_ids.specs.declared.key.Upper.TheVariants as uppers
 use Rattle.tect_ids.specs.declared.values.Over.{Over}
 use Rattle.tect_ids.specs.declared.values.Over.TheVariants as over
 use Rattle.tect_ids.proofs.KeyTests.{dir_cmp_total, key_cmp_total, dir_antisymmetric, key_antisymmetric}
+use Rattle.ordered_rows.specs.Maps.{set_at}
 use Rattle.key_maps.specs.Maps.{within}
 use Rattle.key_maps.proofs.Lookups.{maps}
 use Rattle.store_rules.specs.declared.names.Directory.{Directory}
 use Rattle.store_rules.specs.declared.names.DirectoryEntry.{DirectoryEntry}
+use Rattle.store_rules.specs.declared.names.NameReply.{NameReply}
 use Rattle.store_rules.specs.declared.names.NameReq.{NameReq}
 use Rattle.store_rules.specs.declared.names.NameReq.TheVariants as req
-use Rattle.store_rules.specs.Names.{Names, key_in, set_dir, set_entry, bind_over, name_answer, name_change, name_step}
-use Rattle.store_rules.specs.Outcomes.{changes}
+use Rattle.store_rules.specs.Names.{Names, NameRule, key_in, set_dir, set_entry, dir_with_hold, bind_over}
+use Rattle.store_rules.specs.Names.{name_rule, name_answer, name_change, name_step}
+use Rattle.store_rules.specs.Outcomes.{Outcome, changes}
 use Rattle.store_rules.specs.Places.{dir_of}
 use Rattle.store_shards.specs.Shards.{KeepsNames}
 
@@ -50,51 +54,67 @@ module _ (here : DirId → Bool) (s w : Names) (is : KeepsNames here s w) where
   bind_over_same k own (Some e) over.File = refl
   bind_over_same k own None o = rw (same_within k.dir own)
 
-  -- each request is answered as on the whole
+  -- What a rule owes: in a shard that has its directory it answers and changes as on the whole; in the whole alone it changes
+  -- nothing that a shard of another directory has.
+  record IsLocal (rule : NameRule) : Type 0 where
+    answers : here rule.dir ≡ true → rule.answer s ≡ rule.answer w
+    own : here rule.dir ≡ true → KeepsNames here (rule.change s) (rule.change w)
+    other : here rule.dir ≡ false → KeepsNames here s (rule.change w)
+
+  -- a rule that changes nothing
+  reads : (d : DirId) (answer : Names → Outcome NameReply) (free : Bool) → (here d ≡ true → answer s ≡ answer w)
+      → IsLocal record { dir = d; answer = answer; change = λ v. v; free = free }
+  reads d answer free same = record { answers = same; own = λ own. is; other = λ other. is }
+
+  -- a rule that sets the record of its directory by what that was
+  sets_dir : (d : DirId) (x : Option Directory → Option Directory) (answer : Names → Outcome NameReply) (free : Bool)
+      → (here d ≡ true → answer s ≡ answer w)
+      → IsLocal record { dir = d; answer = answer; change = λ v. set_dir v d (x (get v.dirs d)); free = free }
+  sets_dir d x answer free same = record {
+    answers = same;
+    own = λ own. own_dir_set here s w is d _ _ own (ap x (own_dir d own));
+    other = λ other. other_dir_set here s w is d _ other;
+  }
+
+  -- a rule that sets one entry
+  sets_entry : (k : Key) (x : Option DirectoryEntry) (answer : Names → Outcome NameReply) (free : Bool)
+      → (here k.dir ≡ true → answer s ≡ answer w)
+      → IsLocal record { dir = k.dir; answer = answer; change = λ v. set_entry v k x; free = free }
+  sets_entry k x answer free same = record {
+    answers = same;
+    own = λ own. own_entry_set here s w is k x own;
+    other = λ other. other_entry_set here s w is k x other;
+  }
+
+  -- each request
+  local : (r : NameReq) → IsLocal (name_rule r)
+  local (req.CheckDir d) = reads d _ _ (λ own. rw (own_dir d own))
+  local (req.Look k) = reads k.dir _ _ (λ own. rw (own_dir k.dir own, own_entry k own))
+  local (req.List d) = reads d _ _ (λ own. rw (own_dir d own, same_within d own))
+  local (req.MakeDir d p h k) =
+      sets_dir d (λ x. Some record { parent = p; sealed = false; holds = set_at empty h (Some (uppers.Entry k)) }) _ _ (λ own. rw (own_dir d own))
+  local (req.Bind k n h o) =
+      sets_entry k _ _ _ (λ own. rw (own_dir k.dir own, own_entry k own, bind_over_same k own (get w.entries k) o))
+  local (req.Swap d from to n h) = record {
+    answers = λ own. rw (own_dir d own, own_entry (key_in d from) own, own_entry (key_in d to) own);
+    own = λ own. own_entry_set here _ _ (own_entry_set here s w is (key_in d from) None own) (key_in d to) _ own;
+    other = λ other. other_entry_set here s _ (other_entry_set here s w is (key_in d from) None other) (key_in d to) _ other;
+  }
+  local (req.Unbind k want) = sets_entry k None _ _ (λ own. rw (own_dir k.dir own, own_entry k own))
+  local (req.Grant d h k) = sets_dir d (λ x. dir_with_hold x h (Some (uppers.Entry k))) _ _ (λ own. rw (own_dir d own))
+  local (req.Release d h) = sets_dir d (λ x. dir_with_hold x h None) _ _ (λ own. rw (own_dir d own))
+
   pub same_name_answer : (r : NameReq) → here (dir_of r) ≡ true → name_answer s r ≡ name_answer w r
-  same_name_answer (req.CheckDir d) own = rw (own_dir d own)
-  same_name_answer (req.Look k) own = rw (own_dir k.dir own, own_entry k own)
-  same_name_answer (req.List d) own = rw (own_dir d own, same_within d own)
-  same_name_answer (req.MakeDir d p h k) own = rw (own_dir d own)
-  same_name_answer (req.Bind k n h o) own = rw (own_dir k.dir own, own_entry k own, bind_over_same k own (get w.entries k) o)
-  same_name_answer (req.Swap d from to n h) own = rw (own_dir d own, own_entry (key_in d from) own, own_entry (key_in d to) own)
-  same_name_answer (req.Unbind k want) own = rw (own_dir k.dir own, own_entry k own)
-  same_name_answer (req.Grant d h k) own = rw (own_dir d own)
-  same_name_answer (req.Release d h) own = rw (own_dir d own)
-
-  -- what a request does to a shard that has its directory, and to the whole
-  own_change : (r : NameReq) → here (dir_of r) ≡ true → KeepsNames here (name_change s r) (name_change w r)
-  own_change (req.CheckDir d) own = is
-  own_change (req.Look k) own = is
-  own_change (req.List d) own = is
-  own_change (req.MakeDir d p h k) own = own_dir_set here s w is d _ _ own refl
-  own_change (req.Bind k n h o) own = own_entry_set here s w is k _ own
-  own_change (req.Swap d from to n h) own = own_entry_set here _ _ (own_entry_set here s w is (key_in d from) None own) (key_in d to) _ own
-  own_change (req.Unbind k want) own = own_entry_set here s w is k None own
-  own_change (req.Grant d h k) own = own_dir_set here s w is d _ _ own (rw (own_dir d own))
-  own_change (req.Release d h) own = own_dir_set here s w is d _ _ own (rw (own_dir d own))
-
-  -- what a request of another shard does to the whole
-  other_change : (r : NameReq) → here (dir_of r) ≡ false → KeepsNames here s (name_change w r)
-  other_change (req.CheckDir d) other = is
-  other_change (req.Look k) other = is
-  other_change (req.List d) other = is
-  other_change (req.MakeDir d p h k) other = other_dir_set here s w is d _ other
-  other_change (req.Bind k n h o) other = other_entry_set here s w is k _ other
-  other_change (req.Swap d from to n h) other =
-      other_entry_set here s _ (other_entry_set here s w is (key_in d from) None other) (key_in d to) _ other
-  other_change (req.Unbind k want) other = other_entry_set here s w is k None other
-  other_change (req.Grant d h k) other = other_dir_set here s w is d _ other
-  other_change (req.Release d h) other = other_dir_set here s w is d _ other
+  same_name_answer r own = (local r).answers own
 
   -- the same, refused or not
   own_by : (r : NameReq) (b : Bool) → here (dir_of r) ≡ true
       → KeepsNames here (if b then name_change s r else s) (if b then name_change w r else w)
-  own_by r true own = own_change r own
+  own_by r true own = (local r).own own
   own_by r false own = is
 
   other_by : (r : NameReq) (b : Bool) → here (dir_of r) ≡ false → KeepsNames here s (if b then name_change w r else w)
-  other_by r true other = other_change r other
+  other_by r true other = (local r).other other
   other_by r false other = is
 
   -- the shard does the request where it has the directory, and else stays
