@@ -13,9 +13,8 @@ use Rattle.world_runs.specs.declared.event.Event.TheVariants.{Own}
 use Rattle.world_runs.specs.declared.event.Happening.TheVariants.{Ended}
 use Rattle.world_runs.specs.Moments.{WorldState, May, IsWorldRun, moment, opening}
 use Rattle.world_runs.proofs.Fronts.{front_runs, may_at}
-use Rattle.sound_runs.proofs.RunsKeep.{no_run_answers_odd, sound_at_each_moment}
-use Rattle.sound_runs.proofs.Grants.{granted_at_each_moment}
 use Rattle.tree_runs.proofs.Headlines.{run_headline}
+use Rattle.run_claims.proofs.RunsKeep.{no_run_answers_odd, sound_at_each_moment, granted_at_each_moment}
 use Rattle.run_claims.proofs.RunsShort.{each_is_short}
 use Rattle.run_claims.proofs.Complete.{is_complete}
 use Rattle.run_claims.specs.Claims.{EveryRunIsClaimed}

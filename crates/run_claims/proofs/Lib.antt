@@ -1,3 +1,4 @@
+pub mod RunsKeep
 pub mod Ops
 pub mod Steps
 pub mod RunsShort

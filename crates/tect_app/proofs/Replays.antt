@@ -31,7 +31,7 @@ use Rattle.world_runs.specs.Smooth.{EndsAtOnce, StepsOn, AllStepOn}
 use Rattle.run_claims.proofs.Claims.{every_run_is_claimed}
 use Rattle.script_runs.specs.InTime.{LooksTellNoAnswer}
 use Rattle.script_runs.proofs.Fixed.{script_fixes_run_without_looks}
-use Rattle.sound_runs.proofs.RunsKeep.{no_run_answers_odd}
+use Rattle.run_claims.proofs.RunsKeep.{no_run_answers_odd}
 use Rattle.world_runs.proofs.Actors.{after_all-append}
 use Rattle.script_runs.proofs.Histories.{run-append}
 use Rattle.session_runs.proofs.Scripts.{session_reported}

@@ -1,2 +1,0 @@
-pub mod RunsKeep
-pub mod Grants
