@@ -18,7 +18,7 @@ use Rattle.store_rules.specs.declared.any.AnyReply.{AnyReply}
 use Rattle.store_rules.specs.Store.{Store, store_reply, store_step}
 use Rattle.store_world.specs.Worlds.{World}
 use Rattle.store_world.specs.Sound.{was_made}
-use Rattle.store_world.specs.Requests.{NameNeeds, FileNeeds}
+use Rattle.store_world.specs.Requests.{Needs, NameNeeds, FileNeeds}
 use Rattle.tree_model.specs.declared.step.TreeStep.{TreeStep}
 use Rattle.tree_model.specs.declared.step.TreeReply.{TreeReply}
 use Rattle.tree_model.specs.Tree.{Tree, opening_tree}
@@ -100,9 +100,13 @@ file_safe w made (files.MakeFile f h k t) new needs = new (nodes.File f) needs.0
 file_safe w made (files.Grant f h k) new needs = tt
 file_safe w made (files.Release f h) new needs = tt
 
+pub needs_make_new : (w : World) (made : Made) (q : AnyReq) → ((n : Node) → was_made w.ghost n ≡ false → get made n ≡ None) → Needs w q
+    → MakesNew made q
+needs_make_new w made (any.Name q) new needs = name_safe w made q new needs
+needs_make_new w made (any.File q) new needs = file_safe w made q new needs
+
 pub safe_makes_new : (h : List Event) (q : AnyReq) → IsSafe h q → MakesNew (tree_of h).made q
-safe_makes_new h (any.Name q) safe = name_safe safe.world (tree_of h).made q safe.made safe.needs
-safe_makes_new h (any.File q) safe = file_safe safe.world (tree_of h).made q safe.made safe.needs
+safe_makes_new h q safe = needs_make_new safe.world (tree_of h).made q safe.made safe.needs
 
 -- ---- an event, and a run
 

@@ -22,7 +22,7 @@ use Rattle.run_laws.proofs.RunsKeep.{what_is_known_is_so, knows_of}
 use Rattle.telling_laws.specs.Telling.{IsSafe, RunsAskSafely}
 use Rattle.tree_runs.proofs.Pasts.{WithinPast, run_within}
 
-opening_within : WithinPast opening_ghost opening_tree.made
+pub opening_within : WithinPast opening_ghost opening_tree.made
 opening_within n un = grind (arith, maps)
 
 module _ {S : Type 0} (P : Programs S) (D : Deciding S Answer) (N : Known S Answer) (laws : ProgramLaws P D N) (counts : Counts)

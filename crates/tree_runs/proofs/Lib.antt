@@ -1,3 +1,4 @@
 pub mod Pasts
 pub mod AskSafely
+pub mod Tracks
 pub mod Headlines

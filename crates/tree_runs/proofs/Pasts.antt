@@ -135,7 +135,7 @@ module _ {S : Type 0} (P : Programs S) (D : Deciding S Answer) where
   acted_within m g t op q x h may within =
       rw may.1 (λ n un. request_within m.store g t op q within n (rw (← settled_made op _ _ (ghost_next m.store g q)) un))
 
-  event_within : (m : WorldState S) (g : Ghost) (t : Tree) (e : Event) → May P m e → WithinPast g t.made
+  pub event_within : (m : WorldState S) (g : Ghost) (t : Tree) (e : Event) → May P m e → WithinPast g t.made
       → WithinPast (ghost_after P D m g e) (tree_after t (told_of e)).made
   event_within m g t (Own op (Acted q x h)) may within = acted_within m g t op q x h may within
   event_within m g t (Own op (Began c)) may within = within
