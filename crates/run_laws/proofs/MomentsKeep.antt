@@ -30,7 +30,8 @@ use Rattle.store_world.proofs.Frames.{weaken, later_then}
 use Rattle.store_world.proofs.Over.{settled_sound, settled_later}
 use Rattle.store_world.proofs.Rows.{row_kept, opening_sound}
 use Rattle.world_runs.proofs.Actors.{changed, other_number}
-use Rattle.program_laws.specs.Known.{Deciding, Known, Remembers, IsActor, IsNewOp, IsApart, Meets, object_number, by_op}
+use Rattle.tect_ids.specs.Numbers.{object_number}
+use Rattle.program_laws.specs.Known.{Deciding, Known, Remembers, IsActor, IsNewOp, IsApart, Meets, by_op}
 use Rattle.program_laws.specs.Laws.{ProgramLaws}
 use Rattle.run_laws.specs.Pasts.{standing_decided, ghost_after, world_of}
 use Rattle.run_laws.specs.Known.{StandingKnows, RunsSoundly, RunningKnows, ActorSound, AllSound}

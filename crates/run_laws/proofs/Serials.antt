@@ -22,7 +22,8 @@ use Rattle.program_forms.specs.Memories.{Memory, always}
 use Rattle.store_world.specs.Worlds.{World}
 use Rattle.store_world.specs.Later.{actor_of, by_actor, Within}
 use Rattle.store_world.specs.Requests.{makes, touched_by, Kept}
-use Rattle.program_laws.specs.Known.{object_number, by_op, Meets}
+use Rattle.tect_ids.specs.Numbers.{object_number}
+use Rattle.program_laws.specs.Known.{by_op, Meets}
 
 -- ---- only two requests make a node
 
