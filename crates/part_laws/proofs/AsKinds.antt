@@ -23,9 +23,12 @@ use Rattle.part_laws.specs.Parts.{NextKnows, next_known, next_decided, next_deci
 module _ {S R : Type 0} {P : Part S R} {D : Deciding S R} {N : Known S R} (l : PartLaws P D N) where
   -- ---- its look-ups
 
+  -- by them it still knows what it has to
+  abbrev StillSo : World → OpId → Memory → Turned (Next S R) → Type 0
+  StillSo w op m t = Remembers w op.actor t.memory × (t.memory.serial ≡ m.serial) × NextKnows N w op t.memory t.state
+
   turns_so : (c : Counts) (w : World) (op : OpId) (m : Memory) (p : Next S R) → Sound w → Remembers w op.actor m → NextKnows N w op m p
-      → Remembers w op.actor (turned (kind_of P) c m op p).memory × ((turned (kind_of P) c m op p).memory.serial ≡ m.serial)
-      × NextKnows N w op (turned (kind_of P) c m op p).memory (turned (kind_of P) c m op p).state
+      → StillSo w op m (turned (kind_of P) c m op p)
   turns_so c w op m (Goes s) sound r k = l.turns c w op m s sound r k
   turns_so c w op m (Comes x) sound r k = (r, refl, k)
 
@@ -53,7 +56,7 @@ module _ {S R : Type 0} {P : Part S R} {D : Deciding S R} {N : Known S R} (l : P
       → OfDoing (Meets w op (turned (kind_of P) c m op p).memory) (N.Ends w) (next_does (kind_of P) c m op p)
   meets_so c w op m p sound r a k =
       let t : Turned (Next S R) = turned (kind_of P) c m op p in
-      let so : Remembers w op.actor t.memory × (t.memory.serial ≡ m.serial) × NextKnows N w op t.memory t.state = turns_so c w op m p sound r k in
+      let so : StillSo w op m t = turns_so c w op m p sound r k in
       meets_then c w op t.memory t.state sound so.0 (actor_still op m t.memory so.1 a) so.2
 
   stays_so : (by : Touched) (w v : World) (op : OpId) (m : Memory) (p : Next S R) → Sound w → Later by w v → IsApart by op
@@ -79,11 +82,12 @@ module _ {S R : Type 0} {P : Part S R} {D : Deciding S R} {N : Known S R} (l : P
   goes_so : (c : Counts) (w : World) (op : OpId) (m n : Memory) (p : Next S R) → Sound w → Remembers w op.actor m → IsActor op m
       → NextKnows N w op m p
       → OfDoing (λ q. Kept w (next w q) q → n.serial ≡ (always (turned (kind_of P) c m op p).memory q (store_reply w.store q)).serial
-      → NextKnows N (settled op (next_decided D p) (next_decided D (state_heard (kind_of P) c m op p q (store_reply w.store q))) (next w q)) op n
+      → NextKnows N
+      (settled op (next_decided D p) (next_decided D (state_heard (kind_of P) c m op p q (store_reply w.store q))) (next w q)) op n
       (state_heard (kind_of P) c m op p q (store_reply w.store q))) (λ r. Unit {0}) (next_does (kind_of P) c m op p)
   goes_so c w op m n (Goes s) sound r a k =
       let t : Turned (Next S R) = P.turns c m op s in
-      let so : Remembers w op.actor t.memory × (t.memory.serial ≡ m.serial) × NextKnows N w op t.memory t.state = l.turns c w op m s sound r k in
+      let so : StillSo w op m t = l.turns c w op m s sound r k in
       goes_then c w op t.memory n (D.decided s) t.state (l.turned c m op s) sound so.0 (actor_still op m t.memory so.1 a) so.2
   goes_so c w op m n (Comes x) sound r a k = tt
 
@@ -100,7 +104,8 @@ module _ {S R : Type 0} {P : Part S R} {D : Deciding S R} {N : Known S R} (l : P
   -- ---- its holds
 
   abbrev Spends : Counts → World → OpId → Memory → Next S R → AnyReq → Type 0
-  Spends c w op m p q = (r : R) (h : Hold) (g : Given) → next_decided D (next_hears P c m op p q (store_reply w.store q)) ≡ Some r → h.op ≡ op
+  Spends c w op m p q =
+      (r : R) (h : Hold) (g : Given) → next_decided D (next_hears P c m op p q (store_reply w.store q)) ≡ Some r → h.op ≡ op
       → w.ghost.given h ≡ Some g → g.phase ≡ Live → (touched_by q).hold h ≡ true
 
   spends_then : (c : Counts) (w : World) (op : OpId) (m : Memory) (was : Option R) (p : Next S R) → IsTurned D was p → Sound w
@@ -115,12 +120,13 @@ module _ {S R : Type 0} {P : Part S R} {D : Deciding S R} {N : Known S R} (l : P
       (next_does (kind_of P) c m op p)
   spends_so c w op m (Goes s) sound r a k e =
       let t : Turned (Next S R) = P.turns c m op s in
-      let so : Remembers w op.actor t.memory × (t.memory.serial ≡ m.serial) × NextKnows N w op t.memory t.state = l.turns c w op m s sound r k in
+      let so : StillSo w op m t = l.turns c w op m s sound r k in
       spends_then c w op t.memory (D.decided s) t.state (l.turned c m op s) sound so.0 (actor_still op m t.memory so.1 a) so.2 e
   spends_so c w op m (Comes x) sound r a k e = tt
 
   abbrev Grants : Counts → World → OpId → Memory → Next S R → AnyReq → Type 0
-  Grants c w op m p q = Kept w (next w q) q → (h : Hold) → w.ghost.given h ≡ None → (touched_by q).hold h ≡ true
+  Grants c w op m p q =
+      Kept w (next w q) q → (h : Hold) → w.ghost.given h ≡ None → (touched_by q).hold h ≡ true
       → is_granted (store_reply w.store q) ≡ true → next_decided D (next_hears P c m op p q (store_reply w.store q)) ≡ None
 
   grants_then : (c : Counts) (w : World) (op : OpId) (m : Memory) (was : Option R) (p : Next S R) → IsTurned D was p → Sound w
@@ -135,7 +141,7 @@ module _ {S R : Type 0} {P : Part S R} {D : Deciding S R} {N : Known S R} (l : P
       (next_does (kind_of P) c m op p)
   grants_so c w op m (Goes s) sound r a k e =
       let t : Turned (Next S R) = P.turns c m op s in
-      let so : Remembers w op.actor t.memory × (t.memory.serial ≡ m.serial) × NextKnows N w op t.memory t.state = l.turns c w op m s sound r k in
+      let so : StillSo w op m t = l.turns c w op m s sound r k in
       grants_then c w op t.memory (D.decided s) t.state (l.turned c m op s) sound so.0 (actor_still op m t.memory so.1 a) so.2 e
   grants_so c w op m (Comes x) sound r a k e = tt
 

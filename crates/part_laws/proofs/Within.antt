@@ -27,7 +27,8 @@ pub record Embeds {S T R : Type 0} (f : S → T) (P : Part S R) (D : Deciding S 
   pub ends : (w : World) (r : R) → N.Ends w r → M.Ends w r
 
 module _ {S T R : Type 0} (f : S → T) where
-  pub within_knows : (N : Known S R) (M : Known T R) (w : World) (op : OpId) (m : Memory) → ((s : S) → N.Knows w op m s → M.Knows w op m (f s))
+  pub within_knows : (N : Known S R) (M : Known T R) (w : World) (op : OpId) (m : Memory)
+      → ((s : S) → N.Knows w op m s → M.Knows w op m (f s))
       → ((r : R) → N.Ends w r → M.Ends w r) → (n : Next S R) → NextKnows N w op m n → NextKnows M w op m (within f n)
   within_knows N M w op m knows ends (Goes s) k = knows s k
   within_knows N M w op m knows ends (Comes r) k = ends r k
@@ -59,7 +60,8 @@ module _ {S T R : Type 0} (f : S → T) {P : Part S R} {D : Deciding S R} {N : K
     turns = λ c w op m sound r k.
         let so = l.turns c w op m s sound r (i.known w op m s k) in
         rw (i.turns c m op s) (so.0, so.1, knows_then w op (P.turns c m op s).memory (P.turns c m op s).state so.2);
-    turned = λ c m op. rw (i.turns c m op s, i.decided s) (within_turned f D E i.decided (D.decided s) (P.turns c m op s).state (l.turned c m op s));
+    turned = λ c m op. rw (i.turns c m op s, i.decided s)
+        (within_turned f D E i.decided (D.decided s) (P.turns c m op s).state (l.turned c m op s));
     meets = λ c w op m sound r a k. rw (i.asks c m op s) (l.meets c w op m s sound r a (i.known w op m s k));
     stays = λ by w v op m sound later apart k. i.knows v op m s (l.stays by w v op m s sound later apart (i.known w op m s k));
     goes_on = λ c w op m n sound r a k. rw (i.asks c m op s, i.decided s) (λ kept serial.
