@@ -124,16 +124,18 @@ module _ (s : Store) (g : Ghost) (t : Tree) (op : OpId) where
 
 -- ---- a run
 
-settled_made : {R : Type 0} (op : OpId) (was now : Option R) (g : Ghost) → (ghost_settled op was now g).made ≡ g.made
-settled_made op None None g = refl
-settled_made op None (Some a) g = refl
-settled_made op (Some b) now g = refl
+-- giving holds up makes nothing
+settled_within : {R : Type 0} (op : OpId) (was now : Option R) (g : Ghost) (made : Made) → WithinPast g made
+    → WithinPast (ghost_settled op was now g) made
+settled_within op None None g made within = within
+settled_within op None (Some a) g made within = within
+settled_within op (Some b) now g made within = within
 
 module _ {S : Type 0} (P : Programs S) (D : Deciding S Answer) where
   acted_within : (m : WorldState S) (g : Ghost) (t : Tree) (op : OpId) (q : AnyReq) (x : AnyReply) (h : Heard) → May P m (Own op (Acted q x h))
       → WithinPast g t.made → WithinPast (ghost_after P D m g (Own op (Acted q x h))) (tree_after t (told_of (Own op (Acted q x h)))).made
   acted_within m g t op q x h may within =
-      rw may.1 (λ n un. request_within m.store g t op q within n (rw (← settled_made op _ _ (ghost_next m.store g q)) un))
+      rw may.1 (settled_within op _ _ (ghost_next m.store g q) _ (request_within m.store g t op q within))
 
   pub event_within : (m : WorldState S) (g : Ghost) (t : Tree) (e : Event) → May P m e → WithinPast g t.made
       → WithinPast (ghost_after P D m g e) (tree_after t (told_of e)).made
