@@ -1,3 +1,3 @@
 pub mod Limited
-pub mod Released
 pub mod Renamed
+pub mod SameDirs

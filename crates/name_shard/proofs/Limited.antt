@@ -1,23 +1,19 @@
 -- no directory comes to have too many entries
-use Rattle.std.proofs.Common.{◌≡◌, ℕ, ◌<◌, ◌≤◌, true, List, Option, Some, None, refl, arith}
-use Rattle.std.proofs.lemmas.Bool.Decides.{nat_tests}
+use Rattle.std.proofs.Common.{◌≡◌, ℕ, ◌<◌, ◌≤◌, true, List, Option, Some, None, is_some, refl, arith}
 use Rattle.std.specs.FinMap.{FinMap, get, len}
 use Rattle.tect_ids.specs.declared.ids.DirId.{DirId}
-use Rattle.tect_ids.specs.declared.ids.Node.{Node}
 use Rattle.tect_ids.specs.declared.key.Key.{Key}
-use Rattle.tect_ids.specs.declared.values.Over.{Over}
 use Rattle.tect_ids.specs.Keys.{key_cmp}
 use Rattle.tect_ids.proofs.KeyTests.{dir_eq_cases}
 use Rattle.ordered_rows.specs.Maps.{set_at}
 use Rattle.key_maps.specs.Maps.{within as entries_of}
 use Rattle.key_maps.proofs.Counts.{len-within_put, len-within_taken, len-within_positive}
 use Rattle.store_rules.specs.declared.names.DirectoryEntry.{DirectoryEntry}
-use Rattle.store_rules.specs.Outcomes.{changes}
-use Rattle.store_rules.specs.Names.{Names, entry_limit, bind_answer, swap_answer, key_in}
-use Rattle.name_shard.specs.Limits.{IsWithinLimit}
+use Rattle.store_rules.specs.Names.{entry_limit, key_in}
+use Rattle.name_shard.specs.Limits.{HasRoom, IsWithinLimit}
 
 pub limit_put : (m : FinMap key_cmp DirectoryEntry) (k : Key) (e : DirectoryEntry) → IsWithinLimit m
-    → (get m k ≡ None → len (entries_of m k.dir) < entry_limit) → IsWithinLimit (set_at m k (Some e))
+    → HasRoom m k → IsWithinLimit (set_at m k (Some e))
 limit_put m k e s room = record { count = λ d. put d (get m k) refl }
   where
     put : (d : DirId) (x : Option DirectoryEntry) → get m k ≡ x → len (entries_of (set_at m k (Some e)) d) ≤ entry_limit
@@ -27,26 +23,18 @@ limit_put m k e s room = record { count = λ d. put d (get m k) refl }
 pub limit_taken : (m : FinMap key_cmp DirectoryEntry) (k : Key) → IsWithinLimit m → IsWithinLimit (set_at m k None)
 limit_taken m k s = record { count = λ d. grind (arith, len-within_taken m k d, s.count d) }
 
--- a bind that is not refused leaves the directory within its limit
-pub limit_bound : (s : Names) (k : Key) (o : Over) (e : DirectoryEntry) → IsWithinLimit s.entries → changes (bind_answer s k o)
-    ≡ true → IsWithinLimit (set_at s.entries k (Some e))
-limit_bound s k o e within able = limit_put s.entries k e within (λ none. grind (arith, nat_tests, none, able))
-
 -- after a swap: where the new name was free, the old one has made room
-pub limit_swapped : (s : Names) (d : DirId) (n m : List ℕ) (x : Node) (e : DirectoryEntry) → IsWithinLimit s.entries
-    → changes (swap_answer s d n m x) ≡ true
-    → IsWithinLimit (set_at (set_at s.entries (key_in d n) None) (key_in d m) (Some e))
-limit_swapped s d n m x e within able = limit_put (set_at s.entries (key_in d n) None) (key_in d m) e
-    (limit_taken s.entries (key_in d n) within) (λ free.
-    by_entry (get s.entries (key_in d n)) refl)
+pub limit_swapped : (s : FinMap key_cmp DirectoryEntry) (d : DirId) (n m : List ℕ) (e : DirectoryEntry) → IsWithinLimit s
+    → is_some (get s (key_in d n)) ≡ true → IsWithinLimit (set_at (set_at s (key_in d n) None) (key_in d m) (Some e))
+limit_swapped s d n m e within stands = limit_put (set_at s (key_in d n) None) (key_in d m) e (limit_taken s (key_in d n) within) (λ free.
+    by_entry (get s (key_in d n)) refl)
   where
-    by_entry : (old : Option DirectoryEntry) → get s.entries (key_in d n) ≡ old
-        → len (entries_of (set_at s.entries (key_in d n) None) d) < entry_limit
-    by_entry None is = absurd (grind (arith, is, able))
+    by_entry : (old : Option DirectoryEntry) → get s (key_in d n) ≡ old → len (entries_of (set_at s (key_in d n) None) d) < entry_limit
+    by_entry None is = absurd (grind (arith, is, stands))
     by_entry (Some old) is = grind (
       arith,
-      len-within_taken s.entries (key_in d n) d,
-      len-within_positive s.entries (key_in d n) old is,
+      len-within_taken s (key_in d n) d,
+      len-within_positive s (key_in d n) old is,
       within.count d,
       is,
       dir_eq_cases d d,

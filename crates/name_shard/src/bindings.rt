@@ -1,13 +1,13 @@
-ghost use Rattle.std.specs.Prelude.{◌≡◌, Some, None, IfOk, OnOk, OnErr};
+ghost use Rattle.std.specs.Prelude.{◌≡◌, true, Some, None, IfOk, OnOk, OnErr, is_some};
 ghost use Rattle.std.specs.Option.{option_copied};
 ghost use Rattle.std.specs.FinMap.{get};
 ghost use Rattle.ordered_rows.specs.Maps.{set_at};
-ghost use Rattle.store_rules.specs.declared.names.NameReq.TheVariants as req;
 ghost use Rattle.tect_ids.specs.Keys.{node_eq};
 ghost use Rattle.store_rules.specs.declared.names.NameReply.TheVariants.{Unbound};
-ghost use Rattle.store_rules.specs.Outcomes.{Changes, reply};
-ghost use Rattle.store_rules.specs.Names.{bind_answer, bind_over, swap_answer, swap_over, unbind_answer, unbind_any};
-ghost use Rattle.store_rules.specs.Names.{unbind_node, key_in, name_step};
+ghost use Rattle.store_rules.specs.Outcomes.{Changes};
+ghost use Rattle.store_rules.specs.Names.{bind_answer, bind_over, bind_change, swap_answer, swap_over, swap_change};
+ghost use Rattle.store_rules.specs.Names.{unbind_answer, unbind_any, unbind_node, key_in, set_entry};
+ghost use Rattle.name_shard.specs.Limits.{HasRoom};
 ghost use Rattle.name_shard.specs.Outcomes.{outcome_of, dir_refusal};
 
 use crate::outcome::Outcome;
@@ -63,24 +63,14 @@ impl NameShard {
         }
     }
 
-    pub(crate) fn bind(
-        &mut self,
-        key: &Key,
-        node: Node,
-        hold: Hold,
-        over: Over,
-    ) -> Result<NameReply, NoMemory>
-        ensures answers { IfOk result (λ x. x ≡ reply (bind_answer self.old key.now over)) }
-        ensures steps { OnOk result (self.new ≡ name_step self.old (req.Bind key.now node hold over)) }
+    // The entry has a place: its key stands, or its directory has room.
+    pub(crate) fn bind(&mut self, key: &Key, node: Node, hold: Hold) -> Result<(), NoMemory>
+        requires { HasRoom self.old.entries key.now }
+        ensures ok { OnOk result (self.new ≡ bind_change self.old key.now node hold) }
         ensures err { OnErr result (self.new ≡ self.old) }
     {
-        match self.bind_outcome(key, over) {
-            Outcome::Leaves(reply) => Ok(reply),
-            Outcome::Changes(reply) => {
-                self.entries.put(key, DirectoryEntry { node, hold })?;
-                Ok(reply)
-            }
-        }
+        self.entries.put(key, DirectoryEntry { node, hold })?;
+        Ok(())
     }
 
     pub(crate) fn unbind_outcome(&self, key: &Key, want: Want) -> Outcome
@@ -93,35 +83,27 @@ impl NameShard {
         }
     }
 
-    pub(crate) fn unbind(&mut self, key: &Key, want: Want) -> NameReply
-        ensures answers { result ≡ reply (unbind_answer self.old key.now want) }
-        ensures steps { self.new ≡ name_step self.old (req.Unbind key.now want) }
+    pub(crate) fn unbind(&mut self, key: &Key)
+        ensures { self.new ≡ set_entry self.old key.now None }
     {
-        match self.unbind_outcome(key, want) {
-            Outcome::Leaves(reply) => reply,
-            Outcome::Changes(reply) => {
-                self.entries.take(key);
-                reply
-            }
-        }
+        self.entries.take(key);
     }
 
-    // The keys of two names in one directory.
-    pub(crate) fn keys_in(&self, dir: DirId, from: &Name, to: &Name) -> Result<(Key, Key), NoMemory>
-        ensures { IfOk result (λ keys. (keys.0 ≡ key_in dir from.now) × (keys.1 ≡ key_in dir to.now)) }
+    pub(crate) fn swap_outcome(
+        &self,
+        dir: DirId,
+        from: &Name,
+        to: &Name,
+        node: Node,
+    ) -> Result<Outcome, NoMemory>
+        ensures { IfOk result (λ x. outcome_of x ≡ swap_answer self.now dir from.now to.now node) }
     {
-        let from = Key {
-            dir,
-            name: from.clone()?,
-        };
-        let to = Key {
-            dir,
-            name: to.clone()?,
-        };
-        Ok((from, to))
+        let from = key_in(dir, from)?;
+        let to = key_in(dir, to)?;
+        Ok(self.swap_keys(&from, &to, node))
     }
 
-    pub(crate) fn swap_outcome(&self, from: &Key, to: &Key, node: Node) -> Outcome
+    fn swap_keys(&self, from: &Key, to: &Key, node: Node) -> Outcome
         requires { to.now.dir ≡ from.now.dir }
         ensures { outcome_of result ≡ swap_answer self.now from.now.dir from.now.name to.now.name node }
     {
@@ -139,26 +121,32 @@ impl NameShard {
         swap_over(self.entries.get(to), node, renamed.hold)
     }
 
+    // The old name stands.
     pub(crate) fn swap(
         &mut self,
         dir: DirId,
         from: &Name,
         to: &Name,
         entry: DirectoryEntry,
-    ) -> Result<NameReply, NoMemory>
-        ensures answers { IfOk result (λ x. x ≡ reply (swap_answer self.old dir from.now to.now entry.node)) }
-        ensures steps { OnOk result (self.new ≡ name_step self.old (req.Swap dir from.now to.now entry.node entry.hold)) }
+    ) -> Result<(), NoMemory>
+        requires { is_some (get self.old.entries (key_in dir from.now)) ≡ true }
+        ensures ok { OnOk result (self.new ≡ swap_change self.old dir from.now to.now entry.node entry.hold) }
         ensures err { OnErr result (self.new ≡ self.old) }
     {
-        let (from, to) = self.keys_in(dir, from, to)?;
-        match self.swap_outcome(&from, &to, entry.node) {
-            Outcome::Leaves(reply) => Ok(reply),
-            Outcome::Changes(reply) => {
-                rename_entry(&mut self.entries, &from, &to, entry)?;
-                Ok(reply)
-            }
-        }
+        let from = key_in(dir, from)?;
+        let to = key_in(dir, to)?;
+        rename_entry(&mut self.entries, &from, &to, entry)?;
+        Ok(())
     }
+}
+
+fn key_in(dir: DirId, name: &Name) -> Result<Key, NoMemory>
+    ensures { IfOk result (λ key. key ≡ key_in dir name.now) }
+{
+    Ok(Key {
+        dir,
+        name: name.clone()?,
+    })
 }
 
 // What an unbind of any file comes to at what stands at the key.

@@ -1,9 +1,8 @@
-ghost use Rattle.std.specs.Prelude.{◌≡◌, Some, None, IfOk, OnOk, OnErr, is_some};
+ghost use Rattle.std.specs.Prelude.{◌≡◌, Some, None, OnOk, OnErr, is_some};
 ghost use Rattle.std.specs.FinMap.{get};
 ghost use Rattle.ordered_rows.specs.Maps.{set_at};
-ghost use Rattle.store_rules.specs.declared.names.NameReq.TheVariants as req;
-ghost use Rattle.store_rules.specs.Outcomes.{reply};
-ghost use Rattle.store_rules.specs.Names.{make_dir_answer, grant_dir_answer, release_dir_answer, dir_with_hold, dir_lists, name_step};
+ghost use Rattle.store_rules.specs.Names.{make_dir_answer, make_dir_change, grant_dir_answer, grant_dir_change};
+ghost use Rattle.store_rules.specs.Names.{release_dir_answer, release_dir_change, dir_with_hold, dir_lists};
 ghost use Rattle.name_shard.specs.Outcomes.{outcome_of};
 
 use crate::outcome::Outcome;
@@ -29,26 +28,20 @@ impl NameShard {
         parent: DirId,
         hold: Hold,
         key: &Key,
-    ) -> Result<NameReply, NoMemory>
-        ensures answers { IfOk result (λ x. x ≡ reply (make_dir_answer self.old dir)) }
-        ensures steps { OnOk result (self.new ≡ name_step self.old (req.MakeDir dir parent hold key.now)) }
+    ) -> Result<(), NoMemory>
+        ensures ok { OnOk result (self.new ≡ make_dir_change self.old dir parent hold key.now) }
         ensures err { OnErr result (self.new ≡ self.old) }
     {
-        match self.make_dir_outcome(dir) {
-            Outcome::Leaves(reply) => Ok(reply),
-            Outcome::Changes(reply) => {
-                let mut holds = HoldList::new(self.alloc);
-                holds.grant(hold, Upper::Entry(key.clone()?))?;
-                let directory = Directory {
-                    parent,
-                    sealed: false,
-                    holds,
-                };
-                match self.dirs.put(dir, directory) {
-                    Ok(_) => Ok(reply),
-                    Err(_) => Err(NoMemory),
-                }
-            }
+        let mut holds = HoldList::new(self.alloc);
+        holds.grant(hold, Upper::Entry(key.clone()?))?;
+        let directory = Directory {
+            parent,
+            sealed: false,
+            holds,
+        };
+        match self.dirs.put(dir, directory) {
+            Ok(_) => Ok(()),
+            Err(_) => Err(NoMemory),
         }
     }
 
@@ -61,23 +54,27 @@ impl NameShard {
         Outcome::Changes(NameReply::Granted)
     }
 
-    pub(crate) fn grant(&mut self, dir: DirId, hold: Hold, key: &Key) -> Result<NameReply, NoMemory>
-        ensures answers { IfOk result (λ x. x ≡ reply (grant_dir_answer self.old dir)) }
-        ensures steps { OnOk result (self.new ≡ name_step self.old (req.Grant dir hold key.now)) }
+    pub(crate) fn grant(&mut self, dir: DirId, hold: Hold, key: &Key) -> Result<(), NoMemory>
+        ensures ok { OnOk result (self.new ≡ grant_dir_change self.old dir hold key.now) }
         ensures err { OnErr result (self.new ≡ self.old) }
     {
-        match self.grant_outcome(dir) {
-            Outcome::Leaves(reply) => Ok(reply),
-            Outcome::Changes(reply) => {
-                let key = Upper::Entry(key.clone()?);
-                grant_hold(&mut self.dirs, dir, hold, key)?;
-                Ok(reply)
-            }
+        let key = Upper::Entry(key.clone()?);
+        grant_hold(&mut self.dirs, dir, hold, key)
+    }
+
+    pub(crate) fn release_outcome(&self, dir: DirId, hold: Hold) -> Outcome
+        ensures { outcome_of result ≡ release_dir_answer self.now dir hold }
+    {
+        let was = self.lists(dir, hold);
+        if was {
+            Outcome::Changes(NameReply::Released { was })
+        } else {
+            Outcome::Leaves(NameReply::Released { was })
         }
     }
 
     // Whether the directory lists the hold.
-    pub(crate) fn lists(&self, dir: DirId, hold: Hold) -> bool
+    fn lists(&self, dir: DirId, hold: Hold) -> bool
         ensures { result ≡ is_some (dir_lists (get self.now.dirs dir) hold) }
     {
         match self.dirs.get(dir) {
@@ -86,13 +83,10 @@ impl NameShard {
         }
     }
 
-    pub(crate) fn release(&mut self, dir: DirId, hold: Hold) -> NameReply
-        ensures answers { result ≡ reply (release_dir_answer self.old dir hold) }
-        ensures steps { self.new ≡ name_step self.old (req.Release dir hold) }
+    pub(crate) fn release(&mut self, dir: DirId, hold: Hold)
+        ensures { self.new ≡ release_dir_change self.old dir hold }
     {
-        NameReply::Released {
-            was: release_hold(&mut self.dirs, dir, hold),
-        }
+        release_hold(&mut self.dirs, dir, hold);
     }
 }
 
@@ -112,13 +106,11 @@ fn grant_hold(
     }
 }
 
-// Takes the hold off the directory's list, and says whether it was there.
-fn release_hold(dirs: &mut DirMap<Directory>, dir: DirId, hold: Hold) -> bool
-    ensures was { result ≡ is_some (dir_lists (get dirs.old dir) hold) }
-    ensures gone { dirs.new ≡ set_at dirs.old dir (dir_with_hold (get dirs.old dir) hold None) }
+// Takes the hold off the directory's list where the directory stands.
+fn release_hold(dirs: &mut DirMap<Directory>, dir: DirId, hold: Hold)
+    ensures { dirs.new ≡ set_at dirs.old dir (dir_with_hold (get dirs.old dir) hold None) }
 {
-    match dirs.get_mut(dir) {
-        None => false,
-        Some(directory) => directory.holds.release(hold),
+    if let Some(directory) = dirs.get_mut(dir) {
+        let _ = directory.holds.release(hold);
     }
 }

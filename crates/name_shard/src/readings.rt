@@ -1,57 +1,50 @@
 ghost use Rattle.std.specs.Prelude.{◌≡◌, map, IfOk};
 ghost use Rattle.std.specs.FinMap.{entries};
 ghost use Rattle.key_maps.specs.Maps.{within};
-ghost use Rattle.store_rules.specs.Outcomes.{reply};
 ghost use Rattle.store_rules.specs.Names.{check_dir_answer, look_answer, list_answer, listed};
+ghost use Rattle.name_shard.specs.Outcomes.{outcome_of};
 
+use crate::outcome::Outcome;
 use crate::shard::NameShard;
 use store_rules::NameReply;
 use tect_ids::{DirId, Items, Key, Listed, NoMemory, Refusal};
 
 // The requests that change nothing.
 impl NameShard {
-    pub(crate) fn check_dir(&self, dir: DirId) -> NameReply
-        ensures { result ≡ reply (check_dir_answer self.now dir) }
+    pub(crate) fn check_dir(&self, dir: DirId) -> Outcome
+        ensures { outcome_of result ≡ check_dir_answer self.now dir }
     {
         match self.dirs.get(dir) {
-            None => NameReply::Refused {
-                why: Refusal::NoDir,
-            },
-            Some(directory) => NameReply::DirIs {
+            None => Outcome::refused(Refusal::NoDir),
+            Some(directory) => Outcome::Leaves(NameReply::DirIs {
                 parent: directory.parent,
                 sealed: directory.sealed,
-            },
+            }),
         }
     }
 
-    pub(crate) fn look(&self, key: &Key) -> NameReply
-        ensures { result ≡ reply (look_answer self.now key.now) }
+    pub(crate) fn look(&self, key: &Key) -> Outcome
+        ensures { outcome_of result ≡ look_answer self.now key.now }
     {
         if self.dirs.get(key.dir).is_none() {
-            return NameReply::Refused {
-                why: Refusal::NoDir,
-            };
+            return Outcome::refused(Refusal::NoDir);
         }
         match self.entries.get(key) {
-            None => NameReply::Refused {
-                why: Refusal::NoName,
-            },
-            Some(entry) => NameReply::Found { node: entry.node },
+            None => Outcome::refused(Refusal::NoName),
+            Some(entry) => Outcome::Leaves(NameReply::Found { node: entry.node }),
         }
     }
 
-    pub(crate) fn list(&self, dir: DirId) -> Result<NameReply, NoMemory>
-        ensures { IfOk result (λ x. x ≡ reply (list_answer self.now dir)) }
+    pub(crate) fn list(&self, dir: DirId) -> Result<Outcome, NoMemory>
+        ensures { IfOk result (λ x. outcome_of x ≡ list_answer self.now dir) }
     {
-        match self.dirs.get(dir) {
-            None => Ok(NameReply::Refused {
-                why: Refusal::NoDir,
-            }),
-            Some(directory) => Ok(NameReply::Listing {
-                sealed: directory.sealed,
-                items: self.listed(dir)?,
-            }),
-        }
+        let Some(directory) = self.dirs.get(dir) else {
+            return Ok(Outcome::refused(Refusal::NoDir));
+        };
+        Ok(Outcome::Leaves(NameReply::Listing {
+            sealed: directory.sealed,
+            items: self.listed(dir)?,
+        }))
     }
 
     // The entries of the directory, in the order of their names.

@@ -1,7 +1,9 @@
-ghost use Rattle.std.specs.Prelude.{◌≡◌, IsTrue, IsOk, IfOk, OnOk, OnErr, if◌then◌else◌};
-ghost use Rattle.store_rules.specs.Names.{root_names, no_names, name_rule, name_answer, name_step};
-ghost use Rattle.store_rules.specs.Outcomes.{reply};
+ghost use Rattle.std.specs.Prelude.{◌≡◌, true, IsTrue, IsOk, IfOk, OnOk, OnErr, if◌then◌else◌};
+ghost use Rattle.store_rules.specs.Names.{root_names, no_names, name_rule, name_answer, name_change, name_step};
+ghost use Rattle.store_rules.specs.Outcomes.{changes, reply};
+ghost use Rattle.name_shard.specs.Outcomes.{outcome_of};
 
+use crate::outcome::Outcome;
 use key_maps::{DirMap, EntryTable, HoldList};
 use std::alloc::Global;
 use std::marker::Model;
@@ -67,10 +69,55 @@ impl NameShard {
         // What wants no memory is always answered.
         ensures sure { IsTrue (name_rule req.now).free → IsOk result }
     {
+        match self.outcome(req)? {
+            Outcome::Leaves(reply) => Ok(reply),
+            Outcome::Changes(reply) => {
+                self.change(req)?;
+                Ok(reply)
+            }
+        }
+    }
+
+    /// What `step` would answer. It changes nothing.
+    pub fn reply(&self, req: &NameReq) -> Result<NameReply, NoMemory>
+        ensures answers { IfOk result (λ x. x ≡ reply (name_answer self.now req.now)) }
+        ensures sure { IsTrue (name_rule req.now).free → IsOk result }
+    {
+        Ok(self.outcome(req)?.into_reply())
+    }
+
+    // What the request comes to, before anything is changed.
+    fn outcome(&self, req: &NameReq) -> Result<Outcome, NoMemory>
+        ensures answers { IfOk result (λ x. outcome_of x ≡ name_answer self.now req.now) }
+        ensures sure { IsTrue (name_rule req.now).free → IsOk result }
+    {
         match req {
             NameReq::CheckDir { dir } => Ok(self.check_dir(*dir)),
             NameReq::Look { key } => Ok(self.look(key)),
             NameReq::List { dir } => self.list(*dir),
+            NameReq::MakeDir { dir, .. } => Ok(self.make_dir_outcome(*dir)),
+            NameReq::Bind { key, over, .. } => Ok(self.bind_outcome(key, *over)),
+            NameReq::Swap {
+                dir,
+                from,
+                to,
+                node,
+                ..
+            } => self.swap_outcome(*dir, from, to, *node),
+            NameReq::Unbind { key, want } => Ok(self.unbind_outcome(key, *want)),
+            NameReq::Grant { dir, .. } => Ok(self.grant_outcome(*dir)),
+            NameReq::Release { dir, hold } => Ok(self.release_outcome(*dir, *hold)),
+        }
+    }
+
+    // Does what a request changes that is not refused.
+    fn change(&mut self, req: &NameReq) -> Result<(), NoMemory>
+        requires { changes (name_answer self.old req.now) ≡ true }
+        ensures ok { OnOk result (self.new ≡ name_change self.old req.now) }
+        ensures err { OnErr result (self.new ≡ self.old) }
+        ensures sure { IsTrue (name_rule req.now).free → IsOk result }
+    {
+        match req {
             NameReq::MakeDir {
                 dir,
                 parent,
@@ -81,8 +128,8 @@ impl NameShard {
                 key,
                 node,
                 hold,
-                over,
-            } => self.bind(key, *node, *hold, *over),
+                ..
+            } => self.bind(key, *node, *hold),
             NameReq::Swap {
                 dir,
                 from,
@@ -96,38 +143,16 @@ impl NameShard {
                 };
                 self.swap(*dir, from, to, entry)
             }
-            NameReq::Unbind { key, want } => Ok(self.unbind(key, *want)),
-            NameReq::Grant { dir, hold, key } => self.grant(*dir, *hold, key),
-            NameReq::Release { dir, hold } => Ok(self.release(*dir, *hold)),
-        }
-    }
-
-    /// What `step` would answer. It changes nothing.
-    pub fn reply(&self, req: &NameReq) -> Result<NameReply, NoMemory>
-        ensures answers { IfOk result (λ x. x ≡ reply (name_answer self.now req.now)) }
-        ensures sure { IsTrue (name_rule req.now).free → IsOk result }
-    {
-        match req {
-            NameReq::CheckDir { dir } => Ok(self.check_dir(*dir)),
-            NameReq::Look { key } => Ok(self.look(key)),
-            NameReq::List { dir } => self.list(*dir),
-            NameReq::MakeDir { dir, .. } => Ok(self.make_dir_outcome(*dir).into_reply()),
-            NameReq::Bind { key, over, .. } => Ok(self.bind_outcome(key, *over).into_reply()),
-            NameReq::Swap {
-                dir,
-                from,
-                to,
-                node,
-                ..
-            } => {
-                let (from, to) = self.keys_in(*dir, from, to)?;
-                Ok(self.swap_outcome(&from, &to, *node).into_reply())
+            NameReq::Unbind { key, .. } => {
+                self.unbind(key);
+                Ok(())
             }
-            NameReq::Unbind { key, want } => Ok(self.unbind_outcome(key, *want).into_reply()),
-            NameReq::Grant { dir, .. } => Ok(self.grant_outcome(*dir).into_reply()),
-            NameReq::Release { dir, hold } => Ok(NameReply::Released {
-                was: self.lists(*dir, *hold),
-            }),
+            NameReq::Grant { dir, hold, key } => self.grant(*dir, *hold, key),
+            NameReq::Release { dir, hold } => {
+                self.release(*dir, *hold);
+                Ok(())
+            }
+            NameReq::CheckDir { .. } | NameReq::Look { .. } | NameReq::List { .. } => Ok(()),
         }
     }
 }

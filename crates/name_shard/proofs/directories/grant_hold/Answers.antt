@@ -1,5 +1,5 @@
 use Rattle.std.proofs.Common.{None, Some, arith}
-use Rattle.name_shard.proofs.Released.{same_dirs}
+use Rattle.name_shard.proofs.SameDirs.{same_dirs}
 use Rattle.name_shard.proofs.directories.grant_hold.Goals as goal
 
 pub returns-in-None-clause-listed : goal.returns-in-None-clause-listed

@@ -1,0 +1,13 @@
+-- a change of a directory's record that leaves it as it is
+use Rattle.std.proofs.Common.{◌≡◌, Option, sym}
+use Rattle.std.specs.FinMap.{FinMap, get}
+use Rattle.tect_ids.specs.declared.ids.DirId.{DirId}
+use Rattle.tect_ids.specs.Keys.{dir_cmp}
+use Rattle.tect_ids.proofs.KeyTests.{dir_cmp_total, dir_antisymmetric}
+use Rattle.ordered_rows.specs.Maps.{set_at}
+use Rattle.ordered_rows.proofs.Maps.{set_at_same}
+use Rattle.store_rules.specs.declared.names.Directory.{Directory}
+
+-- a directory that is not there, or whose row stays as it was
+pub same_dirs : (dirs : FinMap dir_cmp Directory) (d : DirId) (x : Option Directory) → get dirs d ≡ x → dirs ≡ set_at dirs d x
+same_dirs dirs d x is = sym (set_at_same dir_cmp_total dir_antisymmetric dirs d x is)
