@@ -1,1 +1,1 @@
-pub mod Released
+pub mod SameFiles

@@ -1,9 +1,8 @@
-ghost use Rattle.std.specs.Prelude.{◌≡◌, Some, None, IfOk, OnOk, OnErr, is_some};
+ghost use Rattle.std.specs.Prelude.{◌≡◌, Some, None, OnOk, OnErr, is_some};
 ghost use Rattle.std.specs.FinMap.{get};
 ghost use Rattle.ordered_rows.specs.Maps.{set_at};
-ghost use Rattle.store_rules.specs.declared.files.FileReq.TheVariants as req;
-ghost use Rattle.store_rules.specs.Outcomes.{reply};
-ghost use Rattle.store_rules.specs.Files.{make_file_answer, grant_file_answer, release_file_answer, file_with_hold, file_lists, file_step};
+ghost use Rattle.store_rules.specs.Files.{make_file_answer, make_file_change, grant_file_answer, grant_file_change};
+ghost use Rattle.store_rules.specs.Files.{release_file_answer, release_file_change, file_with_hold, file_lists};
 ghost use Rattle.file_shard.specs.Outcomes.{outcome_of};
 
 use crate::outcome::Outcome;
@@ -29,21 +28,15 @@ impl FileShard {
         hold: Hold,
         key: &Key,
         token: Option<Token>,
-    ) -> Result<FileReply, NoMemory>
-        ensures answers { IfOk result (λ x. x ≡ reply (make_file_answer self.old file)) }
-        ensures steps { OnOk result (self.new ≡ file_step self.old (req.MakeFile file hold key.now token)) }
+    ) -> Result<(), NoMemory>
+        ensures ok { OnOk result (self.new ≡ make_file_change self.old file hold key.now token) }
         ensures err { OnErr result (self.new ≡ self.old) }
     {
-        match self.make_file_outcome(file) {
-            Outcome::Leaves(reply) => Ok(reply),
-            Outcome::Changes(reply) => {
-                let mut holds = HoldList::new(self.alloc);
-                holds.grant(hold, Upper::Entry(key.clone()?))?;
-                match self.files.put(file, File { token, holds }) {
-                    Ok(_) => Ok(reply),
-                    Err(_) => Err(NoMemory),
-                }
-            }
+        let mut holds = HoldList::new(self.alloc);
+        holds.grant(hold, Upper::Entry(key.clone()?))?;
+        match self.files.put(file, File { token, holds }) {
+            Ok(_) => Ok(()),
+            Err(_) => Err(NoMemory),
         }
     }
 
@@ -56,28 +49,27 @@ impl FileShard {
         Outcome::Changes(FileReply::Granted)
     }
 
-    pub(crate) fn grant(
-        &mut self,
-        file: FileId,
-        hold: Hold,
-        key: &Key,
-    ) -> Result<FileReply, NoMemory>
-        ensures answers { IfOk result (λ x. x ≡ reply (grant_file_answer self.old file)) }
-        ensures steps { OnOk result (self.new ≡ file_step self.old (req.Grant file hold key.now)) }
+    pub(crate) fn grant(&mut self, file: FileId, hold: Hold, key: &Key) -> Result<(), NoMemory>
+        ensures ok { OnOk result (self.new ≡ grant_file_change self.old file hold key.now) }
         ensures err { OnErr result (self.new ≡ self.old) }
     {
-        match self.grant_outcome(file) {
-            Outcome::Leaves(reply) => Ok(reply),
-            Outcome::Changes(reply) => {
-                let key = Upper::Entry(key.clone()?);
-                grant_hold(&mut self.files, file, hold, key)?;
-                Ok(reply)
-            }
+        let key = Upper::Entry(key.clone()?);
+        grant_hold(&mut self.files, file, hold, key)
+    }
+
+    pub(crate) fn release_outcome(&self, file: FileId, hold: Hold) -> Outcome
+        ensures { outcome_of result ≡ release_file_answer self.now file hold }
+    {
+        let was = self.lists(file, hold);
+        if was {
+            Outcome::Changes(FileReply::Released { was })
+        } else {
+            Outcome::Leaves(FileReply::Released { was })
         }
     }
 
     // Whether the file lists the hold.
-    pub(crate) fn lists(&self, file: FileId, hold: Hold) -> bool
+    fn lists(&self, file: FileId, hold: Hold) -> bool
         ensures { result ≡ is_some (file_lists (get self.now file) hold) }
     {
         match self.files.get(file) {
@@ -86,13 +78,10 @@ impl FileShard {
         }
     }
 
-    pub(crate) fn release(&mut self, file: FileId, hold: Hold) -> FileReply
-        ensures answers { result ≡ reply (release_file_answer self.old file hold) }
-        ensures steps { self.new ≡ file_step self.old (req.Release file hold) }
+    pub(crate) fn release(&mut self, file: FileId, hold: Hold)
+        ensures { self.new ≡ release_file_change self.old file hold }
     {
-        FileReply::Released {
-            was: release_hold(&mut self.files, file, hold),
-        }
+        release_hold(&mut self.files, file, hold);
     }
 }
 
@@ -112,13 +101,11 @@ fn grant_hold(
     }
 }
 
-// Takes the hold off the file's list, and says whether it was there.
-fn release_hold(files: &mut FileMap<File>, file: FileId, hold: Hold) -> bool
-    ensures was { result ≡ is_some (file_lists (get files.old file) hold) }
-    ensures gone { files.new ≡ set_at files.old file (file_with_hold (get files.old file) hold None) }
+// Takes the hold off the file's list where the file stands.
+fn release_hold(files: &mut FileMap<File>, file: FileId, hold: Hold)
+    ensures { files.new ≡ set_at files.old file (file_with_hold (get files.old file) hold None) }
 {
-    match files.get_mut(file) {
-        None => false,
-        Some(row) => row.holds.release(hold),
+    if let Some(row) = files.get_mut(file) {
+        let _ = row.holds.release(hold);
     }
 }

@@ -1,8 +1,10 @@
 ghost use Rattle.std.specs.Prelude.{◌≡◌, IsTrue, IsOk, IfOk, OnOk, OnErr};
 ghost use Rattle.std.specs.FinMap.{empty};
 ghost use Rattle.store_rules.specs.Outcomes.{reply};
-ghost use Rattle.store_rules.specs.Files.{file_answer, file_rule, file_step};
+ghost use Rattle.store_rules.specs.Files.{file_answer, file_change, file_rule, file_step};
+ghost use Rattle.file_shard.specs.Outcomes.{outcome_of};
 
+use crate::outcome::Outcome;
 use key_maps::FileMap;
 use std::alloc::Global;
 use std::marker::Model;
@@ -50,15 +52,12 @@ impl FileShard {
         // What wants no memory is always answered.
         ensures sure { IsTrue (file_rule req.now).free → IsOk result }
     {
-        match req {
-            FileReq::MakeFile {
-                file,
-                hold,
-                key,
-                token,
-            } => self.make_file(*file, *hold, key, *token),
-            FileReq::Grant { file, hold, key } => self.grant(*file, *hold, key),
-            FileReq::Release { file, hold } => Ok(self.release(*file, *hold)),
+        match self.outcome(req) {
+            Outcome::Leaves(reply) => Ok(reply),
+            Outcome::Changes(reply) => {
+                self.change(req)?;
+                Ok(reply)
+            }
         }
     }
 
@@ -67,12 +66,38 @@ impl FileShard {
         ensures answers { IfOk result (λ x. x ≡ reply (file_answer self.now req.now)) }
         ensures sure { IsTrue (file_rule req.now).free → IsOk result }
     {
+        Ok(self.outcome(req).into_reply())
+    }
+
+    // What the request comes to, before anything is changed.
+    fn outcome(&self, req: &FileReq) -> Outcome
+        ensures { outcome_of result ≡ file_answer self.now req.now }
+    {
         match req {
-            FileReq::MakeFile { file, .. } => Ok(self.make_file_outcome(*file).into_reply()),
-            FileReq::Grant { file, .. } => Ok(self.grant_outcome(*file).into_reply()),
-            FileReq::Release { file, hold } => Ok(FileReply::Released {
-                was: self.lists(*file, *hold),
-            }),
+            FileReq::MakeFile { file, .. } => self.make_file_outcome(*file),
+            FileReq::Grant { file, .. } => self.grant_outcome(*file),
+            FileReq::Release { file, hold } => self.release_outcome(*file, *hold),
+        }
+    }
+
+    // Does what a request changes that is not refused.
+    fn change(&mut self, req: &FileReq) -> Result<(), NoMemory>
+        ensures ok { OnOk result (self.new ≡ file_change self.old req.now) }
+        ensures err { OnErr result (self.new ≡ self.old) }
+        ensures sure { IsTrue (file_rule req.now).free → IsOk result }
+    {
+        match req {
+            FileReq::MakeFile {
+                file,
+                hold,
+                key,
+                token,
+            } => self.make_file(*file, *hold, key, *token),
+            FileReq::Grant { file, hold, key } => self.grant(*file, *hold, key),
+            FileReq::Release { file, hold } => {
+                self.release(*file, *hold);
+                Ok(())
+            }
         }
     }
 }

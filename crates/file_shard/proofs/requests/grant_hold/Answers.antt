@@ -1,5 +1,5 @@
 use Rattle.std.proofs.Common.{None, Some, arith}
-use Rattle.file_shard.proofs.Released.{same_files}
+use Rattle.file_shard.proofs.SameFiles.{same_files}
 use Rattle.file_shard.proofs.requests.grant_hold.Goals as goal
 
 pub returns-in-None-clause-listed : goal.returns-in-None-clause-listed
