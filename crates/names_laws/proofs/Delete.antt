@@ -18,7 +18,6 @@ use Rattle.store_rules.specs.Views.{as_unbound}
 use Rattle.tect_calls.specs.Readings.{unbound_freed}
 use Rattle.program_forms.specs.Memories.{Memory}
 use Rattle.program_parts.specs.Refused.{refusal}
-use Rattle.program_parts.specs.Releases.{releasing}
 use Rattle.program_rules.specs.declared.states.Delete.{Delete}
 use Rattle.program_rules.specs.declared.states.Delete.TheVariants.{Unbind, Release}
 use Rattle.program_rules.specs.Delete.{delete, delete_decided, unbound}
@@ -27,8 +26,8 @@ use Rattle.store_world.specs.Requests.{UnboundTaught}
 use Rattle.program_laws.specs.Known.{Deciding, Known, is_odd}
 use Rattle.part_laws.specs.Parts.{PartLaws, NextKnows, next_decided}
 use Rattle.part_laws.specs.Releases.{release_deciding, release_known}
-use Rattle.part_laws.proofs.States.{LawsAt, WaitsAt, part_laws, waits}
-use Rattle.part_laws.proofs.Within.{Embeds, embedded}
+use Rattle.part_laws.proofs.States.{LawsIn, WaitsAt, part_laws, waits, laws_in}
+use Rattle.part_laws.proofs.Within.{IsWithin, laws_within}
 use Rattle.part_laws.proofs.Own.{nothing_own, plain, no_hold, new_stays}
 use Rattle.part_laws.proofs.Refused.{unbind_not_odd}
 use Rattle.part_laws.proofs.Releases.{release_laws}
@@ -41,14 +40,10 @@ delete_known = record { Knows = DeleteKnows; Ends = λ w a. is_odd a ≡ false }
 abbrev pub delete_deciding : Deciding Delete Answer
 delete_deciding = record { decided = delete_decided }
 
-delete_releases : Embeds Release releasing release_deciding release_known delete delete_deciding delete_known
+delete_releases : IsWithin Release release_deciding release_known delete_deciding delete_known
 delete_releases = record {
-  turns = λ c m op r. refl;
-  asks = λ c m op r. refl;
-  hears = λ c m op r q x. refl;
   decided = λ r. refl;
   knows = λ w op m r k. k;
-  known = λ w op m r k. k;
   ends = λ w a e. e;
 }
 
@@ -74,9 +69,9 @@ unbind_waits k = record {
   grants = λ c w op m sound r a new kept h free touched granted. absurd (let f : false ≡ true = touched in cc);
 }
 
-delete_at : (s : Delete) → LawsAt delete delete_deciding delete_known s
+delete_at : (s : Delete) → LawsIn delete delete_deciding delete_known s
 delete_at (Unbind k) = waits (unbind_waits k)
-delete_at (Release r) = embedded Release delete_releases release_laws r
+delete_at (Release r) = laws_within Release delete_releases (laws_in release_laws r)
 
 pub delete_laws : PartLaws delete delete_deciding delete_known
 delete_laws = part_laws delete_at (λ by w v a l e. e)

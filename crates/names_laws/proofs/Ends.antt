@@ -9,20 +9,20 @@ use Rattle.tect_ids.specs.Keys.{op_eq}
 use Rattle.tect_calls.specs.declared.tokens.Freed.{Freed}
 use Rattle.program_forms.specs.Memories.{Memory}
 use Rattle.program_parts.specs.declared.releasing.Releasing.{Releasing}
-use Rattle.program_parts.specs.Parts.{Part, within}
-use Rattle.program_parts.specs.Releases.{releasing, then_release}
+use Rattle.program_parts.specs.Parts.{within}
+use Rattle.program_parts.specs.Releases.{then_release}
 use Rattle.store_world.specs.Worlds.{World, over, settled}
 use Rattle.store_world.specs.Sound.{IsGranted}
 use Rattle.store_world.proofs.Over.{over_spent}
 use Rattle.program_laws.specs.Known.{Deciding, Known, is_odd}
 use Rattle.part_laws.specs.Parts.{NextKnows, next_decided}
 use Rattle.part_laws.specs.Releases.{IsFreed, ReleaseKnows, release_deciding, release_known}
-use Rattle.part_laws.proofs.Within.{Embeds}
+use Rattle.part_laws.proofs.Within.{IsWithin}
 use Rattle.part_laws.proofs.Releases.{release_over}
 
 -- the release is one of the command's states
-module _ {S : Type 0} {P : Part S Answer} {D : Deciding S Answer} {N : Known S Answer} (f : Releasing → S)
-    (i : Embeds f releasing release_deciding release_known P D N) (v : World) (op : OpId) (m : Memory) where
+module _ {S : Type 0} {D : Deciding S Answer} {N : Known S Answer} (f : Releasing → S)
+    (i : IsWithin f release_deciding release_known D N) (v : World) (op : OpId) (m : Memory) where
   settled_release : (r : Releasing) → ReleaseKnows (over op v) op m r → N.Knows (settled op None (D.decided (f r)) v) op m (f r)
   settled_release r k = rw (i.decided r) (i.knows (over op v) op m r k)
 

@@ -26,7 +26,6 @@ use Rattle.tect_calls.specs.Readings.{freed_old, bound_freed}
 use Rattle.program_forms.specs.Memories.{Memory}
 use Rattle.program_parts.specs.declared.next.Next.TheVariants.{Goes, Comes}
 use Rattle.program_parts.specs.Refused.{refusal}
-use Rattle.program_parts.specs.Releases.{releasing}
 use Rattle.program_rules.specs.declared.states.NewNode.{NewNode}
 use Rattle.program_rules.specs.declared.states.NewNode.TheVariants as new
 use Rattle.program_rules.specs.declared.states.Make.{Make}
@@ -38,8 +37,8 @@ use Rattle.store_world.specs.Requests.{BoundTaught, touched_by}
 use Rattle.program_laws.specs.Known.{Deciding, Known, IsApart, is_odd}
 use Rattle.part_laws.specs.Parts.{PartLaws, NextKnows, next_decided}
 use Rattle.part_laws.specs.Releases.{release_deciding, release_known}
-use Rattle.part_laws.proofs.States.{LawsAt, WaitsAt, part_laws, waits}
-use Rattle.part_laws.proofs.Within.{Embeds, embedded}
+use Rattle.part_laws.proofs.States.{LawsIn, WaitsAt, part_laws, waits, laws_in}
+use Rattle.part_laws.proofs.Within.{IsWithin, laws_within}
 use Rattle.part_laws.proofs.Own.{plain, making, file_own, dir_own, named_own, file_free, dir_free, file_number, dir_number, no_hold}
 use Rattle.part_laws.proofs.Refused.{bind_not_odd}
 use Rattle.part_laws.proofs.Releases.{release_laws, old_freed}
@@ -53,14 +52,10 @@ make_known = record { Knows = MakeKnows; Ends = λ w a. is_odd a ≡ false }
 abbrev pub make_deciding : Deciding Make Answer
 make_deciding = record { decided = make_decided }
 
-make_releases : Embeds Release releasing release_deciding release_known make make_deciding make_known
+make_releases : IsWithin Release release_deciding release_known make_deciding make_known
 make_releases = record {
-  turns = λ c m op r. refl;
-  asks = λ c m op r. refl;
-  hears = λ c m op r q x. refl;
   decided = λ r. refl;
   knows = λ w op m r k. k;
-  known = λ w op m r k. k;
   ends = λ w a e. e;
 }
 
@@ -165,11 +160,11 @@ bind_waits kind key node hold = record {
 
 -- ---- the laws
 
-make_at : (s : Make) → LawsAt make make_deciding make_known s
+make_at : (s : Make) → LawsIn make make_deciding make_known s
 make_at (New new.File d name) = waits (file_waits d name)
 make_at (New new.Dir d name) = waits (dir_waits d name)
 make_at (Bind kind key node hold) = waits (bind_waits kind key node hold)
-make_at (Release r) = embedded Release make_releases release_laws r
+make_at (Release r) = laws_within Release make_releases (laws_in release_laws r)
 
 pub make_laws : PartLaws make make_deciding make_known
 make_laws = part_laws make_at (λ by w v a l e. e)

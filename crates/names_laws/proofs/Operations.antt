@@ -7,84 +7,59 @@ use Rattle.program_rules.specs.declared.operation.Operation.{Operation}
 use Rattle.program_rules.specs.declared.operation.Operation.TheVariants as operation
 use Rattle.program_rules.specs.declared.operation.OperationState.{OperationState}
 use Rattle.program_rules.specs.declared.operation.OperationState.TheVariants.{Look, List, Make, Delete, Rename}
-use Rattle.program_rules.specs.Look.{look}
-use Rattle.program_rules.specs.List.{list}
-use Rattle.program_rules.specs.Make.{make}
-use Rattle.program_rules.specs.Delete.{delete}
-use Rattle.program_rules.specs.Rename.{rename}
 use Rattle.program_rules.specs.Operations.{begins_in, operations, operation_decided}
 use Rattle.store_world.specs.Worlds.{World}
 use Rattle.part_laws.specs.Parts.{PartLaws}
 use Rattle.part_laws.specs.Walks.{OnItsWay, BeginsLaws}
-use Rattle.part_laws.proofs.States.{LawsAt, part_laws}
-use Rattle.part_laws.proofs.Within.{Embeds, embedded}
+use Rattle.part_laws.proofs.States.{LawsIn, part_laws, laws_in}
+use Rattle.part_laws.proofs.Within.{IsWithin, laws_within}
 use Rattle.names_laws.specs.Known.{OperationKnows, operation_known, operation_deciding}
 use Rattle.names_laws.proofs.Look.{reading_known, reading_deciding, look_laws, list_laws}
 use Rattle.names_laws.proofs.Make.{make_known, make_deciding, make_laws}
 use Rattle.names_laws.proofs.Delete.{delete_known, delete_deciding, delete_laws}
 use Rattle.names_laws.proofs.Rename.{rename_known, rename_deciding, rename_laws}
 
-look_within : Embeds Look look reading_deciding reading_known operations operation_deciding operation_known
+look_within : IsWithin Look reading_deciding reading_known operation_deciding operation_known
 look_within = record {
-  turns = λ c m op s. refl;
-  asks = λ c m op s. refl;
-  hears = λ c m op s q x. refl;
   decided = λ s. refl;
   knows = λ w op m s k. k;
-  known = λ w op m s k. k;
   ends = λ w a e. e;
 }
 
-list_within : Embeds List list reading_deciding reading_known operations operation_deciding operation_known
+list_within : IsWithin List reading_deciding reading_known operation_deciding operation_known
 list_within = record {
-  turns = λ c m op s. refl;
-  asks = λ c m op s. refl;
-  hears = λ c m op s q x. refl;
   decided = λ s. refl;
   knows = λ w op m s k. k;
-  known = λ w op m s k. k;
   ends = λ w a e. e;
 }
 
-make_within : Embeds Make make make_deciding make_known operations operation_deciding operation_known
+make_within : IsWithin Make make_deciding make_known operation_deciding operation_known
 make_within = record {
-  turns = λ c m op s. refl;
-  asks = λ c m op s. refl;
-  hears = λ c m op s q x. refl;
   decided = λ s. refl;
   knows = λ w op m s k. k;
-  known = λ w op m s k. k;
   ends = λ w a e. e;
 }
 
-delete_within : Embeds Delete delete delete_deciding delete_known operations operation_deciding operation_known
+delete_within : IsWithin Delete delete_deciding delete_known operation_deciding operation_known
 delete_within = record {
-  turns = λ c m op s. refl;
-  asks = λ c m op s. refl;
-  hears = λ c m op s q x. refl;
   decided = λ s. refl;
   knows = λ w op m s k. k;
-  known = λ w op m s k. k;
   ends = λ w a e. e;
 }
 
-rename_within : Embeds Rename rename rename_deciding rename_known operations operation_deciding operation_known
+rename_within : IsWithin Rename rename_deciding rename_known operation_deciding operation_known
 rename_within = record {
-  turns = λ c m op s. refl;
-  asks = λ c m op s. refl;
-  hears = λ c m op s q x. refl;
   decided = λ s. refl;
   knows = λ w op m s k. k;
-  known = λ w op m s k. k;
   ends = λ w a e. e;
 }
 
-operations_at : (s : OperationState) → LawsAt operations operation_deciding operation_known s
-operations_at (Look s) = embedded Look look_within look_laws s
-operations_at (List s) = embedded List list_within list_laws s
-operations_at (Make s) = embedded Make make_within make_laws s
-operations_at (Delete s) = embedded Delete delete_within delete_laws s
-operations_at (Rename s) = embedded Rename rename_within rename_laws s
+operations_at : (s : OperationState) → LawsIn operations operation_deciding operation_known s
+operations_at (Look s) = laws_within Look look_within (laws_in look_laws s)
+operations_at (List s) = laws_within List list_within (laws_in list_laws s)
+operations_at (Make s) = laws_within Make make_within (laws_in make_laws s)
+operations_at (Delete s) = laws_within Delete delete_within (laws_in delete_laws s)
+operations_at (Rename s) = laws_within Rename rename_within (laws_in rename_laws s)
 
 pub operations_laws : PartLaws operations operation_deciding operation_known
 operations_laws = part_laws operations_at (λ by w v a l e. e)

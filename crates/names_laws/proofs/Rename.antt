@@ -25,7 +25,6 @@ use Rattle.tect_calls.specs.Readings.{freed_old, swapped_freed}
 use Rattle.program_forms.specs.Memories.{Memory}
 use Rattle.program_parts.specs.declared.next.Next.TheVariants.{Goes, Comes}
 use Rattle.program_parts.specs.Refused.{refusal}
-use Rattle.program_parts.specs.Releases.{releasing}
 use Rattle.program_rules.specs.declared.states.Rename.{Rename}
 use Rattle.program_rules.specs.declared.states.Rename.TheVariants.{Find, Grant, Swap, Release}
 use Rattle.program_rules.specs.NamePairs.{OldAndNew, pair_of}
@@ -37,8 +36,8 @@ use Rattle.store_world.specs.Requests.{FoundTaught, SwappedTaught, touched_by}
 use Rattle.program_laws.specs.Known.{Deciding, Known, IsNewOp, IsApart, is_odd}
 use Rattle.part_laws.specs.Parts.{PartLaws, NextKnows, next_decided}
 use Rattle.part_laws.specs.Releases.{release_deciding, release_known}
-use Rattle.part_laws.proofs.States.{LawsAt, WaitsAt, part_laws, waits}
-use Rattle.part_laws.proofs.Within.{Embeds, embedded}
+use Rattle.part_laws.proofs.States.{LawsIn, WaitsAt, part_laws, waits, laws_in}
+use Rattle.part_laws.proofs.Within.{IsWithin, laws_within}
 use Rattle.part_laws.proofs.Own.{nothing_own, hold_own, plain, no_hold, new_stays, new_untouched}
 use Rattle.part_laws.proofs.Refused.{look_not_odd, dir_grant_not_odd, file_grant_not_odd, swap_not_odd}
 use Rattle.part_laws.proofs.Releases.{release_laws, old_freed}
@@ -52,14 +51,10 @@ rename_known = record { Knows = RenameKnows; Ends = λ w a. is_odd a ≡ false }
 abbrev pub rename_deciding : Deciding Rename Answer
 rename_deciding = record { decided = rename_decided }
 
-rename_releases : Embeds Release releasing release_deciding release_known rename rename_deciding rename_known
+rename_releases : IsWithin Release release_deciding release_known rename_deciding rename_known
 rename_releases = record {
-  turns = λ c m op r. refl;
-  asks = λ c m op r. refl;
-  hears = λ c m op r q x. refl;
   decided = λ r. refl;
   knows = λ w op m r k. k;
-  known = λ w op m r k. k;
   ends = λ w a e. e;
 }
 
@@ -195,11 +190,11 @@ swap_waits d p node hold = record {
 
 -- ---- the laws
 
-rename_at : (s : Rename) → LawsAt rename rename_deciding rename_known s
+rename_at : (s : Rename) → LawsIn rename rename_deciding rename_known s
 rename_at (Find d from to) = waits (find_waits d from to)
 rename_at (Grant d p node) = waits (grant_waits d p node)
 rename_at (Swap d p node hold) = waits (swap_waits d p node hold)
-rename_at (Release r) = embedded Release rename_releases release_laws r
+rename_at (Release r) = laws_within Release rename_releases (laws_in release_laws r)
 
 pub rename_laws : PartLaws rename rename_deciding rename_known
 rename_laws = part_laws rename_at (λ by w v a l e. e)

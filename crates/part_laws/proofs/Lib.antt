@@ -2,7 +2,6 @@ pub mod States
 pub mod AsKinds
 pub mod Within
 pub mod Looks
-pub mod Settles
 pub mod Own
 pub mod Refused
 pub mod Releases

@@ -1,5 +1,5 @@
 -- no refusal is odd: a reply that is no success of its request is one that its request may get
-use Rattle.std.proofs.Common.{◌≡◌, ℕ, List, false, is_some, None, refl, arith}
+use Rattle.std.proofs.Common.{◌≡◌, ℕ, List, false, is_some, None, arith}
 use Rattle.tect_ids.specs.declared.ids.DirId.{DirId}
 use Rattle.tect_ids.specs.declared.ids.FileId.{FileId}
 use Rattle.tect_ids.specs.declared.ids.Hold.{Hold}
@@ -8,9 +8,6 @@ use Rattle.tect_ids.specs.declared.ids.Place.{Place}
 use Rattle.tect_ids.specs.declared.key.Key.{Key}
 use Rattle.tect_ids.specs.declared.values.Over.{Over}
 use Rattle.tect_ids.specs.declared.values.Want.{Want}
-use Rattle.tect_ids.specs.declared.values.Refusal.{Refusal}
-use Rattle.tect_ids.specs.declared.values.Refusal.TheVariants as refusals
-use Rattle.tect_ids.specs.Refusals.{refusal_answer}
 use Rattle.store_rules.specs.declared.names.NameReq.TheVariants as names
 use Rattle.store_rules.specs.declared.files.FileReq.TheVariants as files
 use Rattle.store_rules.specs.declared.any.AnyReq.TheVariants as any
@@ -18,16 +15,6 @@ use Rattle.store_rules.specs.Store.{Store, store_reply}
 use Rattle.store_rules.specs.Views.{as_found, as_parent, as_listing, is_granted, as_bound, as_unbound, as_swapped}
 use Rattle.program_parts.specs.Refused.{refusal, dir_refusal}
 use Rattle.program_laws.specs.Known.{is_odd}
-
-pub refusal_plain : (k : Key) (why : Refusal) → is_odd (refusal_answer k why) ≡ false
-refusal_plain k refusals.NoDir = refl
-refusal_plain k refusals.NoName = refl
-refusal_plain k refusals.NoFile = refl
-refusal_plain k refusals.Exists = refl
-refusal_plain k refusals.IsDir = refl
-refusal_plain k refusals.Sealed = refl
-refusal_plain k refusals.Full = refl
-refusal_plain k (refusals.Changed now) = refl
 
 -- of requests that concern a whole directory
 module _ (s : Store) (place : Place) (d : DirId) where

@@ -37,9 +37,6 @@ module _ (by : Touched) (w v : World) (l : Later by w v) where
   }
 
 -- where the op's other holds are given up too
-pub freed_over : (v : World) (op : OpId) (f : Option Freed) → IsFreed v f → IsFreed (over op v) f
-freed_over v op f k = freed_stays _ v (over op v) (over_later v op) f k
-
 pub release_over : (v : World) (op : OpId) (m : Memory) (r : Releasing) → ReleaseKnows v op m r → ReleaseKnows (over op v) op m r
 release_over v op m r k = release_stays _ v (over op v) (over_later v op) op m m r k
 

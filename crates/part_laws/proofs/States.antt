@@ -1,5 +1,5 @@
--- The laws of a part at one of its states, and at a state where it looks nothing up and nothing is decided.
-use Rattle.std.proofs.Common.{◌≡◌, true, Some, None, sym, ◌∙◌}
+-- The laws of a part state by state, and at a state where it looks nothing up and nothing is decided.
+use Rattle.std.proofs.Common.{◌≡◌, true, Option, Some, None, sym, ◌∙◌}
 use Rattle.tect_ids.specs.declared.ids.Counts.{Counts}
 use Rattle.tect_ids.specs.declared.ids.Hold.{Hold}
 use Rattle.tect_ids.specs.declared.ids.OpId.{OpId}
@@ -10,6 +10,7 @@ use Rattle.store_rules.specs.Views.{is_granted}
 use Rattle.program_forms.specs.Memories.{Memory, always}
 use Rattle.program_parts.specs.declared.next.Next.TheVariants.{Goes}
 use Rattle.program_parts.specs.Parts.{Part}
+use Rattle.program_parts.specs.Doings.{Doing, doing}
 use Rattle.store_world.specs.Worlds.{World, Given, Live, next, settled}
 use Rattle.store_world.specs.Sound.{Sound}
 use Rattle.store_world.specs.Later.{Touched, Later}
@@ -18,33 +19,36 @@ use Rattle.program_laws.specs.Known.{Deciding, Known, Remembers, IsActor, IsApar
 use Rattle.part_laws.specs.Parts.{NextKnows, next_decided, IsTurned, PartLaws}
 use Rattle.part_laws.proofs.Looks.{nothing_turns, nothing_turned}
 
--- all of them but that of results
-pub record LawsAt {S R : Type 0} (P : Part S R) (D : Deciding S R) (N : Known S R) (s : S) : Type 0 where
-  pub turns : (c : Counts) (w : World) (op : OpId) (m : Memory) → Sound w → Remembers w op.actor m → N.Knows w op m s
-      → Remembers w op.actor (P.turns c m op s).memory × ((P.turns c m op s).memory.serial ≡ m.serial)
-      × NextKnows N w op (P.turns c m op s).memory (P.turns c m op s).state
-  pub turned : (c : Counts) (m : Memory) (op : OpId) → IsTurned D (D.decided s) (P.turns c m op s).state
-  pub meets : (c : Counts) (w : World) (op : OpId) (m : Memory) → Sound w → Remembers w op.actor m → IsActor op m → N.Knows w op m s
-      → Meets w op m (P.asks c m op s)
-  pub stays : (by : Touched) (w v : World) (op : OpId) (m : Memory) → Sound w → Later by w v → IsApart by op → N.Knows w op m s
-      → N.Knows v op m s
+-- All of them but that of results: of what it does in a state where its answer is, or is not, decided so, and where it knows so much.
+pub record LawsAt {S R : Type 0} (d : Doing S R) (D : Deciding S R) (N : Known S R) (now : Option R)
+    (Knows : World → OpId → Memory → Type 0) : Type 0 where
+  pub turns : (c : Counts) (w : World) (op : OpId) (m : Memory) → Sound w → Remembers w op.actor m → Knows w op m
+      → Remembers w op.actor (d.turns c m op).memory × ((d.turns c m op).memory.serial ≡ m.serial)
+      × NextKnows N w op (d.turns c m op).memory (d.turns c m op).state
+  pub turned : (c : Counts) (m : Memory) (op : OpId) → IsTurned D now (d.turns c m op).state
+  pub meets : (c : Counts) (w : World) (op : OpId) (m : Memory) → Sound w → Remembers w op.actor m → IsActor op m → Knows w op m
+      → Meets w op m (d.asks c m op)
+  pub stays : (by : Touched) (w v : World) (op : OpId) (m : Memory) → Sound w → Later by w v → IsApart by op → Knows w op m → Knows v op m
   pub goes_on : (c : Counts) (w : World) (op : OpId) (m n : Memory) → Sound w → Remembers w op.actor m → IsActor op m
-      → N.Knows w op m s → Kept w (next w (P.asks c m op s)) (P.asks c m op s)
-      → n.serial ≡ (always m (P.asks c m op s) (store_reply w.store (P.asks c m op s))).serial
+      → Knows w op m → Kept w (next w (d.asks c m op)) (d.asks c m op)
+      → n.serial ≡ (always m (d.asks c m op) (store_reply w.store (d.asks c m op))).serial
       → NextKnows N
-      (settled op (D.decided s) (next_decided D (P.hears c m op s (P.asks c m op s) (store_reply w.store (P.asks c m op s))))
-      (next w (P.asks c m op s)))
-      op n (P.hears c m op s (P.asks c m op s) (store_reply w.store (P.asks c m op s)))
-  pub heard : (c : Counts) (m : Memory) (op : OpId) (q : AnyReq) (x : AnyReply) (r : R) → D.decided s ≡ Some r
-      → next_decided D (P.hears c m op s q x) ≡ Some r
+      (settled op now (next_decided D (d.hears c m op (d.asks c m op) (store_reply w.store (d.asks c m op)))) (next w (d.asks c m op)))
+      op n (d.hears c m op (d.asks c m op) (store_reply w.store (d.asks c m op)))
+  pub heard : (c : Counts) (m : Memory) (op : OpId) (q : AnyReq) (x : AnyReply) (r : R) → now ≡ Some r
+      → next_decided D (d.hears c m op q x) ≡ Some r
   pub spends : (c : Counts) (w : World) (op : OpId) (m : Memory) → Sound w → Remembers w op.actor m → IsActor op m
-      → N.Knows w op m s → D.decided s ≡ None → (r : R) (h : Hold) (g : Given)
-      → next_decided D (P.hears c m op s (P.asks c m op s) (store_reply w.store (P.asks c m op s))) ≡ Some r → h.op ≡ op
-      → w.ghost.given h ≡ Some g → g.phase ≡ Live → (touched_by (P.asks c m op s)).hold h ≡ true
+      → Knows w op m → now ≡ None → (r : R) (h : Hold) (g : Given)
+      → next_decided D (d.hears c m op (d.asks c m op) (store_reply w.store (d.asks c m op))) ≡ Some r → h.op ≡ op
+      → w.ghost.given h ≡ Some g → g.phase ≡ Live → (touched_by (d.asks c m op)).hold h ≡ true
   pub grants : (c : Counts) (w : World) (op : OpId) (m : Memory) → Sound w → Remembers w op.actor m → IsActor op m
-      → N.Knows w op m s → D.decided s ≡ None → Kept w (next w (P.asks c m op s)) (P.asks c m op s) → (h : Hold) → w.ghost.given h ≡ None
-      → (touched_by (P.asks c m op s)).hold h ≡ true → is_granted (store_reply w.store (P.asks c m op s)) ≡ true
-      → next_decided D (P.hears c m op s (P.asks c m op s) (store_reply w.store (P.asks c m op s))) ≡ None
+      → Knows w op m → now ≡ None → Kept w (next w (d.asks c m op)) (d.asks c m op) → (h : Hold) → w.ghost.given h ≡ None
+      → (touched_by (d.asks c m op)).hold h ≡ true → is_granted (store_reply w.store (d.asks c m op)) ≡ true
+      → next_decided D (d.hears c m op (d.asks c m op) (store_reply w.store (d.asks c m op))) ≡ None
+
+-- those of a part in a state
+abbrev pub LawsIn : {S R : Type 0} → Part S R → Deciding S R → Known S R → S → Type 0
+LawsIn P D N s = LawsAt (doing P s) D N (D.decided s) (λ w op m. N.Knows w op m s)
 
 -- those of a state where it looks nothing up and nothing is decided
 pub record WaitsAt {S R : Type 0} (P : Part S R) (D : Deciding S R) (N : Known S R) (s : S) : Type 0 where
@@ -72,7 +76,7 @@ pub record WaitsAt {S R : Type 0} (P : Part S R) (D : Deciding S R) (N : Known S
 
 module _ {S R : Type 0} {P : Part S R} {D : Deciding S R} {N : Known S R} where
   -- a part that keeps them at each state
-  pub part_laws : ((s : S) → LawsAt P D N s) → ((by : Touched) (w v : World) (r : R) → Later by w v → N.Ends w r → N.Ends v r)
+  pub part_laws : ((s : S) → LawsIn P D N s) → ((by : Touched) (w v : World) (r : R) → Later by w v → N.Ends w r → N.Ends v r)
       → PartLaws P D N
   part_laws at ends = record {
     turns = λ c w op m s. (at s).turns c w op m;
@@ -86,8 +90,8 @@ module _ {S R : Type 0} {P : Part S R} {D : Deciding S R} {N : Known S R} where
     grants = λ c w op m s. (at s).grants c w op m;
   }
 
-  pub laws_at : PartLaws P D N → (s : S) → LawsAt P D N s
-  laws_at l s = record {
+  pub laws_in : PartLaws P D N → (s : S) → LawsIn P D N s
+  laws_in l s = record {
     turns = λ c w op m. l.turns c w op m s;
     turned = λ c m op. l.turned c m op s;
     meets = λ c w op m. l.meets c w op m s;
@@ -98,7 +102,7 @@ module _ {S R : Type 0} {P : Part S R} {D : Deciding S R} {N : Known S R} where
     grants = λ c w op m. l.grants c w op m s;
   }
 
-  pub waits : {s : S} → WaitsAt P D N s → LawsAt P D N s
+  pub waits : {s : S} → WaitsAt P D N s → LawsIn P D N s
   waits {s} l = record {
     turns = λ c w op m sound r k. nothing_turns P N c w op m s (l.looks c m op) r k;
     turned = λ c m op. nothing_turned P D c m op s (l.looks c m op);

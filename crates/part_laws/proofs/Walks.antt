@@ -29,8 +29,8 @@ use Rattle.part_laws.specs.Parts.{NextKnows, next_decided, PartLaws}
 use Rattle.part_laws.specs.Walks.{OnItsWay, walk_known, walk_deciding, BeginsLaws}
 use Rattle.part_laws.proofs.Own.{plain, nothing_own, new_stays, new_untouched, no_hold}
 use Rattle.part_laws.proofs.Refused.{look_not_odd}
-use Rattle.part_laws.proofs.States.{LawsAt, waits, part_laws}
-use Rattle.part_laws.proofs.Within.{embedded}
+use Rattle.part_laws.proofs.States.{LawsIn, WaitsAt, waits, part_laws, laws_in}
+use Rattle.part_laws.proofs.Within.{laws_within}
 
 -- a look takes no serial
 pub look_serial : (s : Store) (m : Memory) (k : Key)
@@ -62,9 +62,9 @@ module _ {O S : Type 0} (begins : O → DirId → S) {P : Part S Answer} {D : De
         rw (on_undecided d ns o) (on_knows v op m d ns o sound record { made = t.0; new = new; left = left })
     walked_knows (Some (File f)) sound t new left plain = refl
 
-  way_at : (d : DirId) (n : List ℕ) (ns : List (List ℕ)) (o : O)
-      → LawsAt (walking begins P) (walk_deciding D) (walk_known N) (Way d n ns o)
-  way_at d n ns o = waits record {
+  way_waits : (d : DirId) (n : List ℕ) (ns : List (List ℕ)) (o : O)
+      → WaitsAt (walking begins P) (walk_deciding D) (walk_known N) (Way d n ns o)
+  way_waits d n ns o = record {
     looks = λ c m op. refl;
     undecided = refl;
     meets = λ c w op m sound r a k. plain w op m _ refl tt (nothing_own op m);
@@ -85,17 +85,9 @@ module _ {O S : Type 0} (begins : O → DirId → S) {P : Part S Answer} {D : De
 
   -- ---- all of it
 
-  walk_at : (s : Walking O S) → LawsAt (walking begins P) (walk_deciding D) (walk_known N) s
-  walk_at (Way d n ns o) = way_at d n ns o
-  walk_at (There s) = embedded There record {
-    turns = λ c m op s. refl;
-    asks = λ c m op s. refl;
-    hears = λ c m op s q x. refl;
-    decided = λ s. refl;
-    knows = λ w op m s k. k;
-    known = λ w op m s k. k;
-    ends = b.plain;
-  } l s
+  walk_at : (s : Walking O S) → LawsIn (walking begins P) (walk_deciding D) (walk_known N) s
+  walk_at (Way d n ns o) = waits (way_waits d n ns o)
+  walk_at (There s) = laws_within There record { decided = λ s. refl; knows = λ w op m s k. k; ends = b.plain } (laws_in l s)
 
   pub walk_laws : PartLaws (walking begins P) (walk_deciding D) (walk_known N)
   walk_laws = part_laws walk_at (λ by w v r later e. e)
