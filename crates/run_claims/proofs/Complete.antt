@@ -25,9 +25,8 @@ use Rattle.tree_model.specs.declared.step.StepValue.TheVariants as shown
 use Rattle.tree_model.specs.declared.step.TreeReply.{TreeReply}
 use Rattle.tree_model.specs.declared.step.TreeReply.TheVariants.{Ok}
 use Rattle.program_forms.specs.Lacks.{IsLack}
-use Rattle.program_rules.specs.declared.program.Program.{Program}
-use Rattle.program_rules.specs.Programs.{root, way}
-use Rattle.program_rules.specs.Served.{programs}
+use Rattle.tect_ids.specs.Numbers.{root}
+use Rattle.program_rules.specs.Served.{Program, programs}
 use Rattle.world_runs.specs.declared.event.Event.{Event}
 use Rattle.world_runs.specs.declared.event.Event.TheVariants.{Own}
 use Rattle.world_runs.specs.declared.event.Happening.TheVariants.{Failed}
@@ -36,6 +35,7 @@ use Rattle.world_runs.specs.Limits.{IsFull, EndsFull, KeepsRoom, actor_in, Keeps
 use Rattle.world_runs.specs.Moments.{WorldState, May, IsWorldRun, moment, opening}
 use Rattle.world_runs.specs.Refusals.{was_refused}
 use Rattle.world_runs.proofs.Fronts.{may_at}
+use Rattle.claim_words.specs.Ways.{way}
 use Rattle.claim_words.specs.TreeSteps.{Told, tree_steps}
 use Rattle.claim_words.specs.Points.{of_op, Walked, StopsWalk, Finds, Lists, LookDecides, ListDecides, CreateDecides}
 use Rattle.claim_words.specs.Points.{MkdirDecides, DeleteDecides, RenameDecides, Decides, DecidesAt, Point, LacksName}

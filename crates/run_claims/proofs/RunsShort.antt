@@ -5,8 +5,7 @@ use Rattle.tect_ids.specs.declared.ids.Counts.{Counts}
 use Rattle.tect_ids.specs.declared.ids.OpId.{OpId}
 use Rattle.tect_ids.specs.declared.command.Command.{Command}
 use Rattle.tect_ids.specs.Keys.{op_eq}
-use Rattle.program_rules.specs.declared.program.Program.{Program}
-use Rattle.program_rules.specs.Served.{programs}
+use Rattle.program_rules.specs.Served.{Program, programs}
 use Rattle.world_runs.specs.declared.event.Event.{Event}
 use Rattle.world_runs.specs.declared.event.Event.TheVariants.{Own, Dumped}
 use Rattle.world_runs.specs.declared.event.Happening.{Happening}
@@ -20,9 +19,12 @@ use Rattle.fall_laws.proofs.RunsFall.{taken_more, nothing_grows, runs_are_short}
 use Rattle.names_told.specs.NamesBounding.{most_looks, names_bounding}
 use Rattle.names_told.proofs.NamesFall.{names_fall_so}
 use Rattle.run_claims.specs.Bounds.{IsShort}
-use Rattle.run_claims.proofs.Ops.{and_false}
 
 -- ---- looks, and other transactions
+
+and_false : (b : Bool) → (b && false) ≡ false
+and_false true = refl
+and_false false = refl
 
 -- the count of transactions with one event more
 transactions_more : (op : OpId) (e : Event) (es : List Event) → transactions (e ∷ es) op ≡ one_if (is_act_of op e) + transactions es op

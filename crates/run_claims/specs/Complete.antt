@@ -10,12 +10,12 @@ use Rattle.tree_model.specs.declared.step.StepValue.{StepValue}
 use Rattle.tree_model.specs.declared.step.StepValue.TheVariants as shown
 use Rattle.tree_model.specs.declared.step.TreeReply.{TreeReply}
 use Rattle.tree_model.specs.declared.step.TreeReply.TheVariants.{Ok, Refused}
-use Rattle.program_rules.specs.Programs.{way}
 use Rattle.world_runs.specs.declared.event.Event.{Event}
 use Rattle.world_runs.specs.declared.event.Event.TheVariants.{Own}
 use Rattle.world_runs.specs.declared.event.Happening.TheVariants.{Ended, Failed}
 use Rattle.world_runs.specs.Limits.{IsFull}
 use Rattle.world_runs.specs.Refusals.{was_refused}
+use Rattle.claim_words.specs.Ways.{way}
 use Rattle.claim_words.specs.TreeSteps.{Told, tree_steps}
 use Rattle.claim_words.specs.Points.{of_op, LacksName}
 use Rattle.claim_words.specs.Headline.{command_of}

@@ -58,7 +58,7 @@ file_makes_none s (files.Grant f h k) e = grind arith
 file_makes_none s (files.Release f h) e = grind arith
 
 -- another request is not answered that a node was made
-makes_none : (s : Store) (q : AnyReq) → makes q ≡ false → is_made (store_reply s q) ≡ false
+pub makes_none : (s : Store) (q : AnyReq) → makes q ≡ false → is_made (store_reply s q) ≡ false
 makes_none s (any.Name q) e = name_makes_none s q e
 makes_none s (any.File q) e = file_makes_none s q e
 

@@ -7,43 +7,24 @@ use Rattle.store_rules.specs.declared.any.AnyReq.{AnyReq}
 use Rattle.store_rules.specs.Store.{store_reply}
 use Rattle.program_forms.specs.declared.heard.Heard.TheVariants.{Whole}
 use Rattle.program_forms.specs.declared.standing.Standing.{Standing}
-use Rattle.program_rules.specs.declared.program.Program.{Program}
-use Rattle.program_rules.specs.Served.{programs}
+use Rattle.program_rules.specs.Served.{Program, programs}
 use Rattle.world_runs.specs.declared.event.Event.{Event}
 use Rattle.world_runs.specs.declared.event.Event.TheVariants.{Own}
 use Rattle.world_runs.specs.declared.event.Happening.TheVariants.{Acted, Ended}
 use Rattle.world_runs.specs.Actors.{Running}
 use Rattle.world_runs.specs.Moments.{WorldState, RunFrom, after, running, asked, answered}
 use Rattle.world_runs.specs.Follows.{Acts, EndsAfter, AllFindMemory}
-use Rattle.world_runs.specs.Report.{is_act_of}
 use Rattle.script_runs.proofs.Running.{AllWell, RunsAs, running_does, running_is_of}
 use Rattle.script_runs.proofs.Histories.{find_memory-append}
-use Rattle.fall_laws.specs.Counting.{is_look_of, is_other_of}
-use Rattle.fall_laws.specs.Bounding.{one_if}
-use Rattle.run_claims.proofs.Ops.{Runs, stand_looks, stand_others, same_op, op_runs}
-use Rattle.run_claims.proofs.Steps.{GoesOn, own_acts}
-use Rattle.run_claims.proofs.RunsShort.{event_splits}
 use Rattle.session_runs.specs.RunningOn.{AllHaveHeard}
 use Rattle.session_runs.specs.Well.{NoneFails}
 use Rattle.session_runs.proofs.Well.{none_fails-append, acts_go_well}
 use Rattle.session_runs.proofs.Hearing.{event_heard}
-
--- at most how many transactions are to come
-abbrev pub left : Standing Program → ℕ
-left at = stand_looks at + stand_others at
+use Rattle.session_runs.proofs.Steps.{Runs, left, GoesOn, op_runs, own_acts}
 
 -- the op's transaction, heard whole
 abbrev pub acted : WorldState Program → OpId → AnyReq → Event
 acted m op q = Own op (Acted q (store_reply m.store q) Whole)
-
--- a transaction leaves one less
-falls : (m : WorldState Program) (op : OpId) (q : AnyReq) (at : Standing Program) (g : GoesOn m (acted m op q) op at)
-    → left g.next + 1 ≤ left at
-falls m op q at g =
-    let e : Event = acted m op q in
-    let one : 1 ≡ one_if (is_look_of op e) + one_if (is_other_of op e) = let own : one_if (is_act_of op e) ≡ 1 = rw (same_op op op refl)
-    refl in sym own ∙ event_splits e op in
-    omega (arith, one, g.looks, g.others)
 
 -- the op's number is one that its actor came to
 pub runs_old : (m : WorldState Program) → AllWell m → (op : OpId) (r : Running Program) → running m op ≡ Some r → Runs m op r.at
@@ -98,7 +79,7 @@ pub ends_within : (bound : ℕ) (m : WorldState Program) → AllHaveHeard m → 
     → left at ≤ bound → CanEnd m op
 ends_within zero m heard op at r few =
     elim (does_next m heard op at r) [
-      | inl ask ↦ absurd (omega (arith, falls m op ask.0 at (own_acts m op ask.0 (store_reply m.store ask.0) Whole (ask.1, refl) at r), few))
+      | inl ask ↦ absurd (omega (arith, (own_acts m op ask.0 (store_reply m.store ask.0) Whole (ask.1, refl) at r).falls, few))
       | inr say ↦ end_now m op say.0 say.1
     ]
 ends_within (suc bound) m heard op at r few =
@@ -108,7 +89,7 @@ ends_within (suc bound) m heard op at r few =
           let on : GoesOn m e op at = own_acts m op ask.0 (store_reply m.store ask.0) Whole (ask.1, refl) at r in
           act_then m op ask.0 ask.1
           (ends_within bound (after programs m e) (event_heard m e (ask.1, refl) tt heard) op on.next on.runs
-          (omega (arith, falls m op ask.0 at on, few)))
+          (omega (arith, on.falls, few)))
       | inr say ↦ end_now m op say.0 say.1
     ]
 

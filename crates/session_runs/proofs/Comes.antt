@@ -5,51 +5,67 @@ use Rattle.tect_ids.specs.declared.ids.Hold.{Hold}
 use Rattle.tect_ids.specs.declared.ids.OpId.{OpId}
 use Rattle.tect_ids.specs.declared.ids.Node.{Node}
 use Rattle.tect_ids.specs.declared.ids.Node.TheVariants as nodes
-use Rattle.tect_ids.specs.declared.command.Command.{Command}
 use Rattle.tect_ids.specs.declared.answer.Answer.{Answer}
-use Rattle.store_rules.specs.declared.names.Replaced.{Replaced}
 use Rattle.store_rules.specs.declared.any.AnyReq.{AnyReq}
 use Rattle.store_rules.specs.declared.any.AnyReply.{AnyReply}
-use Rattle.store_rules.specs.Places.{request_place}
 use Rattle.store_rules.specs.Store.{store_reply, store_step}
+use Rattle.store_world.specs.Worlds as worlds
+use Rattle.store_world.specs.Requests.{Kept}
 use Rattle.tree_model.specs.declared.step.TreeStep.{TreeStep}
 use Rattle.tree_model.specs.Tree.{Tree, tree_reply}
-use Rattle.program_rules.specs.declared.program.Phase.{Phase}
-use Rattle.program_rules.specs.declared.program.Phase.TheVariants.{Release, End}
+use Rattle.tect_calls.specs.declared.tokens.Freed.{Freed}
 use Rattle.program_forms.specs.declared.heard.Heard.{Heard}
 use Rattle.program_forms.specs.declared.heard.Heard.TheVariants as hearing
 use Rattle.program_forms.specs.declared.standing.Standing.TheVariants as standing
-use Rattle.program_forms.specs.Kinds.{Does, said_by}
-use Rattle.program_rules.specs.declared.program.Program.{Program}
-use Rattle.program_rules.specs.Served.{does_by, programs}
-use Rattle.program_rules.specs.Programs.{object_number, phase_ask, phase_hear, phase_answer, release_ask, then_release}
+use Rattle.program_forms.specs.Memories.{Memory, always}
+use Rattle.program_forms.specs.Kinds.{Does, Asks, asked_by, said_by, next_does}
+use Rattle.program_parts.specs.declared.next.Next.TheVariants as next
+use Rattle.program_parts.specs.declared.walking.Walking.TheVariants.{There}
+use Rattle.program_parts.specs.declared.releasing.Releasing.{Releasing}
+use Rattle.program_parts.specs.Parts.{within, next_asks, next_hears}
+use Rattle.program_parts.specs.Releases.{release_ask, then_release}
+use Rattle.program_rules.specs.declared.states.Make.{Make}
+use Rattle.program_rules.specs.declared.states.Make.TheVariants as making
+use Rattle.program_rules.specs.declared.operation.OperationState.{OperationState}
+use Rattle.program_rules.specs.declared.operation.OperationState.TheVariants as states
+use Rattle.program_rules.specs.Served.{Program, programs}
 use Rattle.world_runs.specs.declared.event.Event.{Event}
 use Rattle.world_runs.specs.declared.event.Event.TheVariants.{Own}
 use Rattle.world_runs.specs.declared.event.Happening.TheVariants.{Acted, Ended}
 use Rattle.world_runs.specs.Actors.{Actor, Running, program_ask, program_answer, went_on}
 use Rattle.world_runs.specs.Moments.{WorldState, May, after, after_all, RunFrom, with_actor, running, asked, answered}
-use Rattle.claim_words.specs.TreeSteps.{told_of, told_as, tree_steps, tree_step, says, tree_after, IsTreeRun}
 use Rattle.world_runs.specs.Follows.{Acts}
-use Rattle.session_runs.specs.Session.{Played}
-use Rattle.names_told.specs.NamesKnown.{next_serial}
-use Rattle.tree_runs.proofs.Tracks.{Tracks, Knows}
-use Rattle.names_told.proofs.Phases.{release_same}
-use Rattle.names_told.proofs.Standings.{next_same, asks_phase, went_on_as}
-use Rattle.tree_runs.proofs.Runs.{event_tracked}
-use Rattle.telling_laws.proofs.Histories.{tree_after-append}
 use Rattle.world_runs.proofs.Actors.{changed_there}
-use Rattle.run_claims.proofs.Ops.{op_runs}
 use Rattle.script_runs.proofs.Histories.{IsActed, act_is}
+use Rattle.claim_words.specs.TreeSteps.{told_of, told_as, tree_steps, tree_step, says, tree_after, IsTreeRun}
+use Rattle.run_laws.specs.Pasts.{world_of}
+use Rattle.run_laws.proofs.Serials.{makes_none}
+use Rattle.telling_laws.proofs.Histories.{tree_after-append}
+use Rattle.session_runs.specs.Session.{Played}
+use Rattle.session_runs.proofs.Standings.{command_part, next_same, stands_after, went_on_as}
+use Rattle.session_runs.proofs.Steps.{op_runs}
+use Rattle.session_runs.proofs.Tracked.{Tracks, event_tracked, act_kept}
 
--- the program that stands so
-abbrev pub program_at : Command → Phase → Program
-program_at c at = record { command = c; phase = at }
+-- the memory of an actor whose next object has that serial
+abbrev pub memory_of : ℕ → Memory
+memory_of own = record { serial = own }
 
--- the command runs as that op, at that phase, and the store shows that tree
-pub record StandsAt (m : WorldState Program) (t : Tree) (op : OpId) (c : Command) (own : ℕ) (at : Phase) : Type 0 where
+-- what a program does, and where it goes on
+abbrev pub does_at : WorldState Program → OpId → ℕ → Program → Does Answer
+does_at m op own p = next_asks command_part m.counts (memory_of own) op p
+
+abbrev pub heard_at : WorldState Program → OpId → ℕ → Program → AnyReq → AnyReply → Program
+heard_at m op own p q x = next_hears command_part m.counts (memory_of own) op p q x
+
+-- the serial of the actor's next object after a reply
+abbrev pub serial_after : ℕ → AnyReq → AnyReply → ℕ
+serial_after own q x = (always (memory_of own) q x).serial
+
+-- the command runs as that op, in that state, and the store shows that tree
+pub record StandsAt (m : WorldState Program) (t : Tree) (op : OpId) (own : ℕ) (p : Program) : Type 0 where
   pub tracks : Tracks m t
-  pub runs : (m.actors op.actor).running ≡ Some record { op = op; at = standing.Goes (program_at c at) }
-  pub serial : (m.actors op.actor).memory.serial ≡ own
+  pub runs : (m.actors op.actor).running ≡ Some record { op = op; at = standing.Goes p }
+  pub memory : (m.actors op.actor).memory ≡ memory_of own
 
 -- those transactions of the op and its end, with that answer, are what was played
 pub record Comes (m : WorldState Program) (t : Tree) (op : OpId) (front : List Event) (n : ℕ) (a : Answer) (p : Played) (left : ℕ) : Type 0
@@ -78,34 +94,28 @@ left_stuck m op is (e ∷ es) n a acts run =
     let k : None ≡ Some i.req = subst (λ (r : Option (Running Program)). program_ask programs m.counts s.memory r ≡ Some i.req)
     (op_runs s.running op standing.Left is) may.0 in cc
 
-module _ (m : WorldState Program) (t : Tree) (op : OpId) (c : Command) (own : ℕ) (at : Phase) (st : StandsAt m t op c own at) where
+module _ (m : WorldState Program) (t : Tree) (op : OpId) (own : ℕ) (p : Program) (st : StandsAt m t op own p) where
   -- the actor
   abbrev s : Actor Program
   s = m.actors op.actor
 
-  -- the number of the next object that its actor makes
-  abbrev number_now : ℕ
-  number_now = object_number op.actor own
+  runs_now : running m op ≡ Some record { op = op; at = standing.Goes p }
+  runs_now = op_runs s.running op (standing.Goes p) st.runs
 
-  runs_now : running m op ≡ Some record { op = op; at = standing.Goes (program_at c at) }
-  runs_now = op_runs s.running op (standing.Goes (program_at c at)) st.runs
+  does_now : next_does programs.kind m.counts s.memory op p ≡ does_at m op own p
+  does_now = next_same m.counts s.memory op p ∙ ap (λ (k : Memory). next_asks command_part m.counts k op p) st.memory
 
-  asked_now : asked programs m op ≡ phase_ask op number_now c at
+  asked_now : asked programs m op ≡ asked_by (does_at m op own p)
   asked_now =
       ap (λ (r : Option (Running Program)). program_ask programs m.counts s.memory r) runs_now
-      ∙ asks_phase m.counts s.memory op (program_at c at)
-      ∙ ap (λ (i : ℕ). phase_ask op (object_number op.actor i) c at) st.serial
+      ∙ ap (λ (d : Does Answer). asked_by d) does_now
 
-  says_now : answered programs m op ≡ said_by (does_by (phase_ask op number_now c at) (phase_answer at))
+  says_now : answered programs m op ≡ said_by (does_at m op own p)
   says_now =
       ap (λ (r : Option (Running Program)). program_answer programs m.counts s.memory r) runs_now
-      ∙ ap (λ (d : Does Answer). said_by d) (next_same m.counts s.memory op (program_at c at))
-      ∙ ap (λ (i : ℕ). said_by (does_by (phase_ask op (object_number op.actor i) c at) (phase_answer at))) st.serial
+      ∙ ap (λ (d : Does Answer). said_by d) does_now
 
-  pub knows_now : Knows op.actor s.number own (Some record { op = op; at = standing.Goes (program_at c at) })
-  knows_now = rw (st.runs, st.serial) at (st.tracks.knows op.actor)
-
-  module _ (q : AnyReq) (asks : phase_ask op number_now c at ≡ Some q) where
+  module _ (q : AnyReq) (asks : does_at m op own p ≡ Asks q) where
     -- what the store replies
     abbrev x : AnyReply
     x = store_reply m.store q
@@ -117,30 +127,38 @@ module _ (m : WorldState Program) (t : Tree) (op : OpId) (c : Command) (own : �
     abbrev did : Event
     did = did_so hearing.Whole
 
+    asked_this : asked programs m op ≡ Some q
+    asked_this = asked_now ∙ ap (λ (d : Does Answer). asked_by d) asks
+
     says_none : answered programs m op ≡ None
-    says_none = says_now ∙ ap (λ (o : Option AnyReq). said_by (does_by o (phase_answer at))) asks
+    says_none = says_now ∙ ap (λ (d : Does Answer). said_by d) asks
 
     pub may_now : May programs m did
-    may_now = (asked_now ∙ asks, refl)
+    may_now = (asked_this, refl)
+
+    -- what the reply teaches
+    pub kept_now : Kept (world_of m st.tracks.past) (worlds.next (world_of m st.tracks.past) q) q
+    kept_now = act_kept m t st.tracks op q asked_this
 
     -- what a reply makes of the actor
     heard_as : (P : Actor Program → Type 0) (h : Heard) → P (went_on programs m.counts s s.running q x h)
         → P ((after programs m (did_so h)).actors op.actor)
     heard_as P h is = changed_there P m.actors op.actor (went_on programs m.counts s s.running q x h) is
 
-    pub next_stands : StandsAt (after programs m did) (tree_after t (told_of did)) op c (next_serial own x)
-        (phase_hear (request_place m.counts q) op number_now c at x)
+    goes_on_as : (h : Heard) → went_on programs m.counts s s.running q x h
+        ≡ record s { memory = always s.memory q x; running = Some record { op = op; at = stands_after m.counts s.memory op p q x h } }
+    goes_on_as h = went_on_as m.counts s s.running op p q x h st.runs
+
+    pub next_stands : StandsAt (after programs m did) (tree_after t (told_of did)) op (serial_after own q x) (heard_at m op own p q x)
     next_stands = record {
       tracks = (event_tracked m t did st.tracks may_now).0;
-      runs = heard_as
-          (λ (a : Actor Program).
-          a.running ≡ Some record { op = op; at = standing.Goes (program_at c (phase_hear (request_place m.counts q) op number_now c at x)) })
-          hearing.Whole (rw (went_on_as m.counts s s.running op (program_at c at) q x hearing.Whole st.runs, st.serial) refl);
-      serial = heard_as (λ (a : Actor Program). a.memory.serial ≡ next_serial own x) hearing.Whole
-          (rw (went_on_as m.counts s s.running op (program_at c at) q x hearing.Whole st.runs, st.serial) refl);
+      runs = heard_as (λ (a : Actor Program). a.running ≡ Some record { op = op; at = standing.Goes (heard_at m op own p q x) })
+          hearing.Whole (rw (goes_on_as hearing.Whole, st.memory) refl);
+      memory = heard_as (λ (a : Actor Program). a.memory ≡ memory_of (serial_after own q x)) hearing.Whole
+          (rw (goes_on_as hearing.Whole, st.memory) refl);
     }
 
-    pub step_said : (s : TreeStep) → tree_step q x ≡ Some s → says x ≡ tree_reply t s
+    pub step_said : (s : TreeStep) → tree_step q x ≡ Some s → says x ≡ tree_reply t op s
     step_said s is = let run : IsTreeRun t (told_as op (tree_step q x) (says x)) = (event_tracked m t did st.tracks may_now).1
         in (rw is at run).0
 
@@ -157,12 +175,11 @@ module _ (m : WorldState Program) (t : Tree) (op : OpId) (c : Command) (own : �
     -- it makes no difference whether the actor kept what the reply told
     unkept_same : after programs m did ≡ after programs m (did_so hearing.Unkept)
     unkept_same = ap (λ (a : Actor Program). with_actor (record m { store = store_step m.store q }) op.actor a)
-        (went_on_as m.counts s s.running op (program_at c at) q x hearing.Whole st.runs
-        ∙ sym (went_on_as m.counts s s.running op (program_at c at) q x hearing.Unkept st.runs))
+        (goes_on_as hearing.Whole ∙ sym (goes_on_as hearing.Unkept))
 
     left_runs : ((after programs m (did_so hearing.Left)).actors op.actor).running ≡ Some record { op = op; at = standing.Left }
     left_runs = heard_as (λ (a : Actor Program). a.running ≡ Some record { op = op; at = standing.Left }) hearing.Left
-        (rw (went_on_as m.counts s s.running op (program_at c at) q x hearing.Left st.runs) refl)
+        (rw (goes_on_as hearing.Left) refl)
 
     module _ (p : Played) (left : ℕ) (more : Goes (after programs m did) (tree_after t (told_of did)) op p left) where
       heard_goes : (h : Heard) (es : List Event) (n rest : ℕ) (a : Answer) → n ≡ rest + 1 → Acts op rest es
@@ -177,7 +194,7 @@ module _ (m : WorldState Program) (t : Tree) (op : OpId) (c : Command) (own : �
           → RunFrom programs m (Own op (Acted q2 x2 h) ∷ es ++ Own op (Ended a) ∷ [])
           → Comes m t op (Own op (Acted q2 x2 h) ∷ es) n a p (left + 1)
       acted_goes q2 x2 h es n rest a is acts run =
-          let qs : Some q2 ≡ Some q = sym (run.0).0 ∙ asked_now ∙ asks in
+          let qs : Some q2 ≡ Some q = sym (run.0).0 ∙ asked_this in
           let qt : q2 ≡ q = cc in
           let xs : x2 ≡ x = (run.0).1 ∙ ap (store_reply m.store) qt in
           let same : Own op (Acted q2 x2 h) ≡ did_so h = λ i. Own op (Acted (qt i) (xs i) h) in
@@ -192,45 +209,55 @@ module _ (m : WorldState Program) (t : Tree) (op : OpId) (c : Command) (own : �
           (acted_goes i.req i.reply i.heard es n (acts.1).0 a (acts.1).1 (acts.1).2) run
 
 -- what stands so, in other words
-pub stands_as : (m : WorldState Program) (t u : Tree) (op : OpId) (c : Command) (own new : ℕ) (at to : Phase) → StandsAt m t op c own at → t ≡ u
-    → own ≡ new → at ≡ to → StandsAt m u op c new to
-stands_as m t u op c own new at to st tree serial phase =
-    subst (λ (v : Tree). StandsAt m v op c new to) tree
-    (subst (λ (i : ℕ). StandsAt m t op c i to) serial (subst (λ (z : Phase). StandsAt m t op c own z) phase st))
+pub stands_as : (m : WorldState Program) (t u : Tree) (op : OpId) (own new : ℕ) (p r : Program) → StandsAt m t op own p → t ≡ u
+    → own ≡ new → p ≡ r → StandsAt m u op new r
+stands_as m t u op own new p r st tree serial state =
+    subst (λ (v : Tree). StandsAt m v op new r) tree
+    (subst (λ (i : ℕ). StandsAt m t op i r) serial (subst (λ (z : Program). StandsAt m t op own z) state st))
 
 -- a command that has its answer
-pub end_goes : (m : WorldState Program) (t : Tree) (op : OpId) (c : Command) (own : ℕ) (b : Answer) (p : Played)
-    → StandsAt m t op c own (End b) → t ≡ p.tree → own ≡ p.serial → b ≡ p.answer → Goes m t op p 0
-end_goes m t op c own b p st tree serial answer [] n a acts run =
-    let now : Some b ≡ Some a = sym (says_now m t op c own (End b) st) ∙ (run.0).0 in
+pub end_goes : (m : WorldState Program) (t : Tree) (op : OpId) (own : ℕ) (b : Answer) (p : Played)
+    → StandsAt m t op own (next.Comes b) → t ≡ p.tree → own ≡ p.serial → b ≡ p.answer → Goes m t op p 0
+end_goes m t op own b p st tree serial answer [] n a acts run =
+    let now : Some b ≡ Some a = sym (says_now m t op own (next.Comes b) st) ∙ (run.0).0 in
     let same : b ≡ a = cc in
-    record { count = acts; answer = sym same ∙ answer; tree = tree; serial = st.serial ∙ serial }
-end_goes m t op c own b p st tree serial answer (e ∷ es) n a acts run =
+    record { count = acts; answer = sym same ∙ answer; tree = tree; serial = ap (λ (k : Memory). k.serial) st.memory ∙ serial }
+end_goes m t op own b p st tree serial answer (e ∷ es) n a acts run =
     let i : IsActed op e = act_is op e acts.0 in
     let may : May programs m (Own op (Acted i.req i.reply i.heard)) = subst (λ (z : Event). May programs m z) i.is run.0 in
-    absurd (let k : Some i.req ≡ None = sym may.0 ∙ asked_now m t op c own (End b) st in cc)
+    absurd (let k : Some i.req ≡ None = sym may.0 ∙ asked_now m t op own (next.Comes b) st in cc)
 
 -- a transaction of the op, heard whole
 abbrev pub acted : OpId → AnyReq → AnyReply → Event
 acted op q x = Own op (Acted q x hearing.Whole)
 
+-- a hold that is released, if there is one, before the answer
+abbrev pub releasing_first : Freed → Answer → Program
+releasing_first f b = next.Goes (There (states.Make (making.Release record { first = f; second = None; answer = b })))
+
 -- a release is no step
-module _ (m : WorldState Program) (t : Tree) (op : OpId) (c : Command) (own : ℕ) (b : Answer) (p : Played) (tree : t ≡ p.tree)
+module _ (m : WorldState Program) (t : Tree) (op : OpId) (own : ℕ) (b : Answer) (p : Played) (tree : t ≡ p.tree)
     (serial : own ≡ p.serial) (answer : b ≡ p.answer) where
-  pub release_goes : (n : Node) (h : Hold) → StandsAt m t op c own (Release n h None b) → Goes m t op p 1
-  release_goes n h st =
-      let q : AnyReq = release_ask n h in
-      let next : StandsAt (after programs m (acted op q (store_reply m.store q))) (tree_after t (told_of (acted op q (store_reply m.store q)))) op c
-      (next_serial own (store_reply m.store q)) (End b) =
-      next_stands m t op c own (Release n h None b) st q refl in
-      step_goes m t op c own (Release n h None b) st q refl p 0
-      (end_goes _ _ op c _ b p next (no_step n h ∙ tree) (rw (release_same m.store t.made op n h).1 serial) answer)
+  pub release_goes : (f : Freed) → StandsAt m t op own (releasing_first f b) → Goes m t op p 1
+  release_goes f st =
+      let q : AnyReq = release_ask f.node f.hold in
+      let x : AnyReply = store_reply m.store q in
+      step_goes m t op own (releasing_first f b) st q refl p 0
+      (end_goes _ _ op _ b p (next_stands m t op own (releasing_first f b) st q refl) (no_step f.node f.hold ∙ tree)
+      (none_taken f.node f.hold ∙ serial) answer)
     where
       no_step : (n : Node) (h : Hold) → tree_after t (told_of (acted op (release_ask n h) (store_reply m.store (release_ask n h)))) ≡ t
       no_step (nodes.Dir d) h = refl
       no_step (nodes.File f) h = refl
 
+      none_taken : (n : Node) (h : Hold) → serial_after own (release_ask n h) (store_reply m.store (release_ask n h)) ≡ own
+      none_taken (nodes.Dir d) h = rw (makes_none m.store (release_ask (nodes.Dir d) h) refl) refl
+      none_taken (nodes.File f) h = rw (makes_none m.store (release_ask (nodes.File f) h) refl) refl
+
   -- the hold of a file that was replaced is released
-  pub then_goes : (o : Option Replaced) → StandsAt m t op c own (then_release o b) → Goes m t op p (if is_some o then 1 else 0)
-  then_goes None st = end_goes m t op c own b p st tree serial answer
-  then_goes (Some old) st = release_goes (nodes.File old.file) old.hold st
+  pub then_goes : (o : Option Freed)
+      → StandsAt m t op own (within (λ (s : OperationState). There s) (within (λ (s : Make). states.Make s)
+      (within (λ (r : Releasing). making.Release r) (then_release o b))))
+      → Goes m t op p (if is_some o then 1 else 0)
+  then_goes None st = end_goes m t op own b p st tree serial answer
+  then_goes (Some f) st = release_goes f st

@@ -5,9 +5,8 @@ use Rattle.tect_ids.specs.declared.ids.OpId.{OpId}
 use Rattle.program_forms.specs.declared.heard.Heard.TheVariants as hearing
 use Rattle.program_forms.specs.declared.standing.Standing.{Standing}
 use Rattle.program_forms.specs.declared.standing.Standing.TheVariants.{Goes, Left, NoRoom}
-use Rattle.program_rules.specs.declared.program.Program.{Program}
-use Rattle.program_rules.specs.Programs.{started}
-use Rattle.program_rules.specs.Served.{program_hears, programs}
+use Rattle.program_parts.specs.Parts.{next_hears}
+use Rattle.program_rules.specs.Served.{Program, begun, started, programs}
 use Rattle.world_runs.specs.declared.event.Event.{Event}
 use Rattle.world_runs.specs.declared.event.Event.TheVariants.{Own, Dumped}
 use Rattle.world_runs.specs.declared.event.Happening.{Happening}
@@ -16,7 +15,8 @@ use Rattle.world_runs.specs.Actors.{Actor, Running, OwnMay, own_after}
 use Rattle.world_runs.specs.Moments.{WorldState, May, opening, after, after_all, RunFrom}
 use Rattle.world_runs.specs.Follows.{FindsMemory, AllFindMemory}
 use Rattle.world_runs.proofs.Actors.{changed}
-use Rattle.names_told.proofs.Standings.{Asking, asks_of, went_on_as, ended_as}
+use Rattle.world_runs.proofs.Standings.{Asking, asks_of}
+use Rattle.session_runs.proofs.Standings.{command_part, went_on_as, ended_as}
 use Rattle.session_runs.specs.RunningOn.{HasHeard, AllHaveHeard}
 
 -- what stands otherwise has heard it
@@ -36,12 +36,12 @@ goes_heard p e = cc
 
 own_heard : (counts : Counts) (s : Actor Program) (op : OpId) (h : Happening) → OwnMay programs counts s op h → FindsMemory (Own op h)
     → HasHeard (own_after programs counts s op h).running
-own_heard counts s op (Began c) may finds = stands_heard op (Goes (started c)) (goes_heard (started c))
+own_heard counts s op (Began c) may finds = stands_heard op (Goes (started (begun c))) (goes_heard (started (begun c)))
 own_heard counts s op (NotBegun c) may finds = stands_heard op NoRoom (λ e. cc)
 own_heard counts s op (Acted q x hearing.Whole) may finds =
-    let a : Asking s.running op s.memory q = asks_of counts s.memory s.running op q may in
-    let next : Program = program_hears counts s.memory op a.program q x in
-    subst (λ (t : Actor Program). HasHeard t.running) (sym (went_on_as counts s s.running op a.program q x hearing.Whole a.runs))
+    let a : Asking Program programs counts s.memory s.running op q = asks_of Program programs counts s.memory s.running op q may in
+    let next : Program = next_hears command_part counts s.memory op a.state q x in
+    subst (λ (t : Actor Program). HasHeard t.running) (sym (went_on_as counts s s.running op a.state q x hearing.Whole a.is))
     (stands_heard op (Goes next) (goes_heard next))
 own_heard counts s op (Acted q x hearing.Unkept) may finds = absurd finds
 own_heard counts s op (Acted q x hearing.Left) may finds = absurd finds

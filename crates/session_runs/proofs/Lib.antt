@@ -1,7 +1,10 @@
 pub mod Well
+pub mod Standings
+pub mod Steps
 pub mod Hearing
 pub mod CanEnd
 pub mod RunOn
+pub mod Tracked
 pub mod Comes
 pub mod Plays
 pub mod Quiet

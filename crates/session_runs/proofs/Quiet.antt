@@ -8,17 +8,17 @@ use Rattle.tree_model.specs.Tree.{Tree}
 use Rattle.world_runs.specs.declared.event.Event.{Event}
 use Rattle.world_runs.specs.declared.event.Event.TheVariants.{Own, Dumped}
 use Rattle.world_runs.specs.declared.event.Happening.TheVariants.{Began, NotBegun, Acted, Ended, Stopped, Failed}
-use Rattle.program_rules.specs.declared.program.Program.{Program}
-use Rattle.program_rules.specs.Served.{programs}
+use Rattle.program_rules.specs.Served.{Program, programs}
 use Rattle.world_runs.specs.Moments.{WorldState, May, after, after_all, RunFrom}
 use Rattle.claim_words.specs.TreeSteps.{told_of, tree_after}
 use Rattle.world_runs.specs.Report.{is_act_of, transactions}
-use Rattle.tree_runs.proofs.Tracks.{Tracks}
-use Rattle.tree_runs.proofs.Runs.{event_tracked}
-use Rattle.tree_runs.proofs.Histories.{acts_last}
-use Rattle.run_claims.proofs.Ops.{and_false}
+use Rattle.session_runs.proofs.Tracked.{Tracks, event_tracked, acts_last}
 use Rattle.script_runs.proofs.Histories.{numbers_grow}
 use Rattle.world_runs.proofs.OwnLines.{transactions-append}
+
+and_false : (b : Bool) → (b && false) ≡ false
+and_false true = refl
+and_false false = refl
 
 -- an op of a number that its actor did not come to has no transaction
 abbrev pub Quiet : WorldState Program → List Event → Type 0
@@ -32,7 +32,7 @@ not_act m t (Own other (Acted q x h)) tracks may op late = differs (op_eq other 
     differs false e = rw e refl
     differs true e =
         let same : other ≡ op = grind (arith, op_eq_cases other op) in
-        let last : other.number ≡ (m.actors other.actor).number = (acts_last m t tracks other q may.0).number in
+        let last : other.number ≡ (m.actors other.actor).number = acts_last m t tracks other q may.0 in
         let now : op.number ≡ (m.actors op.actor).number = rw same at last in
         absurd (omega arith)
 not_act m t (Own other (Began c)) tracks may op late = and_false (op_eq other op)

@@ -7,11 +7,9 @@ use Rattle.tect_ids.specs.declared.script.Act.{Act}
 use Rattle.tect_ids.specs.declared.script.Act.TheVariants as acts
 use Rattle.tect_ids.specs.declared.script.Line.{Line}
 use Rattle.tect_ids.specs.declared.script.Line.TheVariants as lines
-use Rattle.program_rules.specs.Programs.{started}
 use Rattle.world_runs.specs.declared.event.Event.{Event}
 use Rattle.program_forms.specs.declared.standing.Standing.TheVariants.{Goes}
-use Rattle.program_rules.specs.declared.program.Program.{Program}
-use Rattle.program_rules.specs.Served.{is_served, programs}
+use Rattle.program_rules.specs.Served.{Program, begun as begin_of, started, is_served, programs}
 use Rattle.world_runs.specs.declared.event.Event.TheVariants.{Own, Dumped}
 use Rattle.world_runs.specs.declared.event.Happening.TheVariants.{Began, Ended, Stopped}
 use Rattle.world_runs.specs.Actors.{Running, program_of, begun, running_op}
@@ -68,7 +66,7 @@ module _ (m : WorldState Program) (s : AllWell m) (heard : AllHaveHeard m) (a : 
 
   -- it runs then
   abbrev first : Running Program
-  first = record { op = op; at = Goes (started c) }
+  first = record { op = op; at = Goes (started (begin_of c)) }
 
   runs : running (after programs m began) op ≡ Some first
   runs = changed_there (λ st. program_of st.running op ≡ Some first) m.actors a (begun programs m.counts (m.actors a) op c)

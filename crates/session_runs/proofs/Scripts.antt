@@ -11,12 +11,11 @@ use Rattle.tect_ids.specs.declared.script.Act.TheVariants as acts
 use Rattle.tect_ids.specs.declared.script.ReportLine.TheVariants as lines
 use Rattle.tect_ids.specs.Keys.{op_eq}
 use Rattle.tect_ids.proofs.KeyTests.{op_eq_cases, num_eq_cases}
+use Rattle.tect_ids.specs.Numbers.{root, object_number}
 use Rattle.store_rules.specs.Names.{key_in}
 use Rattle.tree_model.specs.Tree.{Tree, opening_tree}
-use Rattle.program_rules.specs.Programs.{root, object_number, first_phase}
 use Rattle.world_runs.specs.declared.event.Event.{Event}
-use Rattle.program_rules.specs.declared.program.Program.{Program}
-use Rattle.program_rules.specs.Served.{programs}
+use Rattle.program_rules.specs.Served.{Program, begun, started, programs}
 use Rattle.world_runs.specs.declared.event.Event.TheVariants.{Own, Dumped}
 use Rattle.world_runs.specs.declared.event.Happening.TheVariants.{Began, NotBegun, Acted, Ended, Stopped, Failed}
 use Rattle.world_runs.specs.Actors.{Actor, CanBegin, ended}
@@ -26,18 +25,17 @@ use Rattle.world_runs.specs.Report.{transactions, lines_at, report, report_after
 use Rattle.world_runs.specs.Follows.{Acts, IsEndOf, EndsAfter, BeginsAndEnds, DoesLine, Busy, none_busy, with_busy, FollowsFrom, Follows}
 use Rattle.session_runs.specs.Session.{Played, played, played_line, IsPlayed, session_lines, session_script}
 use Rattle.session_runs.specs.Session as session
-use Rattle.tree_runs.proofs.Tracks.{Tracks, opening_tracks}
-use Rattle.tree_runs.proofs.Runs.{event_tracked, run_tracked}
+use Rattle.session_runs.proofs.Tracked.{Tracks, opening_tracks, event_tracked, run_tracked}
 use Rattle.telling_laws.proofs.Histories.{tree_steps-append}
 use Rattle.session_runs.proofs.Quiet.{Quiet, quiet_run}
 use Rattle.script_runs.proofs.Histories.{run-front, run-rest, report-append, IsActed, act_is}
 use Rattle.script_runs.proofs.Moves.{acts_move}
 use Rattle.world_runs.proofs.Actors.{after_all-append, changed_there}
 use Rattle.world_runs.proofs.OwnLines.{transactions-append}
-use Rattle.names_told.proofs.Standings.{ended_as}
+use Rattle.session_runs.proofs.Standings.{ended_as}
 use Rattle.session_runs.specs.Well.{NoneFails}
 use Rattle.session_runs.proofs.Well.{none_fails-front, none_fails-rest, begin_is}
-use Rattle.session_runs.proofs.Comes.{StandsAt, Comes, Goes}
+use Rattle.session_runs.proofs.Comes.{memory_of, StandsAt, Comes, Goes}
 use Rattle.session_runs.proofs.Plays.{look_goes, create_goes}
 
 -- ---- transactions alone
@@ -65,13 +63,14 @@ acts_count op n (e ∷ es) acts =
 -- ---- a command
 
 -- as the tree plays it
-command_goes : (m : WorldState Program) (t : Tree) (op : OpId) (c : Command) (own number : ℕ) → op.actor ≡ 1 → IsPlayed c
-    → StandsAt m t op c own (first_phase c)
+command_goes : (m : WorldState Program) (t : Tree) (op : OpId) (c : Command) (own number : ℕ) → op ≡ record { actor = 1; number = number + 1 }
+    → IsPlayed c → StandsAt m t op own (started (begun c))
     → Goes m t op (played t own number c) (played t own number c).transactions
-command_goes m t op (commands.Look (n ∷ [])) own number one is st = look_goes m t op (commands.Look (n ∷ [])) own root n refl st
+command_goes m t op (commands.Look (n ∷ [])) own number one is st =
+    subst (λ (o : OpId). Goes m t op (session.looked t o own (key_in root n)) 1) one (look_goes m t op own (key_in root n) st)
 command_goes m t op (commands.Create (n ∷ [])) own number one is st =
-    subst (λ (i : ℕ). Goes m t op (session.created t own (key_in root n) record { 0 = object_number i own })
-    (session.created t own (key_in root n) record { 0 = object_number i own }).transactions) one
+    subst (λ (o : OpId). Goes m t op (session.created t o own (key_in root n) record { 0 = object_number o.actor own })
+    (session.created t o own (key_in root n) record { 0 = object_number o.actor own }).transactions) one
     (create_goes m t op own root n st)
 command_goes m t op c own number one is st = absurd is
 
@@ -106,24 +105,27 @@ module _ (clients : List (List ℕ)) (m : WorldState Program) (t : Tree) (before
   can : CanBegin (m.actors op.actor) op
   can = ((run.0).0).0
 
-  own_now : (m.actors op.actor).memory.serial ≡ own
-  own_now = rw one rests.serial
+  memory_now : (m.actors op.actor).memory ≡ memory_of own
+  memory_now = let serial : (m.actors op.actor).memory.serial ≡ own = rw one rests.serial in ap (λ (i : ℕ). memory_of i) serial
 
   number_now : op.number ≡ number + 1
   number_now = can.next ∙ rw one (ap (λ i. i + 1) rests.count)
 
+  op_now : op ≡ record { actor = 1; number = number + 1 }
+  op_now i = record { actor = one i; number = number_now i }
+
   same_actor : eqb op.actor op.actor ≡ true
   same_actor = grind (arith, num_eq_cases op.actor op.actor)
 
-  stands : StandsAt mid t op c own (first_phase c)
+  stands : StandsAt mid t op own (started (begun c))
   stands = record {
     tracks = (event_tracked m t (Own op (Began c)) rests.tracks run.0).0;
     runs = rw same_actor refl;
-    serial = rw same_actor own_now;
+    memory = rw same_actor memory_now;
   }
 
   comes : Comes mid t op front n a p p.transactions
-  comes = command_goes mid t op c own number one is stands front n a acts run.1
+  comes = command_goes mid t op c own number op_now is stands front n a acts run.1
 
   -- its line
   count_now : transactions (begun_before ++ front) op ≡ n

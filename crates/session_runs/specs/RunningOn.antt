@@ -4,8 +4,7 @@ use Rattle.tect_ids.specs.declared.ids.Counts.{Counts}
 use Rattle.tect_ids.specs.declared.ids.OpId.{OpId}
 use Rattle.tect_ids.specs.declared.script.Line.{Line}
 use Rattle.program_forms.specs.declared.standing.Standing.TheVariants.{Left}
-use Rattle.program_rules.specs.declared.program.Program.{Program}
-use Rattle.program_rules.specs.Served.{programs}
+use Rattle.program_rules.specs.Served.{Program, programs}
 use Rattle.world_runs.specs.declared.event.Event.{Event}
 use Rattle.world_runs.specs.Actors.{Running}
 use Rattle.world_runs.specs.Moments.{WorldState, IsWorldRun, moment}
