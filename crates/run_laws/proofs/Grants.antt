@@ -13,6 +13,7 @@ use Rattle.store_rules.specs.declared.files.FileReq.TheVariants as files
 use Rattle.store_rules.specs.declared.any.AnyReq.{AnyReq}
 use Rattle.store_rules.specs.declared.any.AnyReq.TheVariants as any
 use Rattle.store_rules.specs.declared.any.AnyReply.{AnyReply}
+use Rattle.store_rules.specs.Holds.{Grant, grant_of, spends}
 use Rattle.store_rules.specs.Store.{store_reply}
 use Rattle.store_rules.specs.Views.{is_granted}
 use Rattle.program_forms.specs.declared.heard.Heard.{Heard}
@@ -24,7 +25,7 @@ use Rattle.world_runs.specs.declared.event.Happening.TheVariants.{Began, NotBegu
 use Rattle.world_runs.specs.Actors.{Actor}
 use Rattle.world_runs.specs.Moments.{WorldState, May, RunFrom, after, opening}
 use Rattle.world_runs.proofs.Fronts.{front_runs}
-use Rattle.claim_words.specs.Granted.{Grant, grant_of, spends, op_spends, IsHeld}
+use Rattle.claim_words.specs.Granted.{op_spends, IsHeld}
 use Rattle.store_world.specs.Worlds.{World, Ghost, Given, Live, next, opening_ghost}
 use Rattle.store_world.specs.Sound.{Sound, IsGranted}
 use Rattle.store_world.specs.Requests.{Needs, Taught, touched_by}

@@ -1,6 +1,7 @@
 pub mod Outcomes
 pub mod Names
 pub mod Files
+pub mod Holds
 pub mod Store
 pub mod Views
 pub mod Places

@@ -1,4 +1,6 @@
-pub mod Worlds
+pub mod Ghosts
 pub mod Sound
 pub mod Later
+pub mod Roles
+pub mod Worlds
 pub mod Requests

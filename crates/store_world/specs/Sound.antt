@@ -16,7 +16,7 @@ use Rattle.store_rules.specs.declared.names.DirectoryEntry.{DirectoryEntry}
 use Rattle.store_rules.specs.Names.{dir_lists}
 use Rattle.store_rules.specs.Files.{file_lists}
 use Rattle.store_rules.specs.Store.{Store}
-use Rattle.store_world.specs.Worlds.{HoldPhase, Live, Set, Past, Given, Ghost, World}
+use Rattle.store_world.specs.Ghosts.{HoldPhase, Live, Set, Past, Given, Ghost, World}
 
 -- what the node lists the hold for; nothing where the node does not stand
 abbrev pub lists : Store → Node → Hold → Option Upper

@@ -1,0 +1,146 @@
+-- The role of each request: what it does to the past, which nodes it makes and names, what has to be known before it is made, and what
+-- its reply teaches. What it does with a hold stands in store_rules' Holds.
+use Rattle.std.specs.Prelude.{◌≡◌, ◌≢◌, true, false, Option, Some, None, is_some}
+use Rattle.std.specs.FinMap.{get}
+use Rattle.tect_ids.specs.declared.ids.DirId.{DirId}
+use Rattle.tect_ids.specs.declared.ids.Hold.{Hold}
+use Rattle.tect_ids.specs.declared.ids.Node.{Node}
+use Rattle.tect_ids.specs.declared.ids.Node.TheVariants.{Dir, File}
+use Rattle.tect_ids.specs.declared.key.Key.{Key}
+use Rattle.store_rules.specs.declared.names.Replaced.{Replaced}
+use Rattle.store_rules.specs.declared.names.NameReq.{NameReq}
+use Rattle.store_rules.specs.declared.names.NameReq.TheVariants as names
+use Rattle.store_rules.specs.declared.files.FileReq.{FileReq}
+use Rattle.store_rules.specs.declared.files.FileReq.TheVariants as files
+use Rattle.store_rules.specs.declared.any.AnyReq.{AnyReq}
+use Rattle.store_rules.specs.declared.any.AnyReq.TheVariants as any
+use Rattle.store_rules.specs.declared.any.AnyReply.{AnyReply}
+use Rattle.store_rules.specs.Names.{key_in}
+use Rattle.store_rules.specs.Store.{Store}
+use Rattle.store_rules.specs.Views.{as_found, is_made, is_granted, as_bound, as_unbound, as_swapped}
+use Rattle.store_world.specs.Ghosts.{Ghost, World, ghost_made, ghost_granted, ghost_bound, ghost_unbound}
+use Rattle.store_world.specs.Sound.{was_made, is_spent, IsGranted}
+
+-- ---- what has to be known
+
+-- the node and the hold are new, and the directory was made
+abbrev pub MakeNeeds : World → Node → Hold → Key → Type 0
+MakeNeeds w n h k = (was_made w.ghost n ≡ false) × (w.ghost.given h ≡ None) × (was_made w.ghost (Dir k.dir) ≡ true)
+
+-- the same of a directory, whose parent is to be the directory of the key
+abbrev pub MakeDirNeeds : World → DirId → DirId → Hold → Key → Type 0
+MakeDirNeeds w d p h k =
+    (was_made w.ghost (Dir d) ≡ false) × (w.ghost.given h ≡ None) × (was_made w.ghost (Dir k.dir) ≡ true) × (p ≡ k.dir)
+
+-- the hold is new, the directory was made, and the node has been named
+abbrev pub GrantNeeds : World → Node → Hold → Key → Type 0
+GrantNeeds w n h k = (w.ghost.given h ≡ None) × (was_made w.ghost (Dir k.dir) ≡ true) × (is_some (w.ghost.home n) ≡ true)
+
+-- ---- what is taught
+
+-- what is found was made and named
+abbrev pub FoundTaught : World → Option Node → Type 0
+FoundTaught v None = Unit {0}
+FoundTaught v (Some n) = (was_made v.ghost n ≡ true) × (is_some (v.ghost.home n) ≡ true)
+
+-- a new node is made, its hold is granted, and nothing names it
+abbrev pub MadeTaught : World → Node → Hold → Key → AnyReply → Type 0
+MadeTaught v n h k x = (is_made x ≡ true) × IsGranted v h n k × (v.ghost.home n ≡ None)
+
+-- the hold of what was replaced can be released
+abbrev pub OldSpent : World → Option Replaced → Type 0
+OldSpent v None = Unit {0}
+OldSpent v (Some old) = is_spent v old.hold ≡ true
+
+-- where a bind is refused its own hold is still granted, and else the hold of what was replaced can be released
+abbrev pub BoundTaught : World → Hold → Node → Key → Option (Option Replaced) → Type 0
+BoundTaught v h n k None = IsGranted v h n k
+BoundTaught v h n k (Some old) = OldSpent v old
+
+-- the same of a swap, and where it is not refused the node's hold for the old name can be released
+abbrev pub SwappedTaught : World → Hold → Node → Key → Option (Hold × Option Replaced) → Type 0
+SwappedTaught v h n k None = IsGranted v h n k
+SwappedTaught v h n k (Some p) = (is_spent v p.0 ≡ true) × OldSpent v p.1
+
+-- the hold of what was unbound can be released
+abbrev pub UnboundTaught : World → Option (Node × Hold) → Type 0
+UnboundTaught v None = Unit {0}
+UnboundTaught v (Some p) = is_spent v p.1 ≡ true
+
+-- a hold is granted where the reply says so
+abbrev pub GrantTaught : World → Node → Hold → Key → AnyReply → Type 0
+GrantTaught v n h k x = is_granted x ≡ true → IsGranted v h n k
+
+-- ---- the table
+
+-- what is done to the past where the store is changed, the node that is made, the node that is named, what has to be known before, and
+-- what the reply teaches
+pub record Role : Type 1 where
+  pub ghost : Store → Ghost → Ghost
+  pub makes : Option Node
+  pub names : Option Node
+  pub needs : World → Type 0
+  pub taught : World → AnyReply → Type 0
+
+-- a request with no role: what it does is seen of no past
+abbrev pub plain : Role
+plain = record { ghost = λ s g. g; makes = None; names = None; needs = λ w. Unit {0}; taught = λ v x. Unit {0} }
+
+-- A swap asks for another name than the old one: the tree refuses the same. What it names was named before.
+abbrev pub name_role : NameReq → Role
+name_role (names.CheckDir d) = plain
+name_role (names.Look k) = record plain { taught = λ v x. FoundTaught v (as_found x) }
+name_role (names.List d) = plain
+name_role (names.MakeDir d p h k) =
+    record plain {
+      ghost = λ s g. ghost_made g (Dir d) h k;
+      makes = Some (Dir d);
+      needs = λ w. MakeDirNeeds w d p h k;
+      taught = λ v x. MadeTaught v (Dir d) h k x;
+    }
+name_role (names.Bind k n h o) =
+    record plain {
+      ghost = λ s g. ghost_bound g (get s.names.entries k) k n h;
+      names = Some n;
+      needs = λ w. IsGranted w h n k × (w.ghost.home n ≡ None);
+      taught = λ v x. BoundTaught v h n k (as_bound x);
+    }
+name_role (names.Swap d from to n h) =
+    record plain {
+      ghost = λ s g. ghost_bound (ghost_unbound g (get s.names.entries (key_in d from)) (key_in d from))
+          (get s.names.entries (key_in d to)) (key_in d to) n h;
+      needs = λ w. IsGranted w h n (key_in d to) × (from ≢ to);
+      taught = λ v x. SwappedTaught v h n (key_in d to) (as_swapped x);
+    }
+name_role (names.Unbind k want) =
+    record plain {
+      ghost = λ s g. ghost_unbound g (get s.names.entries k) k;
+      taught = λ v x. UnboundTaught v (as_unbound x);
+    }
+name_role (names.Grant d h k) =
+    record plain {
+      ghost = λ s g. ghost_granted g (Dir d) h k;
+      needs = λ w. GrantNeeds w (Dir d) h k;
+      taught = λ v x. GrantTaught v (Dir d) h k x;
+    }
+name_role (names.Release d h) = record plain { needs = λ w. is_spent w h ≡ true }
+
+abbrev pub file_role : FileReq → Role
+file_role (files.MakeFile f h k t) =
+    record plain {
+      ghost = λ s g. ghost_made g (File f) h k;
+      makes = Some (File f);
+      needs = λ w. MakeNeeds w (File f) h k;
+      taught = λ v x. MadeTaught v (File f) h k x;
+    }
+file_role (files.Grant f h k) =
+    record plain {
+      ghost = λ s g. ghost_granted g (File f) h k;
+      needs = λ w. GrantNeeds w (File f) h k;
+      taught = λ v x. GrantTaught v (File f) h k x;
+    }
+file_role (files.Release f h) = record plain { needs = λ w. is_spent w h ≡ true }
+
+abbrev pub role : AnyReq → Role
+role (any.Name q) = name_role q
+role (any.File q) = file_role q
