@@ -8,6 +8,7 @@ use entry_words::{Entry, Label, Refused};
 use passes::{Log, Pass, Receipt};
 use std::alloc::Global;
 use std::snapshot::Snapshot;
+use tect_calls::{AnyReply, AnyReq};
 use tect_ids::{NoMemory, Place};
 
 /// A machine at its place, and the entries that led to it from its base state.
@@ -158,32 +159,85 @@ impl<M: Machine> Kept<M> {
         ensures free { M.is_free self.old.machine (M.wide prepared.req) ≡ true → 0 < self.old.history.spare → IsOk result }
         ensures err { OnErr result (self.new ≡ self.old) }
     {
+        let room = self.history.spare();
+        let Ok(()) = self.history.reserve(1) else {
+            return Err(NoMemory);
+        };
+        match self.serve_in_room(pass, prepared) {
+            Ok(done) => Ok(done),
+            Err(NoMemory) => {
+                self.history.lower(room);
+                Err(NoMemory)
+            }
+        }
+    }
+
+    // The same, where the history has sure room.
+    fn serve_in_room(
+        &mut self,
+        pass: &Pass,
+        prepared: Prepared<M>,
+    ) -> Result<(M::Reply, Receipt), NoMemory>
+        requires room { 0 < self.old.history.spare }
+        requires ready { prepared.copy ≡ M.wide prepared.req }
+        requires early { pass.now.clock < 2 ^ 63 }
+        ensures done { IfOk result (λ r. Served self.old self.new pass.now (M.wide prepared.req) (M.wide_reply r.0) r.1) }
+        ensures free { M.is_free self.old.machine (M.wide prepared.req) ≡ true → IsOk result }
+        ensures err { OnErr result (self.new ≡ self.old) }
+    {
         let Prepared {
             req,
             copy,
             spare: _,
         } = prepared;
-        let reply = self.machine.reply(&req)?;
-        let our_reply = M::copy_reply(&reply)?;
-        let their_reply = M::copy_reply(&reply)?;
-        let room = self.history.spare();
-        let Ok(()) = self.history.reserve(1) else {
-            return Err(NoMemory);
-        };
+        let (reply, ours, theirs) = replied(&self.machine, &req)?;
+        let receipt = self.keep(pass, req, ours, (copy, theirs))?;
+        Ok((reply, receipt))
+    }
+
+    // Does the request, whose reply is known, and adds its entry.
+    fn keep(
+        &mut self,
+        pass: &Pass,
+        req: M::Req,
+        reply: AnyReply,
+        theirs: (AnyReq, AnyReply),
+    ) -> Result<Receipt, NoMemory>
+        requires room { 0 < self.old.history.spare }
+        requires answer { reply ≡ M.answer self.old.machine (M.wide req) }
+        requires same { theirs ≡ (M.wide req, reply) }
+        requires early { pass.now.clock < 2 ^ 63 }
+        ensures done { IfOk result (λ r. Served self.old self.new pass.now (M.wide req) reply r) }
+        ensures free { M.is_free self.old.machine (M.wide req) ≡ true → IsOk result }
+        ensures err { OnErr result (self.new ≡ self.old) }
+    {
         note_that_short(self.history.as_slice());
         let stamp = self.clock.max(pass.clock()) + 1;
         let Ok(()) = change(&mut self.machine, &req) else {
-            self.history.lower(room);
             return Err(NoMemory);
         };
         let place = self.label.place;
-        let ours = (M::own(req), our_reply);
-        let theirs = (copy, their_reply);
+        let ours = (M::own(req), reply);
         let receipt = pass.enter(&mut self.history, stamp, place, ours, theirs);
         self.clock = stamp;
         self.count += 1;
-        Ok((reply, receipt))
+        Ok(receipt)
     }
+}
+
+// The reply that the machine would give, and as all places know it, for its history and for the pass.
+fn replied<M: Machine>(
+    machine: &M,
+    req: &M::Req,
+) -> Result<(M::Reply, AnyReply, AnyReply), NoMemory>
+    ensures reply { IfOk result (λ r. M.wide_reply r.0 ≡ M.answer machine.now (M.wide req.now)) }
+    ensures copies { IfOk result (λ r. (r.1 ≡ M.wide_reply r.0) × (r.2 ≡ M.wide_reply r.0)) }
+    ensures free { M.is_free machine.now (M.wide req.now) ≡ true → IsOk result }
+{
+    let reply = machine.reply(req)?;
+    let ours = M::copy_reply(&reply)?;
+    let theirs = M::copy_reply(&reply)?;
+    Ok((reply, ours, theirs))
 }
 
 // Does the request, unless it only reads.

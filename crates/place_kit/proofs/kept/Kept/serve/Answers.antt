@@ -1,43 +1,15 @@
-use Rattle.std.proofs.Common.{arith, sym, ap, ◌∙◌, refl, ◌+◌}
+use Rattle.std.proofs.Common.{ap, ◌∙◌, refl}
 use Rattle.passes.proofs.Keeping.{same_log}
-use Rattle.place_kit.proofs.Keeping.{IsKept-push, same_kept}
-use Rattle.entry_words.specs.declared.entry.Entry.{Entry}
-use Rattle.passes.specs.Commits.{op_number}
+use Rattle.place_kit.proofs.Keeping.{same_kept}
 use Rattle.place_kit.proofs.kept.Kept.serve.Goals as goal
 
 pub returns-in_default-clause-err : goal.returns-in_default-clause-err
 returns-in_default-clause-err g c = same_kept g.row.M.coded _ c.args.self.now refl refl refl c.in_default.ensures.err refl refl
 
-pub returns-in_default-change-clause-err : goal.returns-in_default-change-clause-err
-returns-in_default-change-clause-err g c =
-    let h = c.args.self.now.history in
-    same_kept g.row.M.coded _ c.args.self.now refl c.in_default-change.ensures.err refl
-    (same_log _ h c.reserve.new.self.items c.spare-room.result c.lower.ensures c.in-Ok.ensures.items c.spare-room.ensures) refl refl
-
-pub invariant_of-self-2 : goal.invariant_of-self-2
-invariant_of-self-2 g c = record {
-  kept =
-      let k = c.args.self.now in
-      let m = g.M.Machine in
-      let bounded = k.kept.bounded in
-      let max = c.max-stamp.ensures in
-      let w = c.own.ensures in
-      let r = c.in_ok-our_reply.ensures.same ∙ c.in_ok-reply.ensures.ok in
-      let s = c.in-Ok-change.ensures.ok in
-      let p = c.args.pass.now in
-      let e : Entry = record {
-        stamp = c.max-stamp.result + 1;
-        place = k.label.place;
-        actor = p.actor;
-        number =
-            op_number p.running;
-        step = p.steps;
-        req = c.own.result;
-        reply = c.in_ok-our_reply.our_reply;
-      } in
-      rw (c.enter-receipt.ensures.history, c.in-Ok.ensures.items, c.enter-receipt.ensures.entry)
-      (IsKept-push m.after m.answer m.opening k.label k.machine c.change.new.machine k.base.value k.history.items
-      k.clock k.count e k.kept
-      (s ∙ ap (λ q. m.after k.machine q) (sym w)) (r ∙ ap (λ q. m.answer k.machine q) (sym w)) refl (omega (arith, max))
-      (omega (arith, max, c.requires.early, bounded)));
-}
+pub returns-in-Err-clause-err : goal.returns-in-Err-clause-err
+returns-in-Err-clause-err g c =
+    let err = c.in-Err.ensures.err in
+    same_kept g.row.M.coded _ c.args.self.now (ap (λ k. k.label) err) (ap (λ k. k.machine) err) (ap (λ k. k.base) err)
+    (same_log _ c.args.self.now.history _ c.spare-room.result c.lower.ensures (ap (λ k. k.history.items) err ∙ c.in-Ok.ensures.items)
+    c.spare-room.ensures)
+    (ap (λ k. k.clock) err) (ap (λ k. k.count) err)
