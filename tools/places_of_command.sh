@@ -1,19 +1,41 @@
 #!/bin/sh
-# Where a command stands in the code: the files that name its variant, crate by crate, from the lowest crate up, without tests; and how
-# many they are. So one sees where a new command has to be put.
-# places_of_command.sh [COMMAND] (Delete if left out); COMMAND is Create, Mkdir, Delete or Rename.
+# Where a command has a place in the code: the files that name it, its operation or its states, crate by crate, from the lowest crate up, and
+# how many they are. So one sees where a new command has to be put. Apart from them stand the files that name commands that are
+# planned and not served yet too: these hold all planned commands already. Tests, edits and lists of modules are left out.
+# places_of_command.sh [COMMAND] (Rename if left out); COMMAND is Create, Mkdir, Delete or Rename.
 cd "$(dirname "$0")/../crates" || exit 1
-command=${1:-Delete}
-sed -n 's/^\([a-z_]*\):.*/\1/p' ../crates.txt | while IFS= read -r crate; do
-    for part in specs src proofs; do
-        [ -d "$crate/$part" ] || continue
-        grep -rlw "$command" "$crate/$part" | grep -v tests | sort
+command=${1:-Rename}
+served=program_rules/specs/Served.antt
+# Its operation, where that has another name, as it begins: `begun (commands.COMMAND ..) = .. operation.OPERATION ..`.
+operation=$(sed -n "s/^begun (commands\.$command[ )].*operation\.\([A-Z][A-Za-z]*\).*/\1/p" $served)
+named="\\b($command${operation:+|$operation})\\b"
+# The variants of Command that are not served; every type is one that can be dropped, so Drop tells nothing.
+planned=$(sed -n '/^pub enum Command/,/^}/s/^    \([A-Z][A-Za-z]*\).*/\1/p' tect_ids/src/command.rt |
+    while IFS= read -r variant; do
+        [ "$variant" = Drop ] || grep -q "^is_served (commands\.$variant[ )]" $served || printf '%s|' "$variant"
+    done)
+planned="\\b(${planned%|})\\b"
+
+files() {
+    sed -n 's/^\([a-z_]*\):.*/\1/p' ../crates.txt | while IFS= read -r crate; do
+        for part in src specs proofs; do
+            [ -d "$crate/$part" ] && grep -rlE --include='*.rt' --include='*.antt' "$named" "$crate/$part" | sort
+        done
+    done | while IFS= read -r file; do
+        case $file in
+        *tests* | */Lib.antt) ;;
+        */lib.rt) grep -q '\bfn ' "$file" && echo "$file" ;;
+        *) echo "$file" ;;
+        esac
     done
-done | {
-    count=0
-    while IFS= read -r file; do
-        echo "$file"
-        count=$((count + 1))
-    done
-    echo "$command: $count files"
 }
+
+told=$(files | while IFS= read -r file; do
+    if grep -qE "$planned" "$file"; then echo "planned $file"; else echo "own $file"; fi
+done)
+echo "$told" | sed -n 's/^own //p'
+echo
+echo "these name planned commands too:"
+echo "$told" | sed -n 's/^planned //p'
+echo
+echo "$command: $(echo "$told" | grep -c '^own ') files, and $(echo "$told" | grep -c '^planned ') that name planned commands too"
