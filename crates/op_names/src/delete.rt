@@ -46,7 +46,7 @@ fn hear_unbind(key: Key, place: Place, reply: &AnyReply) -> Next<Delete, Answer>
         None => Next::Comes {
             result: refused(place, key, reply),
         },
-        freed => released(freed, Answer::Done),
+        Some(freed) => released(Some(freed), Answer::Done),
     }
 }
 

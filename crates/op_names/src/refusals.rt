@@ -1,5 +1,4 @@
 ghost use Rattle.std.specs.Prelude.{◌≡◌};
-ghost use Rattle.tect_ids.specs.Refusals.{refusal_answer};
 ghost use Rattle.program_parts.specs.Refused.{refusal, dir_refusal};
 
 use store_rules::{AnyReply, FileReply, NameReply};
@@ -10,8 +9,8 @@ pub fn refused(place: Place, key: Key, reply: &AnyReply) -> Answer
     ensures { result ≡ refusal place key reply.now }
 {
     match reply {
-        AnyReply::Name(NameReply::Refused { why }) => answer_of(*why, key),
-        AnyReply::File(FileReply::Refused { why }) => answer_of(*why, key),
+        AnyReply::Name(NameReply::Refused { why }) => why.answer(key),
+        AnyReply::File(FileReply::Refused { why }) => why.answer(key),
         _ => Answer::Odd { place },
     }
 }
@@ -27,20 +26,5 @@ pub fn dir_refused(place: Place, reply: &AnyReply) -> Answer
             },
         ) => Answer::NoDir,
         _ => Answer::Odd { place },
-    }
-}
-
-fn answer_of(why: Refusal, key: Key) -> Answer
-    ensures { result ≡ refusal_answer key why }
-{
-    match why {
-        Refusal::NoDir => Answer::NoDir,
-        Refusal::NoName => Answer::NoName,
-        Refusal::NoFile => Answer::NoFile,
-        Refusal::Exists => Answer::Exists,
-        Refusal::IsDir => Answer::IsDir,
-        Refusal::Sealed => Answer::Sealed,
-        Refusal::Full => Answer::Full { id: key.dir.0 },
-        Refusal::Changed { now } => Answer::Changed { key, now },
     }
 }
