@@ -163,9 +163,9 @@ module _ (m : WorldState Program) (t : Tree) (op : OpId) (own : ℕ) (p : Progra
         in (rw is at run).0
 
     -- one transaction, and then the others
-    step_here : (h : Heard) (p : Played) (left n rest : ℕ) (a : Answer) (es : List Event) → n ≡ rest + 1
-        → Comes (after programs m (did_so h)) (tree_after t (told_of did)) op es rest a p left → Comes m t op (did_so h ∷ es) n a p (left + 1)
-    step_here h p left n rest a es is r = record {
+    step_here : (h : Heard) (y : Played) (left n rest : ℕ) (a : Answer) (es : List Event) → n ≡ rest + 1
+        → Comes (after programs m (did_so h)) (tree_after t (told_of did)) op es rest a y left → Comes m t op (did_so h ∷ es) n a y (left + 1)
+    step_here h y left n rest a es is r = record {
       count = omega (arith, r.count);
       answer = r.answer;
       tree = tree_after-append t (told_of did) (tree_steps es) ∙ r.tree;
@@ -181,31 +181,31 @@ module _ (m : WorldState Program) (t : Tree) (op : OpId) (own : ℕ) (p : Progra
     left_runs = heard_as (λ (a : Actor Program). a.running ≡ Some record { op = op; at = standing.Left }) hearing.Left
         (rw (goes_on_as hearing.Left) refl)
 
-    module _ (p : Played) (left : ℕ) (more : Goes (after programs m did) (tree_after t (told_of did)) op p left) where
+    module _ (y : Played) (left : ℕ) (more : Goes (after programs m did) (tree_after t (told_of did)) op y left) where
       heard_goes : (h : Heard) (es : List Event) (n rest : ℕ) (a : Answer) → n ≡ rest + 1 → Acts op rest es
-          → RunFrom programs (after programs m (did_so h)) (es ++ Own op (Ended a) ∷ []) → Comes m t op (did_so h ∷ es) n a p (left + 1)
-      heard_goes hearing.Whole es n rest a is acts run = step_here hearing.Whole p left n rest a es is (more es rest a acts run)
+          → RunFrom programs (after programs m (did_so h)) (es ++ Own op (Ended a) ∷ []) → Comes m t op (did_so h ∷ es) n a y (left + 1)
+      heard_goes hearing.Whole es n rest a is acts run = step_here hearing.Whole y left n rest a es is (more es rest a acts run)
       heard_goes hearing.Unkept es n rest a is acts run =
-          step_here hearing.Unkept p left n rest a es is
-          (subst (λ (w : WorldState Program). Goes w (tree_after t (told_of did)) op p left) unkept_same more es rest a acts run)
+          step_here hearing.Unkept y left n rest a es is
+          (subst (λ (w : WorldState Program). Goes w (tree_after t (told_of did)) op y left) unkept_same more es rest a acts run)
       heard_goes hearing.Left es n rest a is acts run = absurd (left_stuck _ op left_runs es rest a acts run)
 
       acted_goes : (q2 : AnyReq) (x2 : AnyReply) (h : Heard) (es : List Event) (n rest : ℕ) (a : Answer) → n ≡ rest + 1 → Acts op rest es
           → RunFrom programs m (Own op (Acted q2 x2 h) ∷ es ++ Own op (Ended a) ∷ [])
-          → Comes m t op (Own op (Acted q2 x2 h) ∷ es) n a p (left + 1)
+          → Comes m t op (Own op (Acted q2 x2 h) ∷ es) n a y (left + 1)
       acted_goes q2 x2 h es n rest a is acts run =
           let qs : Some q2 ≡ Some q = sym (run.0).0 ∙ asked_this in
           let qt : q2 ≡ q = cc in
           let xs : x2 ≡ x = (run.0).1 ∙ ap (store_reply m.store) qt in
           let same : Own op (Acted q2 x2 h) ≡ did_so h = λ i. Own op (Acted (qt i) (xs i) h) in
-          subst (λ (e : Event). RunFrom programs (after programs m e) (es ++ Own op (Ended a) ∷ []) → Comes m t op (e ∷ es) n a p (left + 1))
+          subst (λ (e : Event). RunFrom programs (after programs m e) (es ++ Own op (Ended a) ∷ []) → Comes m t op (e ∷ es) n a y (left + 1))
           (sym same) (heard_goes h es n rest a is acts) run.1
 
-      pub step_goes : Goes m t op p (left + 1)
+      pub step_goes : Goes m t op y (left + 1)
       step_goes [] n a acts run = absurd (let k : Some a ≡ None = sym (run.0).0 ∙ says_none in cc)
       step_goes (e ∷ es) n a acts run =
           let i : IsActed op e = act_is op e acts.0 in
-          subst (λ (z : Event). RunFrom programs m (z ∷ es ++ Own op (Ended a) ∷ []) → Comes m t op (z ∷ es) n a p (left + 1)) (sym i.is)
+          subst (λ (z : Event). RunFrom programs m (z ∷ es ++ Own op (Ended a) ∷ []) → Comes m t op (z ∷ es) n a y (left + 1)) (sym i.is)
           (acted_goes i.req i.reply i.heard es n (acts.1).0 a (acts.1).1 (acts.1).2) run
 
 -- what stands so, in other words
