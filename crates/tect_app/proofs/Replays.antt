@@ -13,8 +13,8 @@ use Rattle.tect_ids.specs.declared.script.Plan.{Plan}
 use Rattle.tect_ids.specs.declared.script.ReportLine.TheVariants as report_lines
 use Rattle.store_rules.specs.Dumps.{store_dump}
 use Rattle.store_rules.specs.Store.{opening_store}
-use Rattle.program_forms.specs.Kinds.{Does, Asks, Says, turned_by}
-use Rattle.program_rules.specs.Served.{program_does, programs}
+use Rattle.program_forms.specs.Kinds.{Does}
+use Rattle.program_rules.specs.Served.{programs}
 use Rattle.world_runs.specs.Actors.{is_said}
 use Rattle.program_forms.specs.Lacks.{IsLack}
 use Rattle.world_runs.specs.declared.event.Event.{Event}
@@ -32,6 +32,7 @@ use Rattle.run_claims.proofs.Claims.{every_run_is_claimed}
 use Rattle.script_runs.specs.InTime.{LooksTellNoAnswer}
 use Rattle.script_runs.proofs.Fixed.{script_fixes_run_without_looks}
 use Rattle.run_claims.proofs.RunsKeep.{no_run_answers_odd}
+use Rattle.session_runs.proofs.Standings.{next_same}
 use Rattle.world_runs.proofs.Actors.{after_all-append}
 use Rattle.script_runs.proofs.Histories.{run-append}
 use Rattle.session_runs.proofs.Scripts.{session_reported}
@@ -86,13 +87,7 @@ none_odd_after counts clients before (e ∷ es) run rest =
 
 -- the commands look nothing up
 looks_tell_no_answer : LooksTellNoAnswer programs
-looks_tell_no_answer c m op s said = at (program_does c m op s) said
-  where
-    at : (d : Does Answer)
-        → is_said (program_does c (turned_by d m s record { memory = m; state = s }).memory op (turned_by d m s record { memory = m; state = s }).state)
-        ≡ true → is_said (program_does c m op s) ≡ true
-    at (Asks q) said = said
-    at (Says a) said = said
+looks_tell_no_answer c m op s said = subst (λ (d : Does Answer). is_said d ≡ true) (next_same c m op s) said
 
 -- ---- what is claimed of a history
 
