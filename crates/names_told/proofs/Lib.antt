@@ -1,9 +1,11 @@
-pub mod Standings
-pub mod Phases
 pub mod Replies
-pub mod Walks
-pub mod Tells
-pub mod PhasesTell
-pub mod PhasesLeft
+pub mod Commands
+pub mod Causes
+pub mod Look
+pub mod Make
+pub mod Delete
+pub mod Rename
+pub mod Operations
 pub mod NamesTell
+pub mod OperationsFall
 pub mod NamesFall

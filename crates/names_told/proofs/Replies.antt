@@ -1,44 +1,73 @@
 -- what a program makes of a reply, against what the reply says to the tree
-use Rattle.std.proofs.Common.{◌≡◌, ℕ, true, false, is_some, Option, Some, None, List, arith}
-use Rattle.std.specs.FinMap.{get}
+use Rattle.std.proofs.Common.{◌≡◌, ℕ, true, false, is_some, Option, Some, None, List, refl, arith}
 use Rattle.tect_ids.specs.declared.ids.DirId.{DirId}
 use Rattle.tect_ids.specs.declared.ids.Hold.{Hold}
 use Rattle.tect_ids.specs.declared.ids.Place.{Place}
 use Rattle.tect_ids.specs.declared.ids.Node.{Node}
 use Rattle.tect_ids.specs.declared.ids.Node.TheVariants as nodes
 use Rattle.tect_ids.specs.declared.key.Key.{Key}
+use Rattle.tect_ids.specs.declared.answer.Answer.{Answer}
 use Rattle.tect_ids.specs.declared.answer.Answer.TheVariants as answers
 use Rattle.tect_ids.specs.declared.values.Listed.{Listed}
 use Rattle.tect_ids.specs.declared.values.Over.{Over}
 use Rattle.tect_ids.specs.declared.values.Want.TheVariants.{AnyFile}
+use Rattle.tect_ids.specs.Refusals.{refusal_answer}
 use Rattle.store_rules.specs.declared.names.NameReq.TheVariants as names
 use Rattle.store_rules.specs.declared.any.AnyReq.TheVariants as any
 use Rattle.store_rules.specs.declared.any.AnyReply.{AnyReply}
 use Rattle.store_rules.specs.declared.names.Replaced.{Replaced}
-use Rattle.store_rules.specs.Views.{as_parent, as_found, as_listing, as_bound, as_unbound, as_swapped, is_granted}
+use Rattle.store_rules.specs.Views.{as_parent, as_listing, as_bound, as_unbound, as_swapped, is_granted}
 use Rattle.store_rules.specs.Store.{Store, store_reply}
 use Rattle.tree_model.specs.declared.step.StepValue.TheVariants as shown
-use Rattle.tree_model.specs.declared.step.Refusal.{Refusal}
-use Rattle.tree_model.specs.declared.step.Refusal.TheVariants as refusals
 use Rattle.tree_model.specs.declared.step.TreeReply.{TreeReply}
 use Rattle.tree_model.specs.declared.step.TreeReply.TheVariants.{Ok, Refused}
 use Rattle.tree_model.specs.Tree.{is_ok}
-use Rattle.program_rules.specs.Programs.{refusal, dir_refusal, grant_ask}
+use Rattle.program_parts.specs.Refused.{dir_refusal}
+use Rattle.program_rules.specs.Rename.{grant_ask}
 use Rattle.claim_words.specs.TreeSteps.{says}
-use Rattle.claim_words.specs.Points.{refused_answer, Lists}
+use Rattle.claim_words.specs.Points.{done_answer, Finds, Lists, FindsSource, IsRefusal}
+use Rattle.telling_laws.proofs.Replies.{why_of, RefusesSo}
 
--- the word of a refusal
-abbrev pub why_of : TreeReply → Refusal
-why_of (Ok x) = refusals.NoDir
-why_of (Refused why) = why
-
--- the reply is a refusal, and makes the answer that the tree's refusal makes
-abbrev pub RefusesSo : Place → Key → AnyReply → Type 0
-RefusesSo place k x = (says x ≡ Refused (why_of (says x))) × (refusal place k x ≡ refused_answer k (why_of (says x)))
-
--- the same where the request concerns a directory and no entry
+-- the same as RefusesSo where the request concerns a directory and no entry
 abbrev pub RefusesDir : Place → Key → AnyReply → Type 0
-RefusesDir place k x = (says x ≡ Refused (why_of (says x))) × (dir_refusal place x ≡ refused_answer k (why_of (says x)))
+RefusesDir place k x = (says x ≡ Refused (why_of (says x))) × (dir_refusal place x ≡ refusal_answer k (why_of (says x)))
+
+-- ---- what a reply decides
+
+pub done_yes : (k : Key) (a : Answer) (r : TreeReply) → is_ok r ≡ true → a ≡ done_answer k a r
+done_yes k a (Ok x) e = refl
+done_yes k a (Refused why) e = absurd (let z : false ≡ true = e in cc)
+
+-- one that is refused, whatever an Ok decides
+module _ (k : Key) (b : Answer) where
+  pub done_no : (a : Answer) (r : TreeReply) → r ≡ Refused (why_of r) → b ≡ refusal_answer k (why_of r) → b ≡ done_answer k a r
+  done_no a (Ok x) e h = absurd (let z : Ok x ≡ Refused (why_of (Ok x)) = e in cc)
+  done_no a (Refused why) e h = h
+
+  pub finds_no : (r : TreeReply) → r ≡ Refused (why_of r) → b ≡ refusal_answer k (why_of r) → Finds k r b
+  finds_no (Ok x) e h = absurd (let z : Ok x ≡ Refused (why_of (Ok x)) = e in cc)
+  finds_no (Refused why) e h = h
+
+  pub lists_no : (r : TreeReply) → r ≡ Refused (why_of r) → b ≡ refusal_answer k (why_of r) → Lists k r b
+  lists_no (Ok x) e h = absurd (let z : Ok x ≡ Refused (why_of (Ok x)) = e in cc)
+  lists_no (Refused why) e h = h
+
+  pub source_no : (to : List ℕ) (r : TreeReply) → r ≡ Refused (why_of r) → b ≡ refusal_answer k (why_of r) → FindsSource k to r b
+  source_no to (Ok x) e h = absurd (let z : Ok x ≡ Refused (why_of (Ok x)) = e in cc)
+  source_no to (Refused why) e h = h
+
+  pub refusal_no : (r : TreeReply) → r ≡ Refused (why_of r) → b ≡ refusal_answer k (why_of r) → IsRefusal k r b
+  refusal_no (Ok x) e h = absurd (let z : Ok x ≡ Refused (why_of (Ok x)) = e in cc)
+  refusal_no (Refused why) e h = h
+
+pub finds_node : (k : Key) (n : Node) (r : TreeReply) → r ≡ Ok (shown.Node n) → Finds k r (answers.Found n)
+finds_node k n r e = rw e refl
+
+pub source_same : (k : Key) (to : List ℕ) (n : Node) (r : TreeReply) → r ≡ Ok (shown.Node n) → k.name ≡ to → FindsSource k to r answers.Done
+source_same k to n r e same = rw e (same, refl)
+
+pub ok_done : (r : TreeReply) → r ≡ Ok shown.Done → is_ok r ≡ true
+ok_done r e = rw e refl
 
 -- the entries that a reply shows
 abbrev entries_shown : TreeReply → Option (List Listed)
@@ -55,15 +84,9 @@ lists_so k (Ok (shown.Parent p sealed)) items e = absurd (let z : None ≡ Some 
 lists_so k (Ok (shown.Node n)) items e = absurd (let z : None ≡ Some items = e in cc)
 lists_so k (Refused why) items e = absurd (let z : None ≡ Some items = e in cc)
 
+-- ---- the store's replies
+
 module _ (s : Store) (place : Place) where
-  pub look_some : (k : Key) (n : Node) → as_found (store_reply s (any.Name (names.Look k))) ≡ Some n
-      → says (store_reply s (any.Name (names.Look k))) ≡ Ok (shown.Node n)
-  look_some k n e = grind arith
-
-  pub look_none : (k : Key) → as_found (store_reply s (any.Name (names.Look k))) ≡ None
-      → RefusesSo place k (store_reply s (any.Name (names.Look k)))
-  look_none k e = (grind arith, grind arith)
-
   pub check_some : (d : DirId) → is_some (as_parent (store_reply s (any.Name (names.CheckDir d)))) ≡ true
       → is_ok (says (store_reply s (any.Name (names.CheckDir d)))) ≡ true
   check_some d e = grind arith
@@ -93,12 +116,6 @@ module _ (s : Store) (place : Place) where
       → RefusesSo place k (store_reply s (any.Name (names.Bind k n h o)))
   bind_none k n h o e = (grind arith, grind arith)
 
-  -- a bind gives up the hold of what stood at the name
-  pub bind_replaces : (k : Key) (n : Node) (h : Hold) (o : Over) (old : Option Replaced)
-      → as_bound (store_reply s (any.Name (names.Bind k n h o))) ≡ Some old
-      → is_some old ≡ is_some (get s.names.entries k)
-  bind_replaces k n h o old e = grind arith
-
   pub unbind_some : (k : Key) (p : Node × Hold) → as_unbound (store_reply s (any.Name (names.Unbind k AnyFile))) ≡ Some p
       → says (store_reply s (any.Name (names.Unbind k AnyFile))) ≡ Ok shown.Done
   unbind_some k p e = grind arith
@@ -107,15 +124,15 @@ module _ (s : Store) (place : Place) where
       → RefusesSo place k (store_reply s (any.Name (names.Unbind k AnyFile)))
   unbind_none k e = (grind arith, grind arith)
 
-  pub swap_some : (k : Key) (to : List ℕ) (n : Node) (h : Hold) (p : Hold × Option Replaced)
-      → as_swapped (store_reply s (any.Name (names.Swap k.dir k.name to n h))) ≡ Some p
-      → says (store_reply s (any.Name (names.Swap k.dir k.name to n h))) ≡ Ok shown.Done
-  swap_some k to n h p e = grind arith
+  pub swap_some : (d : DirId) (from to : List ℕ) (n : Node) (h : Hold) (p : Hold × Option Replaced)
+      → as_swapped (store_reply s (any.Name (names.Swap d from to n h))) ≡ Some p
+      → says (store_reply s (any.Name (names.Swap d from to n h))) ≡ Ok shown.Done
+  swap_some d from to n h p e = grind arith
 
-  pub swap_none : (k : Key) (to : List ℕ) (n : Node) (h : Hold)
-      → as_swapped (store_reply s (any.Name (names.Swap k.dir k.name to n h))) ≡ None
-      → RefusesSo place k (store_reply s (any.Name (names.Swap k.dir k.name to n h)))
-  swap_none k to n h e = (grind arith, grind arith)
+  pub swap_none : (d : DirId) (from to : List ℕ) (n : Node) (h : Hold) (k : Key)
+      → as_swapped (store_reply s (any.Name (names.Swap d from to n h))) ≡ None
+      → RefusesSo place k (store_reply s (any.Name (names.Swap d from to n h)))
+  swap_none d from to n h k e = (grind arith, grind arith)
 
   pub grant_none : (n : Node) (h : Hold) (j k : Key) → is_granted (store_reply s (grant_ask n h j)) ≡ false
       → RefusesSo place k (store_reply s (grant_ask n h j))

@@ -1,11 +1,10 @@
 -- What the history tells of each operation on names before its answer is decided, and what explains the answer.
-use Rattle.std.specs.Prelude.{◌≡◌, ℕ, Some, None, List, []}
+use Rattle.std.specs.Prelude.{◌≡◌, Some, None, List, []}
 use Rattle.tect_ids.specs.declared.ids.DirId.{DirId}
 use Rattle.tect_ids.specs.declared.ids.Node.{Node}
 use Rattle.tect_ids.specs.declared.ids.Node.TheVariants as nodes
 use Rattle.tect_ids.specs.declared.ids.OpId.{OpId}
 use Rattle.tect_ids.specs.declared.command.Command.{Command}
-use Rattle.tect_ids.specs.declared.answer.Answer.{Answer}
 use Rattle.tect_ids.specs.Numbers.{root}
 use Rattle.store_rules.specs.Names.{key_in}
 use Rattle.tree_model.specs.declared.step.TreeStep.TheVariants as step

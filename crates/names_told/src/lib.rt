@@ -1,25 +1,19 @@
-//! What the programs of commands on names owe: so that the small machine follows each run, so that the history explains each of their
-//! answers, and so that each takes few transactions. Nothing here is called: each function's contract is a record of laws, from which the
-//! laws of all runs follow whatever the programs.
+//! What the programs of commands on names owe: so that the history explains each of their answers, and so that each takes few
+//! transactions. Nothing here is called: each function's contract is a record of laws, from which the laws of all runs follow whatever
+//! the programs.
 #![tactic(auto)]
 
 ghost use Rattle.program_rules.specs.Served.{programs};
+ghost use Rattle.names_laws.specs.Known.{names_deciding};
 ghost use Rattle.telling_laws.specs.Telling.{TellingLaws};
-ghost use Rattle.telling_laws.specs.Following.{AsksNew};
-ghost use Rattle.telling_laws.specs.Bounding.{FallLaws};
-ghost use Rattle.names_told.specs.NamesKnown.{NamesKnow};
+ghost use Rattle.fall_laws.specs.Bounding.{FallLaws};
 ghost use Rattle.names_told.specs.NamesTelling.{names_telling};
 ghost use Rattle.names_told.specs.NamesBounding.{names_bounding};
-
-/// What a request is to make was not made before.
-pub fn names_ask()
-    ensures { AsksNew programs NamesKnow }
-{}
 
 /// Before a command's answer is decided, the history tells how its walk went and what it saw; where the answer is decided, the history
 /// explains it, and it stays so.
 pub fn names_tell()
-    ensures { TellingLaws programs NamesKnow names_telling }
+    ensures { TellingLaws programs names_deciding names_telling }
 {}
 
 /// Each transaction leaves one less than was left before it, and a command begins with a look for each name of its path and four others.

@@ -1,0 +1,71 @@
+-- which command an operation is of, and where a command walks
+use Rattle.std.proofs.Common.{◌≡◌, ℕ, true, false, Some, None, List, [], ◌∷◌, refl, subst, inl, inr}
+use Rattle.tect_ids.specs.declared.command.Command.{Command}
+use Rattle.tect_ids.specs.declared.command.Command.TheVariants as commands
+use Rattle.tect_ids.specs.Paths.{but_last, last_name}
+use Rattle.program_rules.specs.declared.states.NewNode.TheVariants as new
+use Rattle.program_rules.specs.declared.operation.Operation.{Operation}
+use Rattle.program_rules.specs.declared.operation.Operation.TheVariants as operation
+use Rattle.program_rules.specs.Served.{Begun, Walks, LacksName, begun, is_served}
+use Rattle.claim_words.specs.Ways.{way}
+use Rattle.claim_words.specs.Points as points
+use Rattle.names_told.specs.NamesTelling.{Fits}
+
+-- so it is of each command of that operation
+abbrev pub OfItsCommands : (Command → Type 0) → Operation → Type 0
+OfItsCommands F (operation.Look None) = F (commands.Look [])
+OfItsCommands F (operation.Look (Some n)) = (m : List ℕ) (ms : List (List ℕ)) → last_name (m ∷ ms) ≡ n → F (commands.Look (m ∷ ms))
+OfItsCommands F operation.List = (p : List (List ℕ)) → F (commands.List p)
+OfItsCommands F (operation.Make new.File n) = (p : List (List ℕ)) → last_name p ≡ n → F (commands.Create p)
+OfItsCommands F (operation.Make new.Dir n) = (p : List (List ℕ)) → last_name p ≡ n → F (commands.Mkdir p)
+OfItsCommands F (operation.Delete n) = (p : List (List ℕ)) → last_name p ≡ n → F (commands.Delete p)
+OfItsCommands F (operation.Rename from to) = (p q : List (List ℕ)) → last_name p ≡ from → last_name q ≡ to → F (commands.Rename p q)
+
+same_operation : (p q : List (List ℕ)) (o u : Operation) → Walks p o ≡ Walks q u → u ≡ o
+same_operation p q o u e = cc
+
+lacks_none : (p : List (List ℕ)) (o : Operation) → LacksName ≡ Walks p o → ⊥
+lacks_none p o e = cc
+
+module _ (F : Command → Type 0) (o : Operation) (of : OfItsCommands F o) where
+  -- where a command walks to that operation
+  is_of : (p q : List (List ℕ)) (u : Operation) → Walks p u ≡ Walks q o → OfItsCommands F u
+  is_of p q u e = subst (λ (v : Operation). OfItsCommands F v) (same_operation p q u o e) of
+
+  pub of_command : (c : Command) → Fits c o → F c
+  of_command (commands.Look []) fit = is_of _ _ _ fit
+  of_command (commands.Look (n ∷ ns)) fit = is_of (but_last (n ∷ ns)) _ (operation.Look (Some (last_name (n ∷ ns)))) fit n ns refl
+  of_command (commands.List p) fit = is_of p _ operation.List fit p
+  of_command (commands.Create []) fit = absurd (lacks_none _ o fit)
+  of_command (commands.Create (n ∷ ns)) fit =
+      is_of (but_last (n ∷ ns)) _ (operation.Make new.File (last_name (n ∷ ns))) fit (n ∷ ns) refl
+  of_command (commands.Mkdir []) fit = absurd (lacks_none _ o fit)
+  of_command (commands.Mkdir (n ∷ ns)) fit =
+      is_of (but_last (n ∷ ns)) _ (operation.Make new.Dir (last_name (n ∷ ns))) fit (n ∷ ns) refl
+  of_command (commands.Delete []) fit = absurd (lacks_none _ o fit)
+  of_command (commands.Delete (n ∷ ns)) fit =
+      is_of (but_last (n ∷ ns)) _ (operation.Delete (last_name (n ∷ ns))) fit (n ∷ ns) refl
+  of_command (commands.Rename p []) fit = absurd (lacks_none _ o fit)
+  of_command (commands.Rename [] (t ∷ ts)) fit = absurd (lacks_none _ o fit)
+  of_command (commands.Rename (n ∷ ns) (t ∷ ts)) fit =
+      is_of (but_last (n ∷ ns)) _ (operation.Rename (last_name (n ∷ ns)) (last_name (t ∷ ts))) fit (n ∷ ns) (t ∷ ts) refl refl
+  of_command _ fit = absurd (lacks_none _ o fit)
+
+-- a served command walks its way, or lacks a name that it needs
+abbrev pub BeginsSo : Command → Begun → Type 0
+BeginsSo c (Walks p o) = p ≡ way c
+BeginsSo c LacksName = points.LacksName c
+
+pub begins_so : (c : Command) → is_served c ≡ true → BeginsSo c (begun c)
+begins_so (commands.Look p) s = refl
+begins_so (commands.List p) s = refl
+begins_so (commands.Create []) s = refl
+begins_so (commands.Create (n ∷ ns)) s = refl
+begins_so (commands.Mkdir []) s = refl
+begins_so (commands.Mkdir (n ∷ ns)) s = refl
+begins_so (commands.Delete []) s = refl
+begins_so (commands.Delete (n ∷ ns)) s = refl
+begins_so (commands.Rename p []) s = inr refl
+begins_so (commands.Rename [] (t ∷ ts)) s = inl refl
+begins_so (commands.Rename (n ∷ ns) (t ∷ ts)) s = refl
+begins_so _ s = absurd (let k : false ≡ true = s in cc)
