@@ -2,18 +2,13 @@
 use Rattle.std.proofs.Common.{◌≡◌, List, [], ◌∷◌, ◌++◌, Bool, true, false, ◌&&◌, take, Option, Some, None, refl, sym, subst, arith}
 use Rattle.std.specs.List.{AllByRecursion}
 use Rattle.tect_ids.specs.declared.ids.Hold.{Hold}
-use Rattle.tect_ids.specs.declared.ids.Node.TheVariants.{Dir, File}
 use Rattle.tect_ids.specs.declared.ids.OpId.{OpId}
 use Rattle.tect_ids.specs.declared.answer.Answer.{Answer}
 use Rattle.tect_ids.specs.Keys.{op_eq}
 use Rattle.tect_ids.proofs.KeyTests.{keys}
-use Rattle.store_rules.specs.declared.names.NameReq.{NameReq}
-use Rattle.store_rules.specs.declared.names.NameReq.TheVariants as names
-use Rattle.store_rules.specs.declared.files.FileReq.TheVariants as files
 use Rattle.store_rules.specs.declared.any.AnyReq.{AnyReq}
-use Rattle.store_rules.specs.declared.any.AnyReq.TheVariants as any
 use Rattle.store_rules.specs.declared.any.AnyReply.{AnyReply}
-use Rattle.store_rules.specs.Holds.{Grant, grant_of, spends}
+use Rattle.store_rules.specs.Holds.{Grant, HoldUse, Grants, Binds, GivesUp, NoHold, hold_use, granted_by, grant_of, spent_by, spends}
 use Rattle.store_rules.specs.Store.{store_reply}
 use Rattle.store_rules.specs.Views.{is_granted}
 use Rattle.program_forms.specs.declared.heard.Heard.{Heard}
@@ -28,8 +23,9 @@ use Rattle.world_runs.proofs.Fronts.{front_runs}
 use Rattle.claim_words.specs.Granted.{op_spends, IsHeld}
 use Rattle.store_world.specs.Worlds.{World, Ghost, Given, Live, next, opening_ghost}
 use Rattle.store_world.specs.Sound.{Sound, IsGranted}
-use Rattle.store_world.specs.Requests.{Needs, Taught, touched_by}
+use Rattle.store_world.specs.Requests.{Needs, is_moved, touched_by}
 use Rattle.store_world.proofs.Over.{settles_nothing}
+use Rattle.store_world.proofs.Rows.{role_laws}
 use Rattle.program_laws.specs.Known.{Deciding, Known}
 use Rattle.program_laws.specs.Laws.{ProgramLaws, HoldLaws}
 use Rattle.run_laws.specs.Pasts.{ghosts_after, ghost_after, world_of, world}
@@ -42,85 +38,30 @@ use Rattle.run_laws.proofs.RunsKeep.{run_world_sound}
 -- ---- a request that grants a hold, and one that leaves it
 
 -- it is granted once, so no request touches it but one that binds it
-name_leaves : (w : World) (h : Hold) (g : Given) → w.ghost.given h ≡ Some g → (q : NameReq) → Needs w (any.Name q)
-    → spends h (any.Name q) ≡ false → (touched_by (any.Name q)).hold h ≡ false
-name_leaves w h g is (names.CheckDir d) needs un = refl
-name_leaves w h g is (names.Look k) needs un = refl
-name_leaves w h g is (names.List d) needs un = refl
-name_leaves w h g is (names.MakeDir d p o k) needs un = grind (arith, keys)
-name_leaves w h g is (names.Bind k n o over) needs un = grind (arith, keys)
-name_leaves w h g is (names.Swap d from to n o) needs un = grind (arith, keys)
-name_leaves w h g is (names.Unbind k want) needs un = refl
-name_leaves w h g is (names.Grant d o k) needs un = grind (arith, keys)
-name_leaves w h g is (names.Release d o) needs un = refl
+left_by : (u : HoldUse) (w : World) (h : Hold) (g : Given) → w.ghost.given h ≡ Some g
+    → ((a : Grant) → granted_by u ≡ Some a → w.ghost.given a.hold ≡ None) → spent_by h u ≡ false → is_moved u h ≡ false
+left_by (Grants a) w h g is new un = grind (arith, keys, new a refl)
+left_by (Binds o) w h g is new un = grind (arith, keys)
+left_by (GivesUp o) w h g is new un = refl
+left_by NoHold w h g is new un = refl
 
 leaves : (w : World) (h : Hold) (g : Given) → w.ghost.given h ≡ Some g → (q : AnyReq) → Needs w q → spends h q ≡ false
     → (touched_by q).hold h ≡ false
-leaves w h g is (any.Name q) needs un = name_leaves w h g is q needs un
-leaves w h g is (any.File (files.MakeFile f o k t)) needs un = grind (arith, keys)
-leaves w h g is (any.File (files.Grant f o k)) needs un = grind (arith, keys)
-leaves w h g is (any.File (files.Release f o)) needs un = refl
+leaves w h g is q needs un = left_by (hold_use q) w h g is (λ a e. (role_laws q).new w a e needs) un
 
 both_fail : (a b : Bool) → a ≡ true → (a && b) ≡ false → b ≡ false
 both_fail true b is e = e
 both_fail false b is e = absurd (let k : false ≡ true = is in cc)
 
-taught_grant : (v : World) (q : AnyReq) (x : AnyReply) (g : Grant) → grant_of q ≡ Some g → is_granted x ≡ true → Taught v q x
-    → IsGranted v g.hold g.node g.key
-taught_grant v (any.Name (names.MakeDir d p h k)) x g e ok t =
-    let same : record { node = Dir d; hold = h; key = k } ≡ g = cc in rw (← same) t.1
-taught_grant v (any.Name (names.Grant d h k)) x g e ok t =
-    let same : record { node = Dir d; hold = h; key = k } ≡ g = cc in rw (← same) (t ok)
-taught_grant v (any.File (files.MakeFile f h k o)) x g e ok t =
-    let same : record { node = File f; hold = h; key = k } ≡ g = cc in rw (← same) t.1
-taught_grant v (any.File (files.Grant f h k)) x g e ok t =
-    let same : record { node = File f; hold = h; key = k } ≡ g = cc in rw (← same) (t ok)
-taught_grant v (any.Name (names.CheckDir d)) x g e ok t = absurd (let k : None ≡ Some g = e in cc)
-taught_grant v (any.Name (names.Look k)) x g e ok t = absurd (let f : None ≡ Some g = e in cc)
-taught_grant v (any.Name (names.List d)) x g e ok t = absurd (let k : None ≡ Some g = e in cc)
-taught_grant v (any.Name (names.Bind k n h o)) x g e ok t = absurd (let f : None ≡ Some g = e in cc)
-taught_grant v (any.Name (names.Swap d from to n h)) x g e ok t = absurd (let k : None ≡ Some g = e in cc)
-taught_grant v (any.Name (names.Unbind k want)) x g e ok t = absurd (let f : None ≡ Some g = e in cc)
-taught_grant v (any.Name (names.Release d h)) x g e ok t = absurd (let k : None ≡ Some g = e in cc)
-taught_grant v (any.File (files.Release f h)) x g e ok t = absurd (let k : None ≡ Some g = e in cc)
-
 -- what is asked for is touched
-grant_touches : (q : AnyReq) (g : Grant) → grant_of q ≡ Some g → (touched_by q).hold g.hold ≡ true
-grant_touches (any.Name (names.MakeDir d p h k)) g e =
-    let same : record { node = Dir d; hold = h; key = k } ≡ g = cc in rw (← same) (grind (arith, keys))
-grant_touches (any.Name (names.Grant d h k)) g e =
-    let same : record { node = Dir d; hold = h; key = k } ≡ g = cc in rw (← same) (grind (arith, keys))
-grant_touches (any.File (files.MakeFile f h k o)) g e =
-    let same : record { node = File f; hold = h; key = k } ≡ g = cc in rw (← same) (grind (arith, keys))
-grant_touches (any.File (files.Grant f h k)) g e =
-    let same : record { node = File f; hold = h; key = k } ≡ g = cc in rw (← same) (grind (arith, keys))
-grant_touches (any.Name (names.CheckDir d)) g e = absurd (let k : None ≡ Some g = e in cc)
-grant_touches (any.Name (names.Look k)) g e = absurd (let f : None ≡ Some g = e in cc)
-grant_touches (any.Name (names.List d)) g e = absurd (let k : None ≡ Some g = e in cc)
-grant_touches (any.Name (names.Bind k n h o)) g e = absurd (let f : None ≡ Some g = e in cc)
-grant_touches (any.Name (names.Swap d from to n h)) g e = absurd (let k : None ≡ Some g = e in cc)
-grant_touches (any.Name (names.Unbind k want)) g e = absurd (let f : None ≡ Some g = e in cc)
-grant_touches (any.Name (names.Release d h)) g e = absurd (let k : None ≡ Some g = e in cc)
-grant_touches (any.File (files.Release f h)) g e = absurd (let k : None ≡ Some g = e in cc)
+moved_by : (u : HoldUse) (g : Grant) → granted_by u ≡ Some g → is_moved u g.hold ≡ true
+moved_by (Grants a) g e = let same : a ≡ g = cc in rw (← same) (grind (arith, keys))
+moved_by (Binds o) g e = absurd (let k : None ≡ Some g = e in cc)
+moved_by (GivesUp o) g e = absurd (let k : None ≡ Some g = e in cc)
+moved_by NoHold g e = absurd (let k : None ≡ Some g = e in cc)
 
--- it was new
-grant_new : (w : World) (q : AnyReq) (g : Grant) → grant_of q ≡ Some g → Needs w q → w.ghost.given g.hold ≡ None
-grant_new w (any.Name (names.MakeDir d p h k)) g e needs =
-    let same : record { node = Dir d; hold = h; key = k } ≡ g = cc in rw (← same) needs.1
-grant_new w (any.Name (names.Grant d h k)) g e needs =
-    let same : record { node = Dir d; hold = h; key = k } ≡ g = cc in rw (← same) needs.0
-grant_new w (any.File (files.MakeFile f h k o)) g e needs =
-    let same : record { node = File f; hold = h; key = k } ≡ g = cc in rw (← same) needs.1
-grant_new w (any.File (files.Grant f h k)) g e needs =
-    let same : record { node = File f; hold = h; key = k } ≡ g = cc in rw (← same) needs.0
-grant_new w (any.Name (names.CheckDir d)) g e needs = absurd (let k : None ≡ Some g = e in cc)
-grant_new w (any.Name (names.Look k)) g e needs = absurd (let f : None ≡ Some g = e in cc)
-grant_new w (any.Name (names.List d)) g e needs = absurd (let k : None ≡ Some g = e in cc)
-grant_new w (any.Name (names.Bind k n h o)) g e needs = absurd (let f : None ≡ Some g = e in cc)
-grant_new w (any.Name (names.Swap d from to n h)) g e needs = absurd (let f : None ≡ Some g = e in cc)
-grant_new w (any.Name (names.Unbind k want)) g e needs = absurd (let f : None ≡ Some g = e in cc)
-grant_new w (any.Name (names.Release d h)) g e needs = absurd (let k : None ≡ Some g = e in cc)
-grant_new w (any.File (files.Release f h)) g e needs = absurd (let k : None ≡ Some g = e in cc)
+grant_touches : (q : AnyReq) (g : Grant) → grant_of q ≡ Some g → (touched_by q).hold g.hold ≡ true
+grant_touches q g e = moved_by (hold_use q) g e
 
 -- in a sound world a hold that may still be bound is bound nowhere, and listed
 is_held : (w : World) → Sound w → (g : Grant) → IsGranted w g.hold g.node g.key → IsHeld w.store g
@@ -202,12 +143,12 @@ module _ {S : Type 0} (P : Programs S) (D : Deciding S Answer) (N : Known S Answ
       grants_none none =
           (rw by.ask at (holds.grants m.counts (world_of m g) op me.memory st s.sound (actor P D N laws m g s op q st by).remembers
           (is_actor P D N laws m g s op q st by) (runs P D N laws m g s op q st by).at none)) (kept P D N laws m g s op q st by) a.hold
-          (grant_new (world_of m g) q a asks (meets P D N laws m g s op q st by).needs) (grant_touches q a asks) ok
+          ((role_laws q).new (world_of m g) a asks (meets P D N laws m g s op q st by).needs) (grant_touches q a asks) ok
 
       granted_then : (heard : Heard) → IsGranted (then heard) a.hold a.node a.key
       granted_then heard =
           subst (λ (x : World). IsGranted x a.hold a.node a.key) (sym (stays_by heard grants_none))
-          (taught_grant (next (world_of m g) q) q said a asks ok (kept P D N laws m g s op q st by).taught)
+          ((role_laws q).granted (next (world_of m g) q) said a asks ok (kept P D N laws m g s op q st by).taught)
 
       pub granted_act : (heard : Heard)
           → (ghost_after P D m g (Own op (Acted q said heard))).given a.hold ≡ Some record { lower = a.node; upper = a.key; phase = Live }

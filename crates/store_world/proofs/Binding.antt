@@ -1,5 +1,5 @@
 -- requests that name a node, or take its name away
-use Rattle.std.proofs.Common.{◌≡◌, ◌≢◌, ℕ, List, true, false, Option, Some, None, arith}
+use Rattle.std.proofs.Common.{◌≡◌, ◌≢◌, ℕ, List, true, false, Option, Some, None, refl, arith}
 use Rattle.std.specs.FinMap.{get}
 use Rattle.tect_ids.specs.declared.ids.DirId.{DirId}
 use Rattle.tect_ids.specs.declared.ids.Hold.{Hold}
@@ -15,11 +15,12 @@ use Rattle.store_rules.specs.declared.names.Replaced.{Replaced}
 use Rattle.store_rules.specs.declared.names.NameReq.TheVariants as names
 use Rattle.store_rules.specs.declared.any.AnyReq.TheVariants as any
 use Rattle.store_rules.specs.Names.{key_in, replaced}
-use Rattle.store_rules.specs.Store.{store_changes, store_reply}
-use Rattle.store_rules.specs.Views.{as_unbound, as_swapped}
+use Rattle.store_rules.specs.Store.{Store, store_changes, store_reply}
+use Rattle.store_rules.specs.Views.{is_made, as_bound, as_unbound, as_swapped}
 use Rattle.store_world.specs.Worlds.{World, Live, done}
 use Rattle.store_world.specs.Sound.{Sound, was_made, dead_in, parent, IsGranted}
-use Rattle.store_world.specs.Requests.{Needs, Kept}
+use Rattle.store_world.specs.Requests.{Needs, Kept, BoundTaught, SwappedTaught, UnboundTaught}
+use Rattle.store_world.proofs.Frames.{Row, by_answer, by_reading, grants_nothing}
 
 -- a hold's node was made, and so was the directory that it is for
 module _ (w : World) (s : Sound w) (h : Hold) (n : Node) (k : Key) (granted : IsGranted w h n k) where
@@ -38,7 +39,7 @@ module _ (w : World) (s : Sound w) (h : Hold) (n : Node) (k : Key) (granted : Is
 
 -- Bind
 module _ (w : World) (s : Sound w) (k : Key) (n : Node) (h : Hold) (o : Over) (needs : Needs w (any.Name (names.Bind k n h o))) where
-  pub bind_done : store_changes w.store (any.Name (names.Bind k n h o)) ≡ true
+  bind_done : store_changes w.store (any.Name (names.Bind k n h o)) ≡ true
       → Kept w (done w (any.Name (names.Bind k n h o))) (any.Name (names.Bind k n h o))
   bind_done ok =
       let able : dead_in w.store k.dir h.op ≡ false = grind arith in
@@ -93,6 +94,26 @@ module _ (w : World) (s : Sound w) (k : Key) (n : Node) (h : Hold) (o : Over) (n
         taught = grind (arith, maps, s.entries.bound k);
       }
 
+-- one that is refused leaves its hold
+bind_says : (w : World) (k : Key) (n : Node) (h : Hold) (o : Over) → store_changes w.store (any.Name (names.Bind k n h o)) ≡ false
+    → as_bound (store_reply w.store (any.Name (names.Bind k n h o))) ≡ None
+bind_says w k n h o stayed = grind arith
+
+bind_refused : (w : World) (k : Key) (n : Node) (h : Hold) (o : Over) → Needs w (any.Name (names.Bind k n h o))
+    → store_changes w.store (any.Name (names.Bind k n h o)) ≡ false
+    → BoundTaught w h n k (as_bound (store_reply w.store (any.Name (names.Bind k n h o))))
+bind_refused w k n h o needs stayed = rw (bind_says w k n h o stayed) needs.0
+
+bind_untold : (s : Store) (k : Key) (n : Node) (h : Hold) (o : Over) → is_made (store_reply s (any.Name (names.Bind k n h o))) ≡ false
+bind_untold s k n h o = grind arith
+
+pub bind_row : (k : Key) (n : Node) (h : Hold) (o : Over) → Row (any.Name (names.Bind k n h o))
+bind_row k n h o = record {
+  kept = λ w s needs. by_answer w (any.Name (names.Bind k n h o)) _ refl (λ e. by_reading w _ s (bind_refused w k n h o needs e))
+      (bind_done w s k n h o needs);
+  laws = grants_nothing (any.Name (names.Bind k n h o)) refl refl (λ s. bind_untold s k n h o);
+}
+
 -- Unbind
 module _ (w : World) (s : Sound w) (k : Key) (want : Want) where
   -- what an unbind says of the entry that it took
@@ -104,7 +125,7 @@ module _ (w : World) (s : Sound w) (k : Key) (want : Want) where
       → as_unbound (store_reply w.store (any.Name (names.Unbind k want))) ≡ taken (get w.store.names.entries k)
   unbind_says ok = grind arith
 
-  pub unbind_done : store_changes w.store (any.Name (names.Unbind k want)) ≡ true
+  unbind_done : store_changes w.store (any.Name (names.Unbind k want)) ≡ true
       → Kept w (done w (any.Name (names.Unbind k want))) (any.Name (names.Unbind k want))
   unbind_done ok = record {
     sound = record {
@@ -145,6 +166,20 @@ module _ (w : World) (s : Sound w) (k : Key) (want : Want) where
     taught = rw (unbind_says ok) (grind (arith, maps, s.entries.bound k));
   }
 
+unbind_refused : (w : World) (k : Key) (want : Want) → store_changes w.store (any.Name (names.Unbind k want)) ≡ false
+    → UnboundTaught w (as_unbound (store_reply w.store (any.Name (names.Unbind k want))))
+unbind_refused w k want stayed = grind arith
+
+unbind_untold : (s : Store) (k : Key) (want : Want) → is_made (store_reply s (any.Name (names.Unbind k want))) ≡ false
+unbind_untold s k want = grind arith
+
+pub unbind_row : (k : Key) (want : Want) → Row (any.Name (names.Unbind k want))
+unbind_row k want = record {
+  kept = λ w s needs. by_answer w (any.Name (names.Unbind k want)) _ refl (λ e. by_reading w _ s (unbind_refused w k want e))
+      (unbind_done w s k want);
+  laws = grants_nothing (any.Name (names.Unbind k want)) refl refl (λ s. unbind_untold s k want);
+}
+
 -- Swap
 module _ (w : World) (s : Sound w) (d : DirId) (from to : List ℕ) (n : Node) (h : Hold)
     (needs : Needs w (any.Name (names.Swap d from to n h))) where
@@ -180,7 +215,7 @@ module _ (w : World) (s : Sound w) (d : DirId) (from to : List ℕ) (n : Node) (
   swap_from : store_changes w.store (any.Name (names.Swap d from to n h)) ≡ true → node_at (get w.store.names.entries from_key) ≡ Some n
   swap_from ok = grind (arith, maps)
 
-  pub swap_done : store_changes w.store (any.Name (names.Swap d from to n h)) ≡ true
+  swap_done : store_changes w.store (any.Name (names.Swap d from to n h)) ≡ true
       → Kept w (done w (any.Name (names.Swap d from to n h))) (any.Name (names.Swap d from to n h))
   swap_done ok =
       let able : dead_in w.store d h.op ≡ false = grind arith in
@@ -255,3 +290,24 @@ module _ (w : World) (s : Sound w) (d : DirId) (from to : List ℕ) (n : Node) (
         };
         taught = rw (swap_says ok) (grind (arith, maps, s.entries.bound from_key, s.entries.bound to_key));
       }
+
+swap_says_none : (w : World) (d : DirId) (from to : List ℕ) (n : Node) (h : Hold)
+    → store_changes w.store (any.Name (names.Swap d from to n h)) ≡ false
+    → as_swapped (store_reply w.store (any.Name (names.Swap d from to n h))) ≡ None
+swap_says_none w d from to n h stayed = grind arith
+
+swap_refused : (w : World) (d : DirId) (from to : List ℕ) (n : Node) (h : Hold) → Needs w (any.Name (names.Swap d from to n h))
+    → store_changes w.store (any.Name (names.Swap d from to n h)) ≡ false
+    → SwappedTaught w h n (key_in d to) (as_swapped (store_reply w.store (any.Name (names.Swap d from to n h))))
+swap_refused w d from to n h needs stayed = rw (swap_says_none w d from to n h stayed) needs.0
+
+swap_untold : (s : Store) (d : DirId) (from to : List ℕ) (n : Node) (h : Hold)
+    → is_made (store_reply s (any.Name (names.Swap d from to n h))) ≡ false
+swap_untold s d from to n h = grind arith
+
+pub swap_row : (d : DirId) (from to : List ℕ) (n : Node) (h : Hold) → Row (any.Name (names.Swap d from to n h))
+swap_row d from to n h = record {
+  kept = λ w s needs. by_answer w (any.Name (names.Swap d from to n h)) _ refl
+      (λ e. by_reading w _ s (swap_refused w d from to n h needs e)) (swap_done w s d from to n h needs);
+  laws = grants_nothing (any.Name (names.Swap d from to n h)) refl refl (λ s. swap_untold s d from to n h);
+}

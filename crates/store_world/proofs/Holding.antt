@@ -1,5 +1,5 @@
 -- requests that grant and release holds
-use Rattle.std.proofs.Common.{◌≡◌, true, Option, arith}
+use Rattle.std.proofs.Common.{◌≡◌, true, false, Option, refl, arith}
 use Rattle.tect_ids.specs.declared.ids.DirId.{DirId}
 use Rattle.tect_ids.specs.declared.ids.FileId.{FileId}
 use Rattle.tect_ids.specs.declared.ids.Hold.{Hold}
@@ -9,10 +9,12 @@ use Rattle.key_maps.proofs.Lookups.{maps}
 use Rattle.store_rules.specs.declared.names.NameReq.TheVariants as names
 use Rattle.store_rules.specs.declared.files.FileReq.TheVariants as files
 use Rattle.store_rules.specs.declared.any.AnyReq.TheVariants as any
-use Rattle.store_rules.specs.Store.{store_changes}
+use Rattle.store_rules.specs.Store.{Store, store_changes, store_reply}
+use Rattle.store_rules.specs.Views.{is_made}
 use Rattle.store_world.specs.Worlds.{World, done}
 use Rattle.store_world.specs.Sound.{Sound, parent}
-use Rattle.store_world.specs.Requests.{Needs, Kept}
+use Rattle.store_world.specs.Requests.{Needs, Kept, GrantTaught}
+use Rattle.store_world.proofs.Frames.{Row, by_answer, by_reading, grants_nothing, grants_one}
 use Rattle.store_world.proofs.Chains.{climbs_still}
 
 -- Grant at a directory
@@ -24,7 +26,7 @@ module _ (w : World) (s : Sound w) (d : DirId) (h : Hold) (k : Key) (needs : Nee
   same : (x : DirId) → now x ≡ parent w.store x
   same x = grind (arith, maps)
 
-  pub dir_granted : store_changes w.store (any.Name (names.Grant d h k)) ≡ true
+  dir_granted : store_changes w.store (any.Name (names.Grant d h k)) ≡ true
       → Kept w (done w (any.Name (names.Grant d h k))) (any.Name (names.Grant d h k))
   dir_granted ok = record {
     sound = record {
@@ -68,9 +70,24 @@ module _ (w : World) (s : Sound w) (d : DirId) (h : Hold) (k : Key) (needs : Nee
     taught = grind (arith, maps);
   }
 
+dir_grant_untold : (s : Store) (d : DirId) (h : Hold) (k : Key) → is_made (store_reply s (any.Name (names.Grant d h k))) ≡ false
+dir_grant_untold s d h k = grind arith
+
+dir_grant_refused : (w : World) (d : DirId) (h : Hold) (k : Key) → store_changes w.store (any.Name (names.Grant d h k)) ≡ false
+    → GrantTaught w (Dir d) h k (store_reply w.store (any.Name (names.Grant d h k)))
+dir_grant_refused w d h k stayed = grind arith
+
+pub grant_dir_row : (d : DirId) (h : Hold) (k : Key) → Row (any.Name (names.Grant d h k))
+grant_dir_row d h k = record {
+  kept = λ w s needs. by_answer w (any.Name (names.Grant d h k)) _ refl (λ e. by_reading w _ s (dir_grant_refused w d h k e))
+      (dir_granted w s d h k needs);
+  laws = grants_one (any.Name (names.Grant d h k)) record { node = Dir d; hold = h; key = k } refl (λ w needs. needs.0) refl
+      (λ s. dir_grant_untold s d h k) (λ v x t. t);
+}
+
 -- Grant at a file
 module _ (w : World) (s : Sound w) (f : FileId) (h : Hold) (k : Key) (needs : Needs w (any.File (files.Grant f h k))) where
-  pub file_granted : store_changes w.store (any.File (files.Grant f h k)) ≡ true
+  file_granted : store_changes w.store (any.File (files.Grant f h k)) ≡ true
       → Kept w (done w (any.File (files.Grant f h k))) (any.File (files.Grant f h k))
   file_granted ok = record {
     sound = record {
@@ -114,6 +131,21 @@ module _ (w : World) (s : Sound w) (f : FileId) (h : Hold) (k : Key) (needs : Ne
     taught = grind (arith, maps);
   }
 
+file_grant_untold : (s : Store) (f : FileId) (h : Hold) (k : Key) → is_made (store_reply s (any.File (files.Grant f h k))) ≡ false
+file_grant_untold s f h k = grind arith
+
+file_grant_refused : (w : World) (f : FileId) (h : Hold) (k : Key) → store_changes w.store (any.File (files.Grant f h k)) ≡ false
+    → GrantTaught w (File f) h k (store_reply w.store (any.File (files.Grant f h k)))
+file_grant_refused w f h k stayed = grind arith
+
+pub grant_file_row : (f : FileId) (h : Hold) (k : Key) → Row (any.File (files.Grant f h k))
+grant_file_row f h k = record {
+  kept = λ w s needs. by_answer w (any.File (files.Grant f h k)) _ refl (λ e. by_reading w _ s (file_grant_refused w f h k e))
+      (file_granted w s f h k needs);
+  laws = grants_one (any.File (files.Grant f h k)) record { node = File f; hold = h; key = k } refl (λ w needs. needs.0) refl
+      (λ s. file_grant_untold s f h k) (λ v x t. t);
+}
+
 -- Release at a directory
 module _ (w : World) (s : Sound w) (d : DirId) (h : Hold) (needs : Needs w (any.Name (names.Release d h))) where
   abbrev released : DirId → Option DirId
@@ -123,7 +155,7 @@ module _ (w : World) (s : Sound w) (d : DirId) (h : Hold) (needs : Needs w (any.
   same_released : (x : DirId) → released x ≡ parent w.store x
   same_released x = grind (arith, maps)
 
-  pub dir_released : Kept w (done w (any.Name (names.Release d h))) (any.Name (names.Release d h))
+  dir_released : Kept w (done w (any.Name (names.Release d h))) (any.Name (names.Release d h))
   dir_released = record {
     sound = record {
       entries = record {
@@ -167,9 +199,18 @@ module _ (w : World) (s : Sound w) (d : DirId) (h : Hold) (needs : Needs w (any.
     taught = tt;
   }
 
+dir_release_untold : (s : Store) (d : DirId) (h : Hold) → is_made (store_reply s (any.Name (names.Release d h))) ≡ false
+dir_release_untold s d h = grind arith
+
+pub release_dir_row : (d : DirId) (h : Hold) → Row (any.Name (names.Release d h))
+release_dir_row d h = record {
+  kept = λ w s needs. by_answer w (any.Name (names.Release d h)) _ refl (λ e. by_reading w _ s tt) (λ e. dir_released w s d h needs);
+  laws = grants_nothing (any.Name (names.Release d h)) refl refl (λ s. dir_release_untold s d h);
+}
+
 -- Release at a file
 module _ (w : World) (s : Sound w) (f : FileId) (h : Hold) (needs : Needs w (any.File (files.Release f h))) where
-  pub file_released : Kept w (done w (any.File (files.Release f h))) (any.File (files.Release f h))
+  file_released : Kept w (done w (any.File (files.Release f h))) (any.File (files.Release f h))
   file_released = record {
     sound = record {
       entries = s.entries;
@@ -198,3 +239,12 @@ module _ (w : World) (s : Sound w) (f : FileId) (h : Hold) (needs : Needs w (any
     };
     taught = tt;
   }
+
+file_release_untold : (s : Store) (f : FileId) (h : Hold) → is_made (store_reply s (any.File (files.Release f h))) ≡ false
+file_release_untold s f h = grind arith
+
+pub release_file_row : (f : FileId) (h : Hold) → Row (any.File (files.Release f h))
+release_file_row f h = record {
+  kept = λ w s needs. by_answer w (any.File (files.Release f h)) _ refl (λ e. by_reading w _ s tt) (λ e. file_released w s f h needs);
+  laws = grants_nothing (any.File (files.Release f h)) refl refl (λ s. file_release_untold s f h);
+}

@@ -16,12 +16,13 @@ use Rattle.store_rules.specs.Store.{store_changes}
 use Rattle.store_world.specs.Worlds.{World, done}
 use Rattle.store_world.specs.Sound.{Sound, parent, above}
 use Rattle.store_world.specs.Requests.{Needs, Kept}
+use Rattle.store_world.proofs.Frames.{Row, by_answer, makes_one}
 use Rattle.store_world.proofs.Chains.{climbs_still, climbs_from}
 
 -- MakeFile
 module _ (w : World) (s : Sound w) (f : FileId) (h : Hold) (k : Key) (t : Option OpId) (needs : Needs w (any.File (files.MakeFile f h k t)))
   where
-    pub file_made : store_changes w.store (any.File (files.MakeFile f h k t)) ≡ true
+    file_made : store_changes w.store (any.File (files.MakeFile f h k t)) ≡ true
         → Kept w (done w (any.File (files.MakeFile f h k t))) (any.File (files.MakeFile f h k t))
     file_made ok = record {
       sound = record {
@@ -65,9 +66,16 @@ module _ (w : World) (s : Sound w) (f : FileId) (h : Hold) (k : Key) (t : Option
       taught = grind (arith, maps, s.nodes.named_made (File f));
     }
 
-    pub file_not_refused : store_changes w.store (any.File (files.MakeFile f h k t)) ≡ false
+    file_not_refused : store_changes w.store (any.File (files.MakeFile f h k t)) ≡ false
         → Kept w w (any.File (files.MakeFile f h k t))
     file_not_refused stayed = absurd (grind (arith, maps, s.nodes.standing_made (File f)))
+
+pub make_file_row : (f : FileId) (h : Hold) (k : Key) (t : Option OpId) → Row (any.File (files.MakeFile f h k t))
+make_file_row f h k t = record {
+  kept = λ w s needs. by_answer w (any.File (files.MakeFile f h k t)) _ refl (file_not_refused w s f h k t needs) (file_made w s f h k t needs);
+  laws = makes_one (any.File (files.MakeFile f h k t)) record { node = File f; hold = h; key = k } refl (λ w needs. needs.1) refl
+      (λ v x t. t);
+}
 
 -- MakeDir
 module _ (w : World) (s : Sound w) (d up : DirId) (h : Hold) (k : Key) (needs : Needs w (any.Name (names.MakeDir d up h k))) where
@@ -96,7 +104,7 @@ module _ (w : World) (s : Sound w) (d up : DirId) (h : Hold) (k : Key) (needs : 
         | false ↦ λ e. climbs_still (parent w.store) now more x (s.tree.climbs x (grind (arith, maps)))
       ] refl
 
-  pub dir_made : store_changes w.store (any.Name (names.MakeDir d up h k)) ≡ true
+  dir_made : store_changes w.store (any.Name (names.MakeDir d up h k)) ≡ true
       → Kept w (done w (any.Name (names.MakeDir d up h k))) (any.Name (names.MakeDir d up h k))
   dir_made ok = record {
     sound = record {
@@ -140,6 +148,13 @@ module _ (w : World) (s : Sound w) (d up : DirId) (h : Hold) (k : Key) (needs : 
     taught = grind (arith, maps, s.nodes.named_made (Dir d));
   }
 
-  pub dir_not_refused : store_changes w.store (any.Name (names.MakeDir d up h k)) ≡ false
+  dir_not_refused : store_changes w.store (any.Name (names.MakeDir d up h k)) ≡ false
       → Kept w w (any.Name (names.MakeDir d up h k))
   dir_not_refused stayed = absurd (grind (arith, maps, s.nodes.standing_made (Dir d)))
+
+pub make_dir_row : (d up : DirId) (h : Hold) (k : Key) → Row (any.Name (names.MakeDir d up h k))
+make_dir_row d up h k = record {
+  kept = λ w s needs. by_answer w (any.Name (names.MakeDir d up h k)) _ refl (dir_not_refused w s d up h k needs) (dir_made w s d up h k needs);
+  laws = makes_one (any.Name (names.MakeDir d up h k)) record { node = Dir d; hold = h; key = k } refl (λ w needs. needs.1) refl
+      (λ v x t. t);
+}

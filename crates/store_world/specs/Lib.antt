@@ -4,3 +4,4 @@ pub mod Later
 pub mod Roles
 pub mod Worlds
 pub mod Requests
+pub mod RoleLaws
