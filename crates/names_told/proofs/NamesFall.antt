@@ -1,11 +1,16 @@
 -- commands on names take few transactions
 use Rattle.std.proofs.Common.{◌≡◌, ◌+◌, ℕ, Some, List, [], ◌∷◌, length, refl, subst, arith}
+use Rattle.program_forms.specs.Memories.{Memory}
+use Rattle.program_parts.specs.declared.next.Next.TheVariants.{Goes, Comes}
+use Rattle.program_parts.specs.declared.walking.Walking.TheVariants.{Way, There}
+use Rattle.tect_ids.specs.declared.ids.OpId.{OpId}
+use Rattle.tect_ids.specs.declared.ids.Counts.{Counts}
 use Rattle.tect_ids.specs.declared.command.Command.{Command}
 use Rattle.tect_ids.specs.declared.command.Command.TheVariants as commands
 use Rattle.tect_ids.specs.Numbers.{root}
 use Rattle.tect_ids.specs.Paths.{but_last}
 use Rattle.program_rules.specs.Operations.{begins_in, operations}
-use Rattle.program_rules.specs.Served.{Begun, Walks, LacksName, begun, started, is_served, programs}
+use Rattle.program_rules.specs.Served.{Begun, Walks, LacksName, begun, started, is_served, programs, Program}
 use Rattle.fall_laws.specs.Bounding.{Many, AtMost, FallLaws, none}
 use Rattle.fall_laws.specs.Parts.{next_left, never_grows, walk_left}
 use Rattle.fall_laws.proofs.PartsFall.{walk_on_left, walk_falls, part_fall_laws}
@@ -57,3 +62,9 @@ pub names_fall_so : FallLaws programs names_bounding
 names_fall_so = part_fall_laws (walk_falls begins_in operations (never_grows operation_left) most_of begins_at_most operations_fall)
     is_served (λ counts c. started (begun c)) (λ counts c. Some record { looks = most_looks c; others = 4 })
     (λ counts c n is. most_so c n is)
+
+-- neither look-ups nor replies add anything
+pub names_never_grow : (c : Counts) (m : Memory) (op : OpId) (p : Program) → names_bounding.grown c m op p ≡ none
+names_never_grow c m op (Comes a) = refl
+names_never_grow c m op (Goes (Way d n ns o)) = refl
+names_never_grow c m op (Goes (There s)) = refl

@@ -1,5 +1,5 @@
 -- each command of a run is short
-use Rattle.std.proofs.Common.{◌≡◌, ◌≤◌, ◌+◌, Bool, true, false, not, ◌&&◌, Some, None, List, [], ◌∷◌, refl, subst, arith}
+use Rattle.std.proofs.Common.{◌≡◌, ◌≤◌, ◌+◌, Bool, true, false, not, ◌&&◌, Some, None, List, [], ◌∷◌, refl, subst, arith, ap}
 use Rattle.std.proofs.lemmas.List.Sums.{sum_by-cons}
 use Rattle.tect_ids.specs.declared.ids.Counts.{Counts}
 use Rattle.tect_ids.specs.declared.ids.OpId.{OpId}
@@ -17,7 +17,7 @@ use Rattle.fall_laws.specs.Counting.{is_look, is_no_look, is_look_of, is_other_o
 use Rattle.fall_laws.specs.Bounding.{one_if, Many, none, added, TakesAtMost, RunsAreShort}
 use Rattle.fall_laws.proofs.RunsFall.{taken_more, nothing_grows, runs_are_short}
 use Rattle.names_told.specs.NamesBounding.{most_looks, names_bounding}
-use Rattle.names_told.proofs.NamesFall.{names_fall_so}
+use Rattle.names_told.proofs.NamesFall.{names_fall_so, names_never_grow}
 use Rattle.run_claims.specs.Bounds.{IsShort}
 
 -- ---- looks, and other transactions
@@ -67,8 +67,10 @@ short_so = runs_are_short Program programs names_bounding names_fall_so
 -- nothing is added to what they take
 adds_nothing : (counts : Counts) (history : List Event) (op : OpId) → added programs names_bounding counts history op ≡ none
 adds_nothing counts history op i = record {
-  looks = nothing_grows Program programs (λ c m o p. 0) (λ c q x. 0) (λ c m o p. refl) (λ c q x. refl) history (opening counts) op i;
-  others = nothing_grows Program programs (λ c m o p. 0) (λ c q x. 0) (λ c m o p. refl) (λ c q x. refl) history (opening counts) op i;
+  looks = nothing_grows Program programs (λ c m o p. (names_bounding.grown c m o p).looks) (λ c q x. 0)
+      (λ c m o p. ap (λ (n : Many). n.looks) (names_never_grow c m o p)) (λ c q x. refl) history (opening counts) op i;
+  others = nothing_grows Program programs (λ c m o p. (names_bounding.grown c m o p).others) (λ c q x. 0)
+      (λ c m o p. ap (λ (n : Many). n.others) (names_never_grow c m o p)) (λ c q x. refl) history (opening counts) op i;
 }
 
 -- each command of a run is short

@@ -22,9 +22,9 @@ use Rattle.world_runs.specs.Moments.{WorldState, May, after}
 use Rattle.world_runs.proofs.Actors.{changed_there}
 use Rattle.world_runs.proofs.Standings.{Asking, asks_of, went_on_number}
 use Rattle.fall_laws.specs.Counting.{is_look, is_no_look}
-use Rattle.fall_laws.specs.Bounding.{one_if, Falls}
+use Rattle.fall_laws.specs.Bounding.{Many, none, one_if, Falls}
 use Rattle.names_told.specs.NamesBounding.{names_bounding}
-use Rattle.names_told.proofs.NamesFall.{names_fall_so}
+use Rattle.names_told.proofs.NamesFall.{names_fall_so, names_never_grow}
 
 -- the op runs, and stands so
 pub record Runs (m : WorldState Program) (op : OpId) (at : Standing Program) : Type 0 where
@@ -70,10 +70,23 @@ module _ (m : WorldState Program) (op : OpId) (q : AnyReq) (x : AnyReply) (p : P
     one_less : Falls programs names_bounding m.counts s.memory op p q x
     one_less = names_fall_so.falls m.counts s.memory op p q x asks
 
+    nothing_grows : names_bounding.grown m.counts s.memory op p ≡ none
+    nothing_grows = names_never_grow m.counts s.memory op p
+
+    looks_fall : one_if (is_look q) + (names_bounding.left (state_heard programs.kind m.counts s.memory op p q x)).looks
+        ≤ (names_bounding.left p).looks
+    looks_fall = let grown : (names_bounding.grown m.counts s.memory op p).looks ≡ 0 = ap (λ (n : Many). n.looks) nothing_grows in
+        omega (arith, one_less.looks, grown)
+
+    others_fall : one_if (is_no_look q) + (names_bounding.left (state_heard programs.kind m.counts s.memory op p q x)).others
+        ≤ (names_bounding.left p).others
+    others_fall = let grown : (names_bounding.grown m.counts s.memory op p).others ≡ 0 = ap (λ (n : Many). n.others) nothing_grows in
+        omega (arith, one_less.others, grown)
+
     falls_by : (h : Heard) → left (standing_heard programs m.counts s.memory op (Goes p) q x h) + 1 ≤ left (Goes p)
-    falls_by hearing.Whole = omega (arith, one_less.looks, one_less.others, one_of_both (is_look q))
-    falls_by hearing.Unkept = omega (arith, one_less.looks, one_less.others, one_of_both (is_look q))
-    falls_by hearing.Left = omega (arith, one_less.looks, one_less.others, one_of_both (is_look q))
+    falls_by hearing.Whole = omega (arith, looks_fall, others_fall, one_of_both (is_look q))
+    falls_by hearing.Unkept = omega (arith, looks_fall, others_fall, one_of_both (is_look q))
+    falls_by hearing.Left = omega (arith, looks_fall, others_fall, one_of_both (is_look q))
 
     pub program_acts : (h : Heard) → Runs m op (Goes p) → GoesOn m (Own op (Acted q x h)) op (Goes p)
     program_acts h r = record {
