@@ -1,5 +1,5 @@
 -- the tree has made no more than was made in the past of the store
-use Rattle.std.proofs.Common.{◌≡◌, Bool, true, false, Option, Some, None, List, [], ◌∷◌, ◌++◌, is_some, refl, sym, subst, arith}
+use Rattle.std.proofs.Common.{◌≡◌, Bool, true, false, Option, Some, None, List, [], ◌∷◌, is_some, refl, arith}
 use Rattle.std.specs.FinMap.{get}
 use Rattle.tect_ids.specs.declared.ids.DirId.{DirId}
 use Rattle.tect_ids.specs.declared.ids.FileId.{FileId}
@@ -79,7 +79,8 @@ module _ (s : Store) (g : Ghost) (t : Tree) (op : OpId) where
   dir_within d p h k within = at (is_some (get s.names.dirs d)) refl
     where
       at : (b : Bool) → is_some (get s.names.dirs d) ≡ b
-          → WithinPast (ghost_next s g (any.Name (names.MakeDir d p h k))) (tree_after t (steps_by s op (any.Name (names.MakeDir d p h k)))).made
+          → WithinPast (ghost_next s g (any.Name (names.MakeDir d p h k)))
+          (tree_after t (steps_by s op (any.Name (names.MakeDir d p h k)))).made
       at true is = rw is within
       at false is = rw is (λ n un. grind (arith, maps, within n))
 
@@ -94,11 +95,13 @@ module _ (s : Store) (g : Ghost) (t : Tree) (op : OpId) where
 
   -- ---- each request
 
-  said_next : (st : TreeStep) (q : AnyReq) → (tree_change t op st).made ≡ t.made → (tree_next t op st (says (store_reply s q))).made ≡ t.made
+  said_next : (st : TreeStep) (q : AnyReq) → (tree_change t op st).made ≡ t.made
+      → (tree_next t op st (says (store_reply s q))).made ≡ t.made
   said_next st q e = same_next t op st (says (store_reply s q)) e
 
   name_within : (q : NameReq) → StaysWithin s g t op (any.Name q)
-  name_within (names.CheckDir d) = makes_none (any.Name (names.CheckDir d)) refl (said_next (step.Check d) (any.Name (names.CheckDir d)) refl)
+  name_within (names.CheckDir d) =
+      makes_none (any.Name (names.CheckDir d)) refl (said_next (step.Check d) (any.Name (names.CheckDir d)) refl)
   name_within (names.Look k) = makes_none (any.Name (names.Look k)) refl (said_next (step.Look k) (any.Name (names.Look k)) refl)
   name_within (names.List d) = makes_none (any.Name (names.List d)) refl (said_next (step.List d) (any.Name (names.List d)) refl)
   name_within (names.MakeDir d p h k) = dir_within d p h k
@@ -132,8 +135,9 @@ settled_within op None (Some a) g made within = within
 settled_within op (Some b) now g made within = within
 
 module _ {S : Type 0} (P : Programs S) (D : Deciding S Answer) where
-  acted_within : (m : WorldState S) (g : Ghost) (t : Tree) (op : OpId) (q : AnyReq) (x : AnyReply) (h : Heard) → May P m (Own op (Acted q x h))
-      → WithinPast g t.made → WithinPast (ghost_after P D m g (Own op (Acted q x h))) (tree_after t (told_of (Own op (Acted q x h)))).made
+  acted_within : (m : WorldState S) (g : Ghost) (t : Tree) (op : OpId) (q : AnyReq) (x : AnyReply) (h : Heard)
+      → May P m (Own op (Acted q x h)) → WithinPast g t.made
+      → WithinPast (ghost_after P D m g (Own op (Acted q x h))) (tree_after t (told_of (Own op (Acted q x h)))).made
   acted_within m g t op q x h may within =
       rw may.1 (settled_within op _ _ (ghost_next m.store g q) _ (request_within m.store g t op q within))
 

@@ -1,5 +1,5 @@
 -- at each moment of a run the tree follows, and a past of the store is sound that made no less
-use Rattle.std.proofs.Common.{◌≡◌, Some, List, [], ◌∷◌, sym, subst}
+use Rattle.std.proofs.Common.{List, [], ◌∷◌, sym, subst}
 use Rattle.tect_ids.specs.declared.ids.Counts.{Counts}
 use Rattle.tect_ids.specs.declared.ids.OpId.{OpId}
 use Rattle.tect_ids.specs.declared.answer.Answer.{Answer}
@@ -88,8 +88,7 @@ module _ {S : Type 0} (P : Programs S) (D : Deciding S Answer) (N : Known S Answ
   run_tracked (e ∷ es) m t tracks run =
       let now : Tracks N (after P m e) (tree_after t (told_of e)) × IsTreeRun t (told_of e) = event_tracked m t tracks e run.0 in
       let rest : Tracks N (after_all P (after P m e) es) (tree_after (tree_after t (told_of e)) (tree_steps es))
-      × IsTreeRun (tree_after t (told_of e)) (tree_steps es) = run_tracked es (after P m e) (tree_after t (told_of e)) now.0 run.1 in
-      (
+      × IsTreeRun (tree_after t (told_of e)) (tree_steps es) = run_tracked es (after P m e) (tree_after t (told_of e)) now.0 run.1 in (
         subst (λ (u : Tree). Tracks N (after_all P (after P m e) es) u) (sym (tree_after-append t (told_of e) (tree_steps es))) rest.0,
         tree_run-append t (told_of e) (tree_steps es) now.1 rest.1,
       )
