@@ -204,7 +204,8 @@ pub plain_after : (c : Counts) (m : Memory) (op : OpId) (p : Program) (x : AnyRe
 plain_after c m op (Goes (Way d n ns o)) x plain =
     plain_walked (request_place c (walk_asks {O = Operation} operations c m op (Way d n ns o))) (key_in d n) ns o x (as_found x)
 plain_after c m op (Goes (There s)) x plain =
-    plain_within There IsPlainOperation IsPlainWalking (λ t p. p) _ (plain_operation c m op s (walk_asks {O = Operation} operations c m op (There s)) x plain)
+    plain_within There IsPlainOperation IsPlainWalking (λ t p. p) _
+    (plain_operation c m op s (walk_asks {O = Operation} operations c m op (There s)) x plain)
 plain_after c m op (Comes a) x plain = plain
 
 plain_started : (b : Begun) → IsPlainState (started b)

@@ -13,7 +13,8 @@ use Rattle.program_rules.specs.declared.states.Rename.{Rename}
 use Rattle.program_rules.specs.declared.states.Rename.TheVariants as renaming
 use Rattle.program_rules.specs.declared.operation.Operation.{Operation}
 use Rattle.program_rules.specs.declared.operation.OperationState.{OperationState}
-use Rattle.program_rules.specs.declared.operation.OperationState.TheVariants.{Look, List, Make as Making, Delete as Deleting, Rename as Renaming}
+use Rattle.program_rules.specs.declared.operation.OperationState.TheVariants.{Look, List}
+use Rattle.program_rules.specs.declared.operation.OperationState.TheVariants.{Make as Making, Delete as Deleting, Rename as Renaming}
 use Rattle.program_rules.specs.Served.{Program}
 
 abbrev pub IsPlainNext : {S : Type 0} → (S → Type 0) → Next S Answer → Type 0

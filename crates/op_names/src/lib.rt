@@ -1,5 +1,5 @@
-//! The commands on names as code: the requests that a command makes, one at a time, and how it goes on at each reply. The state of a running
-//! command holds the tokens that its next request needs, and each reply gives those that the request after it needs.
+//! The commands on names as code: the requests that a command makes, one at a time, and how it goes on at each reply. The state of a
+//! running command holds the tokens that its next request needs, and each reply gives those that the request after it needs.
 #![tactic(auto)]
 
 // A part within another: where it goes on, the other is in that state of it.

@@ -80,7 +80,8 @@ pub fn ask(make: &Make, memory: &Memory, op: OpId) -> Result<Asked, NoMemory>
 /// Where it goes on at the reply to its request.
 pub fn hear(make: Make, memory: &Memory, op: OpId, reply: &AnyReply) -> Next<Make, Answer>
     ensures { result
-        ≡ make_hears (request_place memory.now.counts (make_asks op (number_for memory.now op) make)) op (number_for memory.now op) make reply.now }
+        ≡ make_hears (request_place memory.now.counts (make_asks op (number_for memory.now op) make)) op (number_for memory.now op)
+        make reply.now }
 {
     match make {
         Make::New { kind, dir, name } => {

@@ -9,7 +9,9 @@ returns-clause-way c =
 pub returns-clause-last : goal.returns-clause-last
 returns-clause-last c =
     let names = c.into_vec-names.result in
-    let IsLast : List (List ℕ) → Type 0 = λ p. (d : List ℕ) → 0 < vec_len names → c.pop-last.result ≡ Some (slice_index_or p (vec_len names - 1) d) in
+    let IsLast : List (List ℕ) → Type 0 =
+    λ p. (d : List ℕ) → 0 < vec_len names → c.pop-last.result ≡ Some (slice_index_or p (vec_len names - 1) d) in
     let count : vec_len names ≡ length names.items = search rules in
-    last_is c.args.path c.pop-last.new.self.items c.pop-last.result (vec_len names) (sym c.into_vec-names.ensures ∙ c.pop-last.ensures.items)
+    last_is c.args.path c.pop-last.new.self.items c.pop-last.result (vec_len names)
+    (sym c.into_vec-names.ensures ∙ c.pop-last.ensures.items)
     (count ∙ ap length c.into_vec-names.ensures) (subst IsLast c.into_vec-names.ensures c.pop-last.ensures.value)
