@@ -7,12 +7,12 @@ cd "$(dirname "$0")/../crates" || exit 1
 command=${1:-Rename}
 served=program_rules/specs/Served.antt
 # Its operation, where that has another name, as it begins: `begun (commands.COMMAND ..) = .. operation.OPERATION ..`.
-operation=$(sed -n "s/^begun (commands\.$command[ )].*operation\.\([A-Z][A-Za-z]*\).*/\1/p" $served)
+operation=$(sed -n "s/^begun (commands\.${command}[ )].*operation\.\([A-Z][A-Za-z]*\).*/\1/p" $served)
 named="\\b($command${operation:+|$operation})\\b"
 # The variants of Command that are not served; every type is one that can be dropped, so Drop tells nothing.
 planned=$(sed -n '/^pub enum Command/,/^}/s/^    \([A-Z][A-Za-z]*\).*/\1/p' tect_ids/src/command.rt |
     while IFS= read -r variant; do
-        [ "$variant" = Drop ] || grep -q "^is_served (commands\.$variant[ )]" $served || printf '%s|' "$variant"
+        [ "$variant" = Drop ] || grep -q "^is_served (commands\.${variant}[ )]" $served || printf '%s|' "$variant"
     done)
 planned="\\b(${planned%|})\\b"
 

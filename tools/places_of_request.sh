@@ -23,7 +23,7 @@ esac
 
 # Whether the file names a word of these types: behind a type or another name of its variants, in an import of variants, or where it is declared.
 names() {
-    types=$1 words=$(echo $2 | tr ' ' '|') file=$3
+    types=$1 words=$(echo "$2" | tr ' ' '|') file=$3
     [ -n "$words" ] || return 1
     others=$(sed -n -E "s/.*\\b($types)\\.TheVariants as ([a-z_]+).*/\\2/p" "$file" | sort -u | tr '\n' '|')
     grep -qE "\\b($types)(::|\\.)($words)\\b|\\b($types)\\.TheVariants\\.\\{([^}]*[ ,{])?($words)\\b" "$file" && return 0
