@@ -141,7 +141,8 @@ module _ {S : Type 0} (P : Programs S) (D : Deciding S Answer) (N : Known S Answ
       after_reply = settled_later v op (D.decided st) (standing_decided D (standing_heard P m.counts me.memory op (Goes st) q x h))
 
       sound_then : Sound (u h)
-      sound_then = settled_sound v op (D.decided st) (standing_decided D (standing_heard P m.counts me.memory op (Goes st) q x h)) kept.sound
+      sound_then = settled_sound v op (D.decided st) (standing_decided D (standing_heard P m.counts me.memory op (Goes st) q x h))
+          kept.sound
 
       -- so it touched its own alone
       own_later : Later (by_op op mem) w (u h)
@@ -251,7 +252,8 @@ module _ {S : Type 0} (P : Programs S) (D : Deciding S Answer) (N : Known S Answ
         let part : Remembers (world_of m g) op.actor (m.actors a).memory = rw own (s.actors a).remembers in
         let t : Remembers (world_of m g) op.actor (turned P.kind m.counts (m.actors a).memory op st).memory
         × ((turned P.kind m.counts (m.actors a).memory op st).memory.serial ≡ (m.actors a).memory.serial)
-        × N.Knows (world_of m g) op (turned P.kind m.counts (m.actors a).memory op st).memory (turned P.kind m.counts (m.actors a).memory op st).state
+        × N.Knows (world_of m g) op (turned P.kind m.counts (m.actors a).memory op st).memory
+        (turned P.kind m.counts (m.actors a).memory op st).state
         = laws.kind.turns m.counts (world_of m g) op (m.actors a).memory st s.sound part k in
         (subst (λ (b : ℕ). Remembers (world_of m g) b (turned P.kind m.counts (m.actors a).memory op st).memory) own t.0, t.1)
     end_by op Left own k = ((s.actors a).remembers, refl)

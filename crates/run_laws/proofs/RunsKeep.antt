@@ -110,8 +110,8 @@ module _ {S : Type 0} (P : Programs S) (D : Deciding S Answer) (N : Known S Answ
         let k : RunsSoundly N (world_of m g) op.actor (m.actors op.actor).memory (m.actors op.actor).number r
         = knows_of m g s op.actor r runs.is in
         standing_plain r runs r.at
-        (subst (λ (o : OpId). RunsSoundly N (world_of m g) op.actor (m.actors op.actor).memory (m.actors op.actor).number record { op = o; at = r.at })
-        runs.same k)
+        (subst (λ (o : OpId). RunsSoundly N (world_of m g) op.actor (m.actors op.actor).memory (m.actors op.actor).number
+        record { op = o; at = r.at }) runs.same k)
         (subst (λ (o : OpId). answer_in (standing_does P m.counts (m.actors op.actor).memory o r.at) ≡ Some a) runs.same is)
 
   -- no run answers that a reply was odd

@@ -50,7 +50,8 @@ module _ (w v : World) (op : OpId) (m : Memory) (q : AnyReq) (meets : Meets w op
         dir = λ i le. touches_none (role q).makes e _;
       }
   serial_by true e =
-      let more : (always m q (store_reply w.store q)).serial ≡ m.serial + 1 = rw ((role_laws q).told v (store_reply w.store q) e kept.taught) refl in
+      let more : (always m q (store_reply w.store q)).serial ≡ m.serial + 1 =
+      rw ((role_laws q).told v (store_reply w.store q) e kept.taught) refl in
       let next : m.serial ≤ op.number = meets.next e in
       record {
         grows = rw more (omega arith);

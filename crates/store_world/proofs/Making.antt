@@ -72,7 +72,8 @@ module _ (w : World) (s : Sound w) (f : FileId) (h : Hold) (k : Key) (t : Option
 
 pub make_file_row : (f : FileId) (h : Hold) (k : Key) (t : Option OpId) → Row (any.File (files.MakeFile f h k t))
 make_file_row f h k t = record {
-  kept = λ w s needs. by_answer w (any.File (files.MakeFile f h k t)) _ refl (file_not_refused w s f h k t needs) (file_made w s f h k t needs);
+  kept = λ w s needs. by_answer w (any.File (files.MakeFile f h k t)) _ refl (file_not_refused w s f h k t needs)
+      (file_made w s f h k t needs);
   laws = makes_one (any.File (files.MakeFile f h k t)) record { node = File f; hold = h; key = k } refl (λ w needs. needs.1) refl
       (λ v x t. t);
 }
@@ -154,7 +155,8 @@ module _ (w : World) (s : Sound w) (d up : DirId) (h : Hold) (k : Key) (needs : 
 
 pub make_dir_row : (d up : DirId) (h : Hold) (k : Key) → Row (any.Name (names.MakeDir d up h k))
 make_dir_row d up h k = record {
-  kept = λ w s needs. by_answer w (any.Name (names.MakeDir d up h k)) _ refl (dir_not_refused w s d up h k needs) (dir_made w s d up h k needs);
+  kept = λ w s needs. by_answer w (any.Name (names.MakeDir d up h k)) _ refl (dir_not_refused w s d up h k needs)
+      (dir_made w s d up h k needs);
   laws = makes_one (any.Name (names.MakeDir d up h k)) record { node = Dir d; hold = h; key = k } refl (λ w needs. needs.1) refl
       (λ v x t. t);
 }

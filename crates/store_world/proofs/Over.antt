@@ -1,4 +1,5 @@
--- giving up, where the answer of an op is decided, keeps a world sound: what is bound stays, and nothing asks that a hold may still be bound
+-- giving up, where the answer of an op is decided, keeps a world sound: what is bound stays, and nothing asks that a hold may still be
+-- bound
 use Rattle.std.proofs.Common.{◌≡◌, Bool, true, false, if◌then◌else◌, Option, Some, None, refl, subst}
 use Rattle.tect_ids.specs.declared.ids.Hold.{Hold}
 use Rattle.tect_ids.specs.declared.ids.Node.{Node}
