@@ -62,8 +62,10 @@ pub record FileRule : Type 0 where
 abbrev pub file_rule : FileReq → FileRule
 file_rule (req.MakeFile f h k t) =
     record { file = f; answer = λ s. make_file_answer s f; change = λ s. make_file_change s f h k t; free = false }
-file_rule (req.Grant f h k) = record { file = f; answer = λ s. grant_file_answer s f; change = λ s. grant_file_change s f h k; free = false }
-file_rule (req.Release f h) = record { file = f; answer = λ s. release_file_answer s f h; change = λ s. release_file_change s f h; free = true }
+file_rule (req.Grant f h k) =
+    record { file = f; answer = λ s. grant_file_answer s f; change = λ s. grant_file_change s f h k; free = false }
+file_rule (req.Release f h) =
+    record { file = f; answer = λ s. release_file_answer s f h; change = λ s. release_file_change s f h; free = true }
 
 abbrev pub file_answer : Files → FileReq → Outcome FileReply
 file_answer s q = (file_rule q).answer s

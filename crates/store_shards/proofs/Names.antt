@@ -92,7 +92,8 @@ module _ (here : DirId → Bool) (s w : Names) (is : KeepsNames here s w) where
   local (req.Look k) = reads k.dir _ _ (λ own. rw (own_dir k.dir own, own_entry k own))
   local (req.List d) = reads d _ _ (λ own. rw (own_dir d own, same_within d own))
   local (req.MakeDir d p h k) =
-      sets_dir d (λ x. Some record { parent = p; sealed = false; holds = set_at empty h (Some (uppers.Entry k)) }) _ _ (λ own. rw (own_dir d own))
+      sets_dir d (λ x. Some record { parent = p; sealed = false; holds = set_at empty h (Some (uppers.Entry k)) }) _ _
+      (λ own. rw (own_dir d own))
   local (req.Bind k n h o) =
       sets_entry k _ _ _ (λ own. rw (own_dir k.dir own, own_entry k own, bind_over_same k own (get w.entries k) o))
   local (req.Swap d from to n h) = record {
