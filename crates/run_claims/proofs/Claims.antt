@@ -1,5 +1,5 @@
 -- a run within its limits is all that is claimed of a history
-use Rattle.std.proofs.Common.{◌≡◌, ◌≢◌, ℕ, Some, List, take, ap, ◌∙◌}
+use Rattle.std.proofs.Common.{◌≡◌, ◌≢◌, ℕ, Some, List, take, ap, subst, ◌∙◌}
 use Rattle.std.specs.List.{slice_get}
 use Rattle.tect_ids.specs.declared.ids.Counts.{Counts}
 use Rattle.tect_ids.specs.declared.ids.OpId.{OpId}
@@ -12,11 +12,16 @@ use Rattle.world_runs.specs.declared.event.Event.TheVariants.{Own}
 use Rattle.world_runs.specs.declared.event.Happening.TheVariants.{Ended}
 use Rattle.world_runs.specs.Moments.{WorldState, May, IsWorldRun, moment, opening}
 use Rattle.world_runs.proofs.Fronts.{front_runs, may_at}
-use Rattle.tree_runs.proofs.Headlines.{run_headline}
+use Rattle.claim_words.specs.Sound.{AfterEachFront}
+use Rattle.telling_laws.specs.View.{Shows}
+use Rattle.telling_laws.specs.Telling.{tree_of}
+use Rattle.world_runs.proofs.Owns.{store_is_after}
+use Rattle.store_rules.specs.Store.{Store}
+use Rattle.tree_runs.proofs.Headlines.{shown_so, run_headline}
 use Rattle.run_claims.proofs.RunsKeep.{no_run_answers_odd, sound_at_each_moment, granted_at_each_moment}
 use Rattle.run_claims.proofs.RunsShort.{each_is_short}
 use Rattle.run_claims.proofs.Complete.{is_complete}
-use Rattle.run_claims.specs.Claims.{EveryRunIsClaimed}
+use Rattle.run_claims.specs.Claims.{ShowsTree, EveryRunIsClaimed}
 
 no_end_is_odd : (counts : Counts) (history : List Event) → IsWorldRun programs counts history → (op : OpId) (a : Answer) (n : ℕ)
     → slice_get history n ≡ Some (Own op (Ended a))
@@ -27,12 +32,19 @@ no_end_is_odd counts history run op a n at place odd =
     let may : May programs m (Own op (Ended a)) = may_at programs (opening counts) history n (Own op (Ended a)) run at in
     no_run_answers_odd counts (take n history) front op place (may.0 ∙ ap (λ (b : Answer). Some b) odd)
 
+-- the store shows the tree at each moment
+shown_at_each_moment : (counts : Counts) (history : List Event) → IsWorldRun programs counts history → AfterEachFront ShowsTree history
+shown_at_each_moment counts history run n =
+    subst (λ (s : Store). Shows s (tree_of (take n history))) (store_is_after programs (opening counts) (take n history))
+    (shown_so counts (take n history) (front_runs programs n history (opening counts) run))
+
 pub every_run_is_claimed : EveryRunIsClaimed
 every_run_is_claimed counts history run limits = record {
   run = run;
   limits = limits;
   sound = sound_at_each_moment counts history run;
   granted = granted_at_each_moment counts history run;
+  shown = shown_at_each_moment counts history run;
   answers = run_headline counts history run;
   not_odd = no_end_is_odd counts history run;
   short = each_is_short counts history run;

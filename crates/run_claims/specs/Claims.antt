@@ -9,7 +9,11 @@ use Rattle.tect_ids.specs.declared.command.Command.{Command}
 use Rattle.world_runs.specs.declared.event.Event.{Event}
 use Rattle.world_runs.specs.declared.event.Event.TheVariants.{Own}
 use Rattle.world_runs.specs.declared.event.Happening.TheVariants.{Ended}
+use Rattle.store_rules.specs.Store.{opening_store}
 use Rattle.program_rules.specs.Served.{programs}
+use Rattle.world_runs.specs.OwnRuns.{stored_after}
+use Rattle.telling_laws.specs.View.{Shows}
+use Rattle.telling_laws.specs.Telling.{tree_of}
 use Rattle.claim_words.specs.Headline.{Headline, command_of}
 use Rattle.claim_words.specs.Sound.{IsSound, AfterEachFront}
 use Rattle.claim_words.specs.Granted.{GrantedHoldsAreListed}
@@ -18,8 +22,12 @@ use Rattle.world_runs.specs.Limits.{KeepsLimits}
 use Rattle.run_claims.specs.Bounds.{IsShort}
 use Rattle.run_claims.specs.Complete.{IsComplete}
 
--- It is a run of the world, within the limits of its actors' histories. The store is sound at each moment, and lists each hold that was
--- granted and neither bound nor given up; each answer is the one that the tree gives at the command's point, or says that there was no
+-- the store, without its holds, is the tree that the small machine's steps made
+abbrev pub ShowsTree : List Event → Type 0
+ShowsTree history = Shows (stored_after opening_store history) (tree_of history)
+
+-- It is a run of the world, within the limits of its actors' histories. The store is sound at each moment, lists each hold that was
+-- granted and neither bound nor given up, and shows the small machine's tree; each answer is the one that the tree gives at the command's point, or says that there was no
 -- room to begin; none says that a reply was odd; each command takes few transactions; and one that met nothing that refused it has
 -- succeeded.
 pub record IsHistory (counts : Counts) (history : List Event) : Type 0 where
@@ -27,6 +35,7 @@ pub record IsHistory (counts : Counts) (history : List Event) : Type 0 where
   pub limits : KeepsLimits programs counts history
   pub sound : AfterEachFront IsSound history
   pub granted : AfterEachFront GrantedHoldsAreListed history
+  pub shown : AfterEachFront ShowsTree history
   pub answers : Headline history
   pub not_odd : (op : OpId) (a : Answer) (n : ℕ) → slice_get history n ≡ Some (Own op (Ended a)) → (place : Place) → a ≢ Odd place
   pub short : (op : OpId) (c : Command) → command_of history op ≡ Some c → IsShort history op c
