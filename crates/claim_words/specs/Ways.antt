@@ -1,5 +1,5 @@
 -- The paths of commands on names.
-use Rattle.std.specs.Prelude.{ℕ, List, []}
+use Rattle.std.specs.Prelude.{ℕ, max, List, [], length}
 use Rattle.tect_ids.specs.declared.command.Command.{Command}
 use Rattle.tect_ids.specs.declared.command.Command.TheVariants as commands
 use Rattle.tect_ids.specs.Paths.{but_last}
@@ -23,3 +23,7 @@ first_path (commands.Mkdir p) = p
 first_path (commands.Delete p) = p
 first_path (commands.Rename p to) = p
 first_path _ = []
+
+-- at most how many names a command looks up: each of its path, and one for a path without names
+abbrev pub most_looks : Command → ℕ
+most_looks c = max (length (first_path c)) 1

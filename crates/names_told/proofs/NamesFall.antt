@@ -14,7 +14,8 @@ use Rattle.program_rules.specs.Served.{Begun, Walks, LacksName, begun, started, 
 use Rattle.fall_laws.specs.Bounding.{Many, AtMost, FallLaws, none}
 use Rattle.fall_laws.specs.Parts.{next_left, never_grows, walk_left}
 use Rattle.fall_laws.proofs.PartsFall.{walk_on_left, walk_falls, part_fall_laws}
-use Rattle.names_told.specs.NamesBounding.{operation_left, most_of, most_looks, names_bounding}
+use Rattle.claim_words.specs.Ways.{most_looks}
+use Rattle.names_told.specs.NamesBounding.{operation_left, most_of, names_bounding}
 use Rattle.names_told.proofs.OperationsFall.{operations_fall, begins_at_most}
 
 -- a walk takes a look for each name, and then what its operation takes

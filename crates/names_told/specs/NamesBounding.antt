@@ -1,5 +1,5 @@
 -- How many transactions a command on names takes: a look for each name of its path, and at most four others.
-use Rattle.std.specs.Prelude.{ℕ, max, Some, length}
+use Rattle.std.specs.Prelude.{ℕ, Some}
 use Rattle.tect_ids.specs.declared.command.Command.{Command}
 use Rattle.program_rules.specs.declared.states.Look.{Look}
 use Rattle.program_rules.specs.declared.states.List.{List}
@@ -14,7 +14,7 @@ use Rattle.program_rules.specs.declared.operation.Operation.TheVariants as opera
 use Rattle.program_rules.specs.declared.operation.OperationState.{OperationState}
 use Rattle.program_rules.specs.declared.operation.OperationState.TheVariants as states
 use Rattle.program_rules.specs.Served.{Program}
-use Rattle.claim_words.specs.Ways.{first_path}
+use Rattle.claim_words.specs.Ways.{most_looks}
 use Rattle.fall_laws.specs.Bounding.{Many, Bounding}
 use Rattle.fall_laws.specs.Parts.{never_grows, next_bounding, walk_bounding, release_left}
 
@@ -65,10 +65,6 @@ most_of (operation.Delete n) = others 2
 most_of (operation.Rename from to) = record { looks = 1; others = 4 }
 
 -- ---- of a running command, which first walks
-
--- one look for each name of its path, and one for a path without names
-abbrev pub most_looks : Command → ℕ
-most_looks c = max (length (first_path c)) 1
 
 -- neither look-ups nor replies add anything
 abbrev pub names_bounding : Bounding Program

@@ -16,7 +16,8 @@ use Rattle.claim_words.specs.Headline.{command_of}
 use Rattle.fall_laws.specs.Counting.{is_look, is_no_look, is_look_of, is_other_of, looks_of, others_of}
 use Rattle.fall_laws.specs.Bounding.{one_if, Many, none, added, TakesAtMost, RunsAreShort}
 use Rattle.fall_laws.proofs.RunsFall.{taken_more, nothing_grows, runs_are_short}
-use Rattle.names_told.specs.NamesBounding.{most_looks, names_bounding}
+use Rattle.claim_words.specs.Ways.{most_looks}
+use Rattle.names_told.specs.NamesBounding.{names_bounding}
 use Rattle.names_told.proofs.NamesFall.{names_fall_so, names_never_grow}
 use Rattle.run_claims.specs.Bounds.{IsShort}
 

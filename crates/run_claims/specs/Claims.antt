@@ -13,7 +13,8 @@ use Rattle.store_rules.specs.Store.{opening_store}
 use Rattle.program_rules.specs.Served.{programs}
 use Rattle.world_runs.specs.OwnRuns.{stored_after}
 use Rattle.telling_laws.specs.View.{Shows}
-use Rattle.telling_laws.specs.Telling.{tree_of}
+use Rattle.tree_model.specs.Tree.{opening_tree}
+use Rattle.claim_words.specs.TreeSteps.{tree_steps, tree_after}
 use Rattle.claim_words.specs.Headline.{Headline, command_of}
 use Rattle.claim_words.specs.Sound.{IsSound, AfterEachFront}
 use Rattle.claim_words.specs.Granted.{GrantedHoldsAreListed}
@@ -24,12 +25,12 @@ use Rattle.run_claims.specs.Complete.{IsComplete}
 
 -- the store, without its holds, is the tree that the small machine's steps made
 abbrev pub ShowsTree : List Event → Type 0
-ShowsTree history = Shows (stored_after opening_store history) (tree_of history)
+ShowsTree history = Shows (stored_after opening_store history) (tree_after opening_tree (tree_steps history))
 
 -- It is a run of the world, within the limits of its actors' histories. The store is sound at each moment, lists each hold that was
--- granted and neither bound nor given up, and shows the small machine's tree; each answer is the one that the tree gives at the command's point, or says that there was no
--- room to begin; none says that a reply was odd; each command takes few transactions; and one that met nothing that refused it has
--- succeeded.
+-- granted and neither bound nor given up, and shows the small machine's tree; each answer is the one that the tree gives at the command's
+-- point, or says that there was no room to begin; none says that a reply was odd; each command takes few transactions; and one that met
+-- nothing that refused it has succeeded.
 pub record IsHistory (counts : Counts) (history : List Event) : Type 0 where
   pub run : IsWorldRun programs counts history
   pub limits : KeepsLimits programs counts history
