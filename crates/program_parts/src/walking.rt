@@ -12,5 +12,7 @@ pub enum Walking<O, S> {
         operation: O,
     },
     /// The operation runs.
-    There { state: S },
+    There {
+        state: S,
+    },
 }
