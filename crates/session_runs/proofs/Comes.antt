@@ -11,6 +11,7 @@ use Rattle.store_rules.specs.declared.any.AnyReply.{AnyReply}
 use Rattle.store_rules.specs.Store.{store_reply, store_step}
 use Rattle.store_world.specs.Worlds as worlds
 use Rattle.store_world.specs.Requests.{Kept}
+use Rattle.store_world.proofs.Rows.{role_laws}
 use Rattle.tree_model.specs.declared.step.TreeStep.{TreeStep}
 use Rattle.tree_model.specs.Tree.{Tree, tree_reply}
 use Rattle.tect_calls.specs.declared.tokens.Freed.{Freed}
@@ -39,7 +40,6 @@ use Rattle.world_runs.proofs.Actors.{changed_there}
 use Rattle.script_runs.proofs.Histories.{IsActed, act_is}
 use Rattle.claim_words.specs.TreeSteps.{told_of, told_as, tree_steps, tree_step, says, tree_after, IsTreeRun}
 use Rattle.run_laws.specs.Pasts.{world_of}
-use Rattle.run_laws.proofs.Serials.{makes_none}
 use Rattle.telling_laws.proofs.Histories.{tree_after-append}
 use Rattle.session_runs.specs.Session.{Played}
 use Rattle.session_runs.proofs.Standings.{command_part, next_same, stands_after, went_on_as}
@@ -251,8 +251,8 @@ module _ (m : WorldState Program) (t : Tree) (op : OpId) (own : ℕ) (b : Answer
       no_step (nodes.File f) h = refl
 
       none_taken : (n : Node) (h : Hold) → serial_after own (release_ask n h) (store_reply m.store (release_ask n h)) ≡ own
-      none_taken (nodes.Dir d) h = rw (makes_none m.store (release_ask (nodes.Dir d) h) refl) refl
-      none_taken (nodes.File f) h = rw (makes_none m.store (release_ask (nodes.File f) h) refl) refl
+      none_taken (nodes.Dir d) h = rw ((role_laws (release_ask (nodes.Dir d) h)).untold m.store refl) refl
+      none_taken (nodes.File f) h = rw ((role_laws (release_ask (nodes.File f) h)).untold m.store refl) refl
 
   -- the hold of a file that was replaced is released
   pub then_goes : (o : Option Freed)
