@@ -21,8 +21,8 @@ use Rattle.program_parts.specs.Refused.{refusal}
 use Rattle.program_rules.specs.declared.states.Delete.{Delete}
 use Rattle.program_rules.specs.declared.states.Delete.TheVariants.{Unbind, Release}
 use Rattle.program_rules.specs.Delete.{delete, delete_decided, unbound}
-use Rattle.store_world.specs.Worlds.{World, next, settled}
-use Rattle.store_world.specs.Requests.{UnboundTaught}
+use Rattle.store_pasts.specs.Worlds.{World, next, settled}
+use Rattle.store_pasts.specs.Requests.{UnboundTaught}
 use Rattle.program_laws.specs.Known.{Deciding, Known, is_odd}
 use Rattle.part_laws.specs.Parts.{PartLaws, NextKnows, next_decided}
 use Rattle.part_laws.specs.Releases.{release_deciding, release_known}
@@ -59,14 +59,14 @@ unbind_waits : (k : Key) → WaitsAt delete delete_deciding delete_known (Unbind
 unbind_waits k = record {
   looks = λ c m op. refl;
   undecided = refl;
-  meets = λ c w op m sound r a new. plain w op m _ refl tt (nothing_own op m);
-  stays = λ by w v op m sound l apart new. new_stays by w v op l apart new;
-  goes_on = λ c w op m n sound r a new kept serial.
+  meets = λ c w op m r a new. plain w op m _ refl tt (nothing_own op m);
+  stays = λ by w v op m l apart new. new_stays by w v op l apart new;
+  goes_on = λ c w op m n r a new kept serial.
       let q : AnyReq = Name (names.Unbind k AnyFile) in
       unbound_knows (next w q) op n (request_place c q) k (store_reply w.store q) (as_unbound (store_reply w.store q))
       (unbind_not_odd w.store (request_place c q) k k AnyFile) kept.taught;
-  spends = λ c w op m sound r a new x h g now own is live. absurd (no_hold w op new h g own is);
-  grants = λ c w op m sound r a new kept h free touched granted. absurd (let f : false ≡ true = touched in cc);
+  spends = λ c w op m r a new x h g now own is live. absurd (no_hold w op new h g own is);
+  grants = λ c w op m r a new kept h free touched granted. absurd (let f : false ≡ true = touched in cc);
 }
 
 delete_at : (s : Delete) → LawsIn delete delete_deciding delete_known s

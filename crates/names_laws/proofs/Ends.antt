@@ -11,9 +11,9 @@ use Rattle.program_forms.specs.Memories.{Memory}
 use Rattle.program_parts.specs.declared.releasing.Releasing.{Releasing}
 use Rattle.program_parts.specs.Parts.{within}
 use Rattle.program_parts.specs.Releases.{then_release}
-use Rattle.store_world.specs.Worlds.{World, over, settled}
-use Rattle.store_world.specs.Sound.{IsGranted}
-use Rattle.store_world.proofs.Over.{over_spent}
+use Rattle.store_pasts.specs.Worlds.{World, over, settled}
+use Rattle.store_pasts.specs.Pasts.{IsGranted}
+use Rattle.store_pasts.proofs.Over.{over_spent}
 use Rattle.program_laws.specs.Known.{Deciding, Known, is_odd}
 use Rattle.part_laws.specs.Parts.{NextKnows, next_decided}
 use Rattle.part_laws.specs.Releases.{IsFreed, ReleaseKnows, release_deciding, release_known}

@@ -9,9 +9,9 @@ use Rattle.tect_ids.specs.declared.key.Key.{Key}
 use Rattle.tect_ids.specs.Keys.{op_eq, hold_eq}
 use Rattle.tect_ids.specs.Numbers.{own_hold}
 use Rattle.program_forms.specs.Memories.{Memory}
-use Rattle.store_world.specs.Worlds.{World, Given, Live}
-use Rattle.store_world.specs.Sound.{IsGranted}
-use Rattle.store_world.specs.Later.{Touched, Later}
+use Rattle.store_pasts.specs.Worlds.{World, Given, Live}
+use Rattle.store_pasts.specs.Pasts.{IsGranted}
+use Rattle.store_pasts.specs.Later.{Touched, Later}
 use Rattle.program_laws.specs.Known.{IsNewOp, IsApart}
 use Rattle.part_laws.specs.Walks.{OnItsWay}
 use Rattle.part_laws.proofs.Own.{same_op, is_same_hold, new_stays}

@@ -1,5 +1,6 @@
 -- the commands on names keep the laws of programs
-use Rattle.std.proofs.Common.{◌≤◌, refl}
+use Rattle.std.proofs.Common.{◌≡◌, ◌≤◌, true, refl}
+use Rattle.tect_ids.specs.declared.ids.Node.TheVariants.{Dir}
 use Rattle.tect_ids.specs.declared.ids.OpId.{OpId}
 use Rattle.tect_ids.specs.declared.answer.Answer.{Answer}
 use Rattle.tect_ids.specs.Numbers.{root}
@@ -10,8 +11,8 @@ use Rattle.program_rules.specs.declared.operation.Operation.{Operation}
 use Rattle.program_rules.specs.declared.operation.OperationState.{OperationState}
 use Rattle.program_rules.specs.Operations.{begins_in, operations}
 use Rattle.program_rules.specs.Served.{Begun, Walks, LacksName, programs, started, begun}
-use Rattle.store_world.specs.Worlds.{World}
-use Rattle.store_world.specs.Sound.{Sound}
+use Rattle.store_pasts.specs.Worlds.{World}
+use Rattle.store_pasts.specs.Pasts.{was_made}
 use Rattle.program_laws.specs.Known.{Deciding, Known, IsNewOp}
 use Rattle.program_laws.specs.Laws.{KindLaws, DecidedLaws, HoldLaws, ProgramLaws}
 use Rattle.part_laws.specs.Parts.{PartLaws, NextKnows}
@@ -41,15 +42,15 @@ pub names_hold_laws : HoldLaws (programs.kind) names_deciding names_known
 names_hold_laws = hold_laws names_laws
 
 -- a command begins at the root, which was made
-starts : (w : World) (op : OpId) (m : Memory) → Sound w → IsNewOp w op → m.serial ≤ op.number → (b : Begun)
+starts : (w : World) (op : OpId) (m : Memory) → was_made w.ghost (Dir root) ≡ true → IsNewOp w op → m.serial ≤ op.number → (b : Begun)
     → NextKnows walk_names w op m (started b)
-starts w op m sound new left (Walks p o) =
-    on_knows begins_in operations_laws begins_laws w op m root p o sound record { made = (sound.tree).root_made; new = new; left = left }
-starts w op m sound new left LacksName = refl
+starts w op m rooted new left (Walks p o) =
+    on_knows begins_in operations_laws begins_laws w op m root p o record { made = rooted; new = new; left = left }
+starts w op m rooted new left LacksName = refl
 
 pub names_program_laws : ProgramLaws programs names_deciding names_known
 names_program_laws = record {
   kind = names_kind_laws;
-  begins = λ c w op m k sound new left served. starts w op m sound new left (begun k);
+  begins = λ c w op m k rooted new left served. starts w op m rooted new left (begun k);
   plain = λ w a e. e;
 }

@@ -25,8 +25,8 @@ use Rattle.program_rules.specs.declared.states.Look.TheVariants.{Check, Entry}
 use Rattle.program_rules.specs.declared.states.List.{List}
 use Rattle.program_rules.specs.Look.{look, checked, looked}
 use Rattle.program_rules.specs.List.{list, listed}
-use Rattle.store_world.specs.Worlds.{World}
-use Rattle.store_world.specs.Requests.{touched_by}
+use Rattle.store_pasts.specs.Worlds.{World}
+use Rattle.store_pasts.specs.Requests.{touched_by}
 use Rattle.program_laws.specs.Known.{Deciding, Known, IsNewOp, Meets, is_odd}
 use Rattle.part_laws.specs.Parts.{PartLaws, NextKnows}
 use Rattle.part_laws.proofs.States.{WaitsAt, part_laws, waits}
@@ -53,11 +53,11 @@ reading_waits : {S : Type 0} (P : Part S Answer) (s : S) → ReadsAt P s → Wai
 reading_waits P s reads = record {
   looks = reads.looks;
   undecided = refl;
-  meets = λ c w op m sound r a k. reads.meets c w op m;
-  stays = λ by w v op m sound l apart k. new_stays by w v op l apart k;
-  goes_on = λ c w op m n sound r a k kept serial. reads.answers c w _ op m n;
-  spends = λ c w op m sound r a k x h g now own is live. absurd (no_hold w op k h g own is);
-  grants = λ c w op m sound r a k kept h free touched granted.
+  meets = λ c w op m r a k. reads.meets c w op m;
+  stays = λ by w v op m l apart k. new_stays by w v op l apart k;
+  goes_on = λ c w op m n r a k kept serial. reads.answers c w _ op m n;
+  spends = λ c w op m r a k x h g now own is live. absurd (no_hold w op k h g own is);
+  grants = λ c w op m r a k kept h free touched granted.
       absurd (let f : false ≡ true = sym (reads.touches c m op h) ∙ touched in cc);
 }
 

@@ -31,9 +31,9 @@ use Rattle.program_rules.specs.declared.states.NewNode.TheVariants as new
 use Rattle.program_rules.specs.declared.states.Make.{Make}
 use Rattle.program_rules.specs.declared.states.Make.TheVariants.{New, Bind, Release}
 use Rattle.program_rules.specs.Make.{make, make_decided, made, bound, over_of}
-use Rattle.store_world.specs.Worlds.{World, next, settled}
-use Rattle.store_world.specs.Later.{Touched, Later}
-use Rattle.store_world.specs.Requests.{BoundTaught, touched_by}
+use Rattle.store_pasts.specs.Worlds.{World, next, settled}
+use Rattle.store_pasts.specs.Later.{Touched, Later}
+use Rattle.store_pasts.specs.Requests.{BoundTaught, touched_by}
 use Rattle.program_laws.specs.Known.{Deciding, Known, IsApart, is_odd}
 use Rattle.part_laws.specs.Parts.{PartLaws, NextKnows, next_decided}
 use Rattle.part_laws.specs.Releases.{release_deciding, release_known}
@@ -77,10 +77,10 @@ file_waits : (d : DirId) (name : List ℕ) → WaitsAt make make_deciding make_k
 file_waits d name = record {
   looks = λ c m op. refl;
   undecided = refl;
-  meets = λ c w op m sound r a k.
+  meets = λ c w op m r a k.
       making w op m _ k.left (file_free w op m r a, (k.new).given (own_hold op) refl, k.made) (file_own op m (own_hold op) refl);
-  stays = λ by w v op m sound l apart k. way_stays by w v op l apart m d k;
-  goes_on = λ c w op m n sound r a k kept serial.
+  stays = λ by w v op m l apart k. way_stays by w v op l apart m d k;
+  goes_on = λ c w op m n r a k kept serial.
       let f : FileId = record { 0 = object_number op.actor m.serial } in
       let q : AnyReq = any.File (files.MakeFile f (own_hold op) (key_in d name) None) in
       let x : AnyReply = store_reply w.store q in
@@ -91,8 +91,8 @@ file_waits d name = record {
         unnamed = kept.taught.2;
         mine = file_number op m.serial a.few;
       };
-  spends = λ c w op m sound r a k x h g now own is live. absurd (no_hold w op k.new h g own is);
-  grants = λ c w op m sound r a k kept h free touched granted.
+  spends = λ c w op m r a k x h g now own is live. absurd (no_hold w op k.new h g own is);
+  grants = λ c w op m r a k kept h free touched granted.
       let f : FileId = record { 0 = object_number op.actor m.serial } in
       let q : AnyReq = any.File (files.MakeFile f (own_hold op) (key_in d name) None) in
       made_waits (request_place c q) op new.File (key_in d name) (File f) (store_reply w.store q) kept.taught.0;
@@ -102,10 +102,10 @@ dir_waits : (d : DirId) (name : List ℕ) → WaitsAt make make_deciding make_kn
 dir_waits d name = record {
   looks = λ c m op. refl;
   undecided = refl;
-  meets = λ c w op m sound r a k.
+  meets = λ c w op m r a k.
       making w op m _ k.left (dir_free w op m r a, (k.new).given (own_hold op) refl, k.made, refl) (dir_own op m (own_hold op) refl);
-  stays = λ by w v op m sound l apart k. way_stays by w v op l apart m d k;
-  goes_on = λ c w op m n sound r a k kept serial.
+  stays = λ by w v op m l apart k. way_stays by w v op l apart m d k;
+  goes_on = λ c w op m n r a k kept serial.
       let f : DirId = record { 0 = object_number op.actor m.serial } in
       let q : AnyReq = any.Name (names.MakeDir f d (own_hold op) (key_in d name)) in
       let x : AnyReply = store_reply w.store q in
@@ -116,8 +116,8 @@ dir_waits d name = record {
         unnamed = kept.taught.2;
         mine = dir_number op m.serial a.few;
       };
-  spends = λ c w op m sound r a k x h g now own is live. absurd (no_hold w op k.new h g own is);
-  grants = λ c w op m sound r a k kept h free touched granted.
+  spends = λ c w op m r a k x h g now own is live. absurd (no_hold w op k.new h g own is);
+  grants = λ c w op m r a k kept h free touched granted.
       let f : DirId = record { 0 = object_number op.actor m.serial } in
       let q : AnyReq = any.Name (names.MakeDir f d (own_hold op) (key_in d name)) in
       made_waits (request_place c q) op new.Dir (key_in d name) (Dir f) (store_reply w.store q) kept.taught.0;
@@ -147,15 +147,15 @@ bind_waits : (kind : NewNode) (key : Key) (node : Node) (hold : Hold) → WaitsA
 bind_waits kind key node hold = record {
   looks = λ c m op. refl;
   undecided = refl;
-  meets = λ c w op m sound r a k.
+  meets = λ c w op m r a k.
       plain w op m _ refl ((k.hold).granted, k.unnamed) (named_own op m node hold (of_op w op hold node key k.hold) k.mine);
-  stays = λ by w v op m sound l apart k. bind_stays by w v op l apart hold node key k;
-  goes_on = λ c w op m n sound r a k kept serial.
+  stays = λ by w v op m l apart k. bind_stays by w v op l apart hold node key k;
+  goes_on = λ c w op m n r a k kept serial.
       let q : AnyReq = any.Name (names.Bind key node hold (over_of kind)) in
       bound_knows (next w q) op n (request_place c q) key node hold (store_reply w.store q) (as_bound (store_reply w.store q))
       (of_op_test w op hold node key k.hold) (bind_not_odd w.store (request_place c q) key key node hold (over_of kind)) kept.taught;
-  spends = λ c w op m sound r a k x h g now own is live. is_own w op hold node key k.hold h g own is;
-  grants = λ c w op m sound r a k kept h free touched granted. absurd (not_own w op hold node key k.hold h free touched);
+  spends = λ c w op m r a k x h g now own is live. is_own w op hold node key k.hold h g own is;
+  grants = λ c w op m r a k kept h free touched granted. absurd (not_own w op hold node key k.hold h free touched);
 }
 
 -- ---- the laws

@@ -8,7 +8,7 @@ use Rattle.program_rules.specs.declared.operation.Operation.TheVariants as opera
 use Rattle.program_rules.specs.declared.operation.OperationState.{OperationState}
 use Rattle.program_rules.specs.declared.operation.OperationState.TheVariants.{Look, List, Make, Delete, Rename}
 use Rattle.program_rules.specs.Operations.{begins_in, operations, operation_decided}
-use Rattle.store_world.specs.Worlds.{World}
+use Rattle.store_pasts.specs.Worlds.{World}
 use Rattle.part_laws.specs.Parts.{PartLaws}
 use Rattle.part_laws.specs.Walks.{OnItsWay, BeginsLaws}
 use Rattle.part_laws.proofs.States.{LawsIn, part_laws, laws_in}
@@ -83,6 +83,6 @@ begins_knows w op m (operation.Rename from to) d k = k
 pub begins_laws : BeginsLaws begins_in operation_deciding operation_known
 begins_laws = record {
   undecided = begins_undecided;
-  knows = λ w op m o d sound k. begins_knows w op m o d k;
+  knows = λ w op m o d k. begins_knows w op m o d k;
   plain = λ w a e. e;
 }

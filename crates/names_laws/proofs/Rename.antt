@@ -29,10 +29,10 @@ use Rattle.program_rules.specs.declared.states.Rename.{Rename}
 use Rattle.program_rules.specs.declared.states.Rename.TheVariants.{Find, Grant, Swap, Release}
 use Rattle.program_rules.specs.NamePairs.{OldAndNew, pair_of}
 use Rattle.program_rules.specs.Rename.{rename, rename_decided, to_grant, found_old, granted, swapped}
-use Rattle.store_world.specs.Worlds.{World, next, settled}
-use Rattle.store_world.specs.Sound.{was_made}
-use Rattle.store_world.specs.Later.{Touched, Later}
-use Rattle.store_world.specs.Requests.{FoundTaught, SwappedTaught, touched_by}
+use Rattle.store_pasts.specs.Worlds.{World, next, settled}
+use Rattle.store_pasts.specs.Pasts.{was_made}
+use Rattle.store_pasts.specs.Later.{Touched, Later}
+use Rattle.store_pasts.specs.Requests.{FoundTaught, SwappedTaught, touched_by}
 use Rattle.program_laws.specs.Known.{Deciding, Known, IsNewOp, IsApart, is_odd}
 use Rattle.part_laws.specs.Parts.{PartLaws, NextKnows, next_decided}
 use Rattle.part_laws.specs.Releases.{release_deciding, release_known}
@@ -80,16 +80,16 @@ find_waits : (d : DirId) (from to : List ℕ) → WaitsAt rename rename_deciding
 find_waits d from to = record {
   looks = λ c m op. refl;
   undecided = refl;
-  meets = λ c w op m sound r a k. plain w op m _ refl tt (nothing_own op m);
-  stays = λ by w v op m sound l apart k. way_stays by w v op l apart m d k;
-  goes_on = λ c w op m n sound r a k kept serial.
+  meets = λ c w op m r a k. plain w op m _ refl tt (nothing_own op m);
+  stays = λ by w v op m l apart k. way_stays by w v op l apart m d k;
+  goes_on = λ c w op m n r a k kept serial.
       let q : AnyReq = any.Name (names.Look (key_in d from)) in
       let x : AnyReply = store_reply w.store q in
       found_knows (next w q) op n (request_place c q) d from to x (as_found x) (kept.later.made (Dir d) k.made)
       (new_untouched (touched_by q) w (next w q) op kept.later (λ h own. refl) k.new)
       (look_not_odd w.store (request_place c q) (key_in d from) (key_in d from)) kept.taught;
-  spends = λ c w op m sound r a k x h g now own is live. absurd (no_hold w op k.new h g own is);
-  grants = λ c w op m sound r a k kept h free touched granted. absurd (let f : false ≡ true = touched in cc);
+  spends = λ c w op m r a k x h g now own is live. absurd (no_hold w op k.new h g own is);
+  grants = λ c w op m r a k kept h free touched granted. absurd (let f : false ≡ true = touched in cc);
 }
 
 -- ---- the hold is granted
@@ -116,10 +116,10 @@ grant_waits : (d : DirId) (p : OldAndNew) (node : Node) → WaitsAt rename renam
 grant_waits d p (Dir g) = record {
   looks = λ c m op. refl;
   undecided = refl;
-  meets = λ c w op m sound r a k.
+  meets = λ c w op m r a k.
       plain w op m _ refl ((k.new).given (own_hold op) refl, k.made, k.named) (hold_own op m (own_hold op) refl);
-  stays = λ by w v op m sound l apart k. grant_stays by w v op l apart d p (Dir g) k;
-  goes_on = λ c w op m n sound r a k kept serial.
+  stays = λ by w v op m l apart k. grant_stays by w v op l apart d p (Dir g) k;
+  goes_on = λ c w op m n r a k kept serial.
       let q : AnyReq = any.Name (names.Grant g (own_hold op) (key_in d p.to)) in
       let x : AnyReply = store_reply w.store q in
       granted_knows (next w q) op n (request_place c q) d p (Dir g) x (is_granted x)
@@ -128,18 +128,18 @@ grant_waits d p (Dir g) = record {
         hold = own_granted w (next w q) op (touched_by q) (Dir g) (key_in d p.to) (λ h ne. ne) kept.later k.new (kept.taught e);
         other = k.other;
       });
-  spends = λ c w op m sound r a k x h g now own is live. absurd (no_hold w op k.new h g own is);
-  grants = λ c w op m sound r a k kept h free touched ok.
+  spends = λ c w op m r a k x h g now own is live. absurd (no_hold w op k.new h g own is);
+  grants = λ c w op m r a k kept h free touched ok.
       let q : AnyReq = any.Name (names.Grant g (own_hold op) (key_in d p.to)) in
       granted_waits (request_place c q) op d p (Dir g) (store_reply w.store q) ok;
 }
 grant_waits d p (File g) = record {
   looks = λ c m op. refl;
   undecided = refl;
-  meets = λ c w op m sound r a k.
+  meets = λ c w op m r a k.
       plain w op m _ refl ((k.new).given (own_hold op) refl, k.made, k.named) (hold_own op m (own_hold op) refl);
-  stays = λ by w v op m sound l apart k. grant_stays by w v op l apart d p (File g) k;
-  goes_on = λ c w op m n sound r a k kept serial.
+  stays = λ by w v op m l apart k. grant_stays by w v op l apart d p (File g) k;
+  goes_on = λ c w op m n r a k kept serial.
       let q : AnyReq = any.File (files.Grant g (own_hold op) (key_in d p.to)) in
       let x : AnyReply = store_reply w.store q in
       granted_knows (next w q) op n (request_place c q) d p (File g) x (is_granted x)
@@ -148,8 +148,8 @@ grant_waits d p (File g) = record {
         hold = own_granted w (next w q) op (touched_by q) (File g) (key_in d p.to) (λ h ne. ne) kept.later k.new (kept.taught e);
         other = k.other;
       });
-  spends = λ c w op m sound r a k x h g now own is live. absurd (no_hold w op k.new h g own is);
-  grants = λ c w op m sound r a k kept h free touched ok.
+  spends = λ c w op m r a k x h g now own is live. absurd (no_hold w op k.new h g own is);
+  grants = λ c w op m r a k kept h free touched ok.
       let q : AnyReq = any.File (files.Grant g (own_hold op) (key_in d p.to)) in
       granted_waits (request_place c q) op d p (File g) (store_reply w.store q) ok;
 }
@@ -176,16 +176,16 @@ swap_waits : (d : DirId) (p : OldAndNew) (node : Node) (hold : Hold) → WaitsAt
 swap_waits d p node hold = record {
   looks = λ c m op. refl;
   undecided = refl;
-  meets = λ c w op m sound r a k.
+  meets = λ c w op m r a k.
       plain w op m _ refl ((k.hold).granted, k.other) (hold_own op m hold (of_op w op hold node (key_in d p.to) k.hold));
-  stays = λ by w v op m sound l apart k. swap_stays by w v op l apart d p node hold k;
-  goes_on = λ c w op m n sound r a k kept serial.
+  stays = λ by w v op m l apart k. swap_stays by w v op l apart d p node hold k;
+  goes_on = λ c w op m n r a k kept serial.
       let q : AnyReq = any.Name (names.Swap d p.from p.to node hold) in
       let x : AnyReply = store_reply w.store q in
       swapped_knows (next w q) op n (request_place c q) d p node hold x (as_swapped x) (of_op_test w op hold node (key_in d p.to) k.hold)
       (swap_not_odd w.store (request_place c q) (key_in d p.from) d p.from p.to node hold) kept.taught;
-  spends = λ c w op m sound r a k x h g now own is live. is_own w op hold node (key_in d p.to) k.hold h g own is;
-  grants = λ c w op m sound r a k kept h free touched granted. absurd (not_own w op hold node (key_in d p.to) k.hold h free touched);
+  spends = λ c w op m r a k x h g now own is live. is_own w op hold node (key_in d p.to) k.hold h g own is;
+  grants = λ c w op m r a k kept h free touched granted. absurd (not_own w op hold node (key_in d p.to) k.hold h free touched);
 }
 
 -- ---- the laws

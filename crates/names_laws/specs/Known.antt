@@ -22,9 +22,9 @@ use Rattle.program_rules.specs.declared.operation.OperationState.TheVariants as 
 use Rattle.program_rules.specs.NamePairs.{OldAndNew}
 use Rattle.program_rules.specs.Operations.{operation_decided}
 use Rattle.program_rules.specs.Served.{Program}
-use Rattle.store_world.specs.Worlds.{World}
-use Rattle.store_world.specs.Sound.{was_made, IsGranted}
-use Rattle.store_world.specs.Later.{actor_of}
+use Rattle.store_pasts.specs.Worlds.{World}
+use Rattle.store_pasts.specs.Pasts.{was_made, IsGranted}
+use Rattle.store_pasts.specs.Later.{actor_of}
 use Rattle.program_laws.specs.Known.{Deciding, Known, IsNewOp, is_odd}
 use Rattle.part_laws.specs.Parts.{next_known, next_deciding}
 use Rattle.part_laws.specs.Walks.{OnItsWay, walk_known, walk_deciding}

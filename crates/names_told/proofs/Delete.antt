@@ -73,7 +73,7 @@ delete_at : (s : Delete) → TellsIn delete delete_deciding delete_telling s
 delete_at (Unbind k) = waits_tell delete delete_deciding delete_telling (Unbind k) record {
   looks = λ counts m op. refl;
   undecided = refl;
-  hears = λ counts h op c m how safe came run.
+  hears = λ counts h op c m how fresh came run.
       unbound_tells h op c how (request_place counts (Name (names.Unbind k AnyFile))) k _ refl came run;
   stays = λ h e op c other came. still_came h e op c k.dir (operation.Delete k.name) came;
 }

@@ -109,14 +109,14 @@ look_at : (s : Look) → TellsIn look reading_deciding look_telling s
 look_at (Check d) = waits_tell look reading_deciding look_telling (Check d) record {
   looks = λ counts m op. refl;
   undecided = refl;
-  hears = λ counts h op c m how safe came run.
+  hears = λ counts h op c m how fresh came run.
       checked_tells h op c how (request_place counts (Name (names.CheckDir d))) d _ refl came run;
   stays = λ h e op c other came. still_came h e op c d (operation.Look None) came;
 }
 look_at (Entry k) = waits_tell look reading_deciding look_telling (Entry k) record {
   looks = λ counts m op. refl;
   undecided = refl;
-  hears = λ counts h op c m how safe came run. looked_tells h op c how (request_place counts (Name (names.Look k))) k _ refl came run;
+  hears = λ counts h op c m how fresh came run. looked_tells h op c how (request_place counts (Name (names.Look k))) k _ refl came run;
   stays = λ h e op c other came. still_came h e op c k.dir (operation.Look (Some k.name)) came;
 }
 
@@ -127,7 +127,7 @@ list_at : (s : List) → TellsIn list reading_deciding list_telling s
 list_at s = waits_tell list reading_deciding list_telling s record {
   looks = λ counts m op. refl;
   undecided = refl;
-  hears = λ counts h op c m how safe came run.
+  hears = λ counts h op c m how fresh came run.
       listed_tells h op c how (request_place counts (Name (names.List s.dir))) s.dir _ refl came run;
   stays = λ h e op c other came. still_came h e op c s.dir operation.List came;
 }

@@ -22,9 +22,6 @@ use Rattle.store_rules.specs.Names.{key_in}
 use Rattle.store_rules.specs.Places.{request_place}
 use Rattle.store_rules.specs.Store.{Store, opening_store, store_reply}
 use Rattle.store_rules.specs.Views.{is_made, as_bound}
-use Rattle.store_world.specs.Worlds.{next}
-use Rattle.store_world.specs.Requests.{Kept}
-use Rattle.store_world.proofs.Rows.{row_kept}
 use Rattle.tree_model.specs.declared.step.TreeStep.TheVariants as step
 use Rattle.tree_model.specs.declared.step.TreeReply.{TreeReply}
 use Rattle.tect_calls.specs.Readings.{freed_old, bound_freed}
@@ -43,7 +40,7 @@ use Rattle.world_runs.specs.OwnRuns.{stored_after}
 use Rattle.claim_words.specs.TreeSteps.{Told, says, tree_steps}
 use Rattle.claim_words.specs.Points.{of_op, done_answer, Decides}
 use Rattle.claim_words.specs.Because.{because}
-use Rattle.telling_laws.specs.Telling.{IsSafe, Telling}
+use Rattle.telling_laws.specs.Telling.{Telling}
 use Rattle.telling_laws.specs.Parts.{NextTells, PartTells, release_telling}
 use Rattle.telling_laws.proofs.Steps.{reply_at, act_at, Allows}
 use Rattle.telling_laws.proofs.Replies.{RefusesSo}
@@ -62,21 +59,6 @@ make_releases : IsWithin Release release_deciding (release_telling because) make
 make_releases = record { decided = λ r. refl; before = λ h op c r b. b; because = λ h op c a b. b }
 
 -- ---- it is made
-
--- what is safe to make is made
-dir_made : (h : List Event) (d p : DirId) (hold : Hold) (k : Key) → IsSafe h (any.Name (names.MakeDir d p hold k))
-    → is_made (reply_at h (any.Name (names.MakeDir d p hold k))) ≡ true
-dir_made h d p hold k safe =
-    let q : AnyReq = any.Name (names.MakeDir d p hold k) in
-    let kept : Kept safe.world (next safe.world q) q = row_kept safe.world safe.sound q safe.needs in
-    subst (λ (s : Store). is_made (store_reply s q) ≡ true) safe.store (kept.taught.0)
-
-file_made : (h : List Event) (f : FileId) (hold : Hold) (k : Key) → IsSafe h (any.File (files.MakeFile f hold k None))
-    → is_made (reply_at h (any.File (files.MakeFile f hold k None))) ≡ true
-file_made h f hold k safe =
-    let q : AnyReq = any.File (files.MakeFile f hold k None) in
-    let kept : Kept safe.world (next safe.world q) q = row_kept safe.world safe.sound q safe.needs in
-    subst (λ (s : Store). is_made (store_reply s q) ≡ true) safe.store (kept.taught.0)
 
 made_tells : (h : List Event) (op : OpId) (c : Command) (place : Place) (kind : NewNode) (k : Key) (n : Node) (x : AnyReply)
     → is_made x ≡ true → CameTo h op c k.dir (operation.Make kind k.name) → IsOfKind kind n
@@ -131,29 +113,29 @@ make_at : (s : Make) → TellsIn make make_deciding make_telling s
 make_at (New new.File d n) = waits_tell make make_deciding make_telling (New new.File d n) record {
   looks = λ counts m op. refl;
   undecided = refl;
-  hears = λ counts h op c m how safe came run.
+  hears = λ counts h op c m how fresh came run.
       let f : FileId = record { 0 = object_number op.actor m.serial } in
       let k : Key = key_in d n in
       let q : AnyReq = any.File (files.MakeFile f (own_hold op) k None) in
       made_tells (h ++ act_at h op q how ∷ []) op c (request_place counts q) new.File k (File f) (reply_at h q)
-      (file_made h f (own_hold op) k safe) (still_came h (act_at h op q how) op c d (operation.Make new.File n) came) tt;
+      (fresh.made refl) (still_came h (act_at h op q how) op c d (operation.Make new.File n) came) tt;
   stays = λ h e op c other came. still_came h e op c d (operation.Make new.File n) came;
 }
 make_at (New new.Dir d n) = waits_tell make make_deciding make_telling (New new.Dir d n) record {
   looks = λ counts m op. refl;
   undecided = refl;
-  hears = λ counts h op c m how safe came run.
+  hears = λ counts h op c m how fresh came run.
       let g : DirId = record { 0 = object_number op.actor m.serial } in
       let k : Key = key_in d n in
       let q : AnyReq = any.Name (names.MakeDir g d (own_hold op) k) in
       made_tells (h ++ act_at h op q how ∷ []) op c (request_place counts q) new.Dir k (Dir g) (reply_at h q)
-      (dir_made h g d (own_hold op) k safe) (still_came h (act_at h op q how) op c d (operation.Make new.Dir n) came) tt;
+      (fresh.made refl) (still_came h (act_at h op q how) op c d (operation.Make new.Dir n) came) tt;
   stays = λ h e op c other came. still_came h e op c d (operation.Make new.Dir n) came;
 }
 make_at (Bind kind k n hold) = waits_tell make make_deciding make_telling (Bind kind k n hold) record {
   looks = λ counts m op. refl;
   undecided = refl;
-  hears = λ counts h op c m how safe before run.
+  hears = λ counts h op c m how fresh before run.
       let q : AnyReq = any.Name (names.Bind k n hold (over_of kind)) in
       bound_tells h op c how (request_place counts q) kind k n hold _ refl before.0 before.1 run;
   stays = λ h e op c other before. (still_came h e op c k.dir (operation.Make kind k.name) before.0, before.1);

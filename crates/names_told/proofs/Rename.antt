@@ -186,21 +186,21 @@ rename_at : (s : Rename) → TellsIn rename rename_deciding rename_telling s
 rename_at (Find d from to) = waits_tell rename rename_deciding rename_telling (Find d from to) record {
   looks = λ counts m op. refl;
   undecided = refl;
-  hears = λ counts h op c m how safe came run.
+  hears = λ counts h op c m how fresh came run.
       found_tells h op c how (request_place counts (any.Name (names.Look (key_in d from)))) d from to _ refl came run;
   stays = λ h e op c other came. still_came h e op c d (operation.Rename from to) came;
 }
 rename_at (Grant d p n) = waits_tell rename rename_deciding rename_telling (Grant d p n) record {
   looks = λ counts m op. refl;
   undecided = refl;
-  hears = λ counts h op c m how safe saw run.
+  hears = λ counts h op c m how fresh saw run.
       granted_tells h op c how (request_place counts (grant_ask n (own_hold op) (key_in d p.to))) d p n _ refl saw run;
   stays = λ h e op c other saw. still_saw h e op c d p n saw;
 }
 rename_at (Swap d p n hold) = waits_tell rename rename_deciding rename_telling (Swap d p n hold) record {
   looks = λ counts m op. refl;
   undecided = refl;
-  hears = λ counts h op c m how safe saw run.
+  hears = λ counts h op c m how fresh saw run.
       swapped_tells h op c how (request_place counts (any.Name (names.Swap d p.from p.to n hold))) d p n hold _ refl saw run;
   stays = λ h e op c other saw. still_saw h e op c d p n saw;
 }

@@ -5,7 +5,7 @@ use Rattle.tect_ids.specs.declared.ids.OpId.{OpId}
 use Rattle.program_forms.specs.Memories.{Memory}
 use Rattle.program_parts.specs.declared.next.Next.TheVariants.{Goes}
 use Rattle.program_parts.specs.Parts.{Part}
-use Rattle.store_world.specs.Worlds.{World}
+use Rattle.store_pasts.specs.Worlds.{World}
 use Rattle.program_laws.specs.Known.{Deciding, Known, Remembers}
 use Rattle.part_laws.specs.Parts.{NextKnows, IsTurned}
 

@@ -9,10 +9,10 @@ use Rattle.tect_ids.specs.Numbers.{object_number}
 use Rattle.tect_ids.proofs.KeyTests.{keys}
 use Rattle.store_rules.specs.declared.any.AnyReq.{AnyReq}
 use Rattle.program_forms.specs.Memories.{Memory}
-use Rattle.store_world.specs.Worlds.{World, Given}
-use Rattle.store_world.specs.Sound.{was_made}
-use Rattle.store_world.specs.Later.{actor_of, Touched, Later, Within}
-use Rattle.store_world.specs.Requests.{Needs, makes, touched_by, touches_nothing, touches_hold, touches_new, touches_named}
+use Rattle.store_pasts.specs.Worlds.{World, Given}
+use Rattle.store_pasts.specs.Pasts.{was_made}
+use Rattle.store_pasts.specs.Later.{actor_of, Touched, Later, Within}
+use Rattle.store_pasts.specs.Requests.{Needs, makes, touched_by, touches_nothing, touches_hold, touches_new, touches_named}
 use Rattle.program_laws.specs.Known.{Remembers, IsActor, IsNewOp, IsApart, by_op, Meets}
 
 -- ---- what a request touches

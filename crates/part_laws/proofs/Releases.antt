@@ -12,11 +12,11 @@ use Rattle.tect_calls.specs.Readings.{freed_old}
 use Rattle.program_forms.specs.Memories.{Memory}
 use Rattle.program_parts.specs.declared.releasing.Releasing.{Releasing}
 use Rattle.program_parts.specs.Releases.{release_ask, then_release, releasing}
-use Rattle.store_world.specs.Worlds.{World, next, over}
-use Rattle.store_world.specs.Sound.{is_spent}
-use Rattle.store_world.specs.Later.{Touched, Later}
-use Rattle.store_world.specs.Requests.{touched_by, OldSpent}
-use Rattle.store_world.proofs.Over.{over_later}
+use Rattle.store_pasts.specs.Worlds.{World, next, over}
+use Rattle.store_pasts.specs.Pasts.{is_spent}
+use Rattle.store_pasts.specs.Later.{Touched, Later}
+use Rattle.store_pasts.specs.Requests.{touched_by, OldSpent}
+use Rattle.store_pasts.proofs.Over.{over_later}
 use Rattle.program_laws.specs.Known.{Meets, is_odd}
 use Rattle.part_laws.specs.Parts.{NextKnows, next_decided, PartLaws}
 use Rattle.part_laws.specs.Releases.{IsFreed, ReleaseKnows, release_known, release_deciding}
@@ -64,15 +64,15 @@ release_meets w op m (File f) h k = plain w op m _ refl k (nothing_own op m)
 
 pub release_laws : PartLaws releasing release_deciding release_known
 release_laws = record {
-  turns = λ c w op m s sound r k. (r, refl, k);
+  turns = λ c w op m s r k. (r, refl, k);
   turned = λ c m op s. refl;
-  meets = λ c w op m s sound r a k. release_meets w op m (s.first).node (s.first).hold k.first;
-  stays = λ by w v op m s sound later apart k. release_stays by w v later op m m s k;
+  meets = λ c w op m s r a k. release_meets w op m (s.first).node (s.first).hold k.first;
+  stays = λ by w v op m s later apart k. release_stays by w v later op m m s k;
   ends = λ by w v a later e. e;
-  goes_on = λ c w op m n s sound r a k kept serial.
+  goes_on = λ c w op m n s r a k kept serial.
       let q : AnyReq = release_ask (s.first).node (s.first).hold in
       then_release_knows (next w q) op n s.second s.answer (freed_stays (touched_by q) w (next w q) kept.later s.second k.second) k.plain;
   heard = λ c m op s q x r e. then_release_decided s.second s.answer ∙ e;
-  spends = λ c w op m s sound r a k e. absurd (let f : Some s.answer ≡ None = e in cc);
-  grants = λ c w op m s sound r a k e. absurd (let f : Some s.answer ≡ None = e in cc);
+  spends = λ c w op m s r a k e. absurd (let f : Some s.answer ≡ None = e in cc);
+  grants = λ c w op m s r a k e. absurd (let f : Some s.answer ≡ None = e in cc);
 }

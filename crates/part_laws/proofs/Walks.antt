@@ -21,9 +21,8 @@ use Rattle.program_parts.specs.declared.walking.Walking.TheVariants.{Way, There}
 use Rattle.program_parts.specs.Parts.{Part}
 use Rattle.program_parts.specs.Refused.{refusal}
 use Rattle.program_parts.specs.Walks.{walk_on, walked, walking}
-use Rattle.store_world.specs.Worlds.{World, next, settled}
-use Rattle.store_world.specs.Sound.{Sound}
-use Rattle.store_world.specs.Requests.{touched_by, FoundTaught}
+use Rattle.store_pasts.specs.Worlds.{World, next, settled}
+use Rattle.store_pasts.specs.Requests.{touched_by, FoundTaught}
 use Rattle.program_laws.specs.Known.{Deciding, Known, IsNewOp, is_odd}
 use Rattle.part_laws.specs.Parts.{NextKnows, next_decided, PartLaws}
 use Rattle.part_laws.specs.Walks.{OnItsWay, walk_known, walk_deciding, BeginsLaws}
@@ -42,10 +41,10 @@ module _ {O S : Type 0} (begins : O → DirId → S) {P : Part S Answer} {D : De
   -- ---- on its way
 
   -- it walks on, or its operation begins
-  pub on_knows : (v : World) (op : OpId) (m : Memory) (d : DirId) (ns : List (List ℕ)) (o : O) → Sound v → OnItsWay v op m d
+  pub on_knows : (v : World) (op : OpId) (m : Memory) (d : DirId) (ns : List (List ℕ)) (o : O) → OnItsWay v op m d
       → (walk_known N).Knows v op m (walk_on begins d ns o)
-  on_knows v op m d [] o sound k = b.knows v op m o d sound k
-  on_knows v op m d (n ∷ ns) o sound k = k
+  on_knows v op m d [] o k = b.knows v op m o d k
+  on_knows v op m d (n ∷ ns) o k = k
 
   on_undecided : (d : DirId) (ns : List (List ℕ)) (o : O) → (walk_deciding D).decided (walk_on begins d ns o) ≡ None
   on_undecided d [] o = b.undecided o d
@@ -53,34 +52,34 @@ module _ {O S : Type 0} (begins : O → DirId → S) {P : Part S Answer} {D : De
 
   -- at what was found
   module _ (v : World) (op : OpId) (m : Memory) (place : Place) (k : Key) (ns : List (List ℕ)) (o : O) (x : AnyReply) where
-    walked_knows : (f : Option Node) → Sound v → FoundTaught v f → IsNewOp v op → m.serial ≤ op.number
+    walked_knows : (f : Option Node) → FoundTaught v f → IsNewOp v op → m.serial ≤ op.number
         → (f ≡ None → is_odd (refusal place k x) ≡ false)
         → NextKnows (walk_known N)
         (settled op None (next_decided (walk_deciding D) (walked begins place k ns o x f)) v) op m (walked begins place k ns o x f)
-    walked_knows None sound t new left plain = plain refl
-    walked_knows (Some (Dir d)) sound t new left plain =
-        rw (on_undecided d ns o) (on_knows v op m d ns o sound record { made = t.0; new = new; left = left })
-    walked_knows (Some (File f)) sound t new left plain = refl
+    walked_knows None t new left plain = plain refl
+    walked_knows (Some (Dir d)) t new left plain =
+        rw (on_undecided d ns o) (on_knows v op m d ns o record { made = t.0; new = new; left = left })
+    walked_knows (Some (File f)) t new left plain = refl
 
   way_waits : (d : DirId) (n : List ℕ) (ns : List (List ℕ)) (o : O)
       → WaitsAt (walking begins P) (walk_deciding D) (walk_known N) (Way d n ns o)
   way_waits d n ns o = record {
     looks = λ c m op. refl;
     undecided = refl;
-    meets = λ c w op m sound r a k. plain w op m _ refl tt (nothing_own op m);
-    stays = λ by w v op m sound later apart k. record {
+    meets = λ c w op m r a k. plain w op m _ refl tt (nothing_own op m);
+    stays = λ by w v op m later apart k. record {
       made = later.made (Dir d) k.made;
       new = new_stays by w v op later apart k.new;
       left = k.left;
     };
-    goes_on = λ c w op m m' sound r a k kept serial.
+    goes_on = λ c w op m m' r a k kept serial.
         let key : Key = key_in d n in
         let q : AnyReq = any.Name (names.Look key) in
         walked_knows (next w q) op m' (request_place c q) key ns o (store_reply w.store q) (as_found (store_reply w.store q))
-        kept.sound kept.taught (new_untouched (touched_by q) w (next w q) op kept.later (λ h own. refl) k.new)
+        kept.taught (new_untouched (touched_by q) w (next w q) op kept.later (λ h own. refl) k.new)
         (rw (serial, look_serial w.store m key) k.left) (look_not_odd w.store (request_place c q) key key);
-    spends = λ c w op m sound r a k x h g now own is live. absurd (no_hold w op k.new h g own is);
-    grants = λ c w op m sound r a k kept h none t ok. absurd (let f : false ≡ true = t in cc);
+    spends = λ c w op m r a k x h g now own is live. absurd (no_hold w op k.new h g own is);
+    grants = λ c w op m r a k kept h none t ok. absurd (let f : false ≡ true = t in cc);
   }
 
   -- ---- all of it

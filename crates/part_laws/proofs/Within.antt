@@ -8,7 +8,7 @@ use Rattle.program_parts.specs.declared.next.Next.{Next}
 use Rattle.program_parts.specs.declared.next.Next.TheVariants.{Goes, Comes}
 use Rattle.program_parts.specs.Parts.{within}
 use Rattle.program_parts.specs.Doings.{Doing, doing_within}
-use Rattle.store_world.specs.Worlds.{World, next, settled}
+use Rattle.store_pasts.specs.Worlds.{World, next, settled}
 use Rattle.program_laws.specs.Known.{Deciding, Known}
 use Rattle.part_laws.specs.Parts.{NextKnows, next_decided, IsTurned}
 use Rattle.part_laws.proofs.States.{LawsAt}
@@ -47,22 +47,22 @@ module _ {S T R : Type 0} (f : S → T) {D : Deciding S R} {N : Known S R} {E : 
   pub laws_within : {d : Doing S R} {now : Option R} {Knows : World → OpId → Memory → Type 0} → LawsAt d D N now Knows
       → LawsAt (doing_within f d) E M now Knows
   laws_within {d} {now} {Knows} l = record {
-    turns = λ c w op m sound r k.
-        let so = l.turns c w op m sound r k in
+    turns = λ c w op m r k.
+        let so = l.turns c w op m r k in
         (so.0, so.1, knows_then w op (d.turns c m op).memory (d.turns c m op).state so.2);
     turned = λ c m op. within_turned f D E i.decided now (d.turns c m op).state (l.turned c m op);
     meets = l.meets;
     stays = l.stays;
-    goes_on = λ c w op m n sound r a k kept serial.
+    goes_on = λ c w op m n r a k kept serial.
         let q : AnyReq = d.asks c m op in
         let h : Next S R = d.hears c m op q (store_reply w.store q) in
         rw (decided_then h)
-        (knows_then (settled op now (next_decided D h) (next w q)) op n h (l.goes_on c w op m n sound r a k kept serial));
+        (knows_then (settled op now (next_decided D h) (next w q)) op n h (l.goes_on c w op m n r a k kept serial));
     heard = λ c m op q x r e. decided_then (d.hears c m op q x) ∙ l.heard c m op q x r e;
-    spends = λ c w op m sound r a k e x h g is.
+    spends = λ c w op m r a k e x h g is.
         let q : AnyReq = d.asks c m op in
-        l.spends c w op m sound r a k e x h g (sym (decided_then (d.hears c m op q (store_reply w.store q))) ∙ is);
-    grants = λ c w op m sound r a k e kept h none touched granted.
+        l.spends c w op m r a k e x h g (sym (decided_then (d.hears c m op q (store_reply w.store q))) ∙ is);
+    grants = λ c w op m r a k e kept h none touched granted.
         let q : AnyReq = d.asks c m op in
-        decided_then (d.hears c m op q (store_reply w.store q)) ∙ l.grants c w op m sound r a k e kept h none touched granted;
+        decided_then (d.hears c m op q (store_reply w.store q)) ∙ l.grants c w op m r a k e kept h none touched granted;
   }

@@ -11,10 +11,9 @@ use Rattle.program_forms.specs.Memories.{Memory, always}
 use Rattle.program_parts.specs.declared.next.Next.{Next}
 use Rattle.program_parts.specs.declared.next.Next.TheVariants.{Goes, Comes}
 use Rattle.program_parts.specs.Parts.{Part}
-use Rattle.store_world.specs.Worlds.{World, Given, Live, next, settled}
-use Rattle.store_world.specs.Sound.{Sound}
-use Rattle.store_world.specs.Later.{Touched, Later}
-use Rattle.store_world.specs.Requests.{Kept, touched_by}
+use Rattle.store_pasts.specs.Worlds.{World, Given, Live, next, settled}
+use Rattle.store_pasts.specs.Later.{Touched, Later}
+use Rattle.store_pasts.specs.Requests.{Moved, touched_by}
 use Rattle.program_laws.specs.Known.{Deciding, Known, Remembers, IsActor, IsApart, Meets}
 
 -- what is so of where it goes on, or of what it has come to
@@ -40,21 +39,21 @@ IsTurned {R = R} D was (Comes r) = (a : R) → was ≡ Some a → a ≡ r
 
 pub record PartLaws {S R : Type 0} (P : Part S R) (D : Deciding S R) (N : Known S R) : Type 0 where
   -- by its look-ups it still knows what it has to, its memory is as true, and no serial is taken
-  pub turns : (c : Counts) (w : World) (op : OpId) (m : Memory) (s : S) → Sound w → Remembers w op.actor m → N.Knows w op m s
+  pub turns : (c : Counts) (w : World) (op : OpId) (m : Memory) (s : S) → Remembers w op.actor m → N.Knows w op m s
       → Remembers w op.actor (P.turns c m op s).memory × ((P.turns c m op s).memory.serial ≡ m.serial)
       × NextKnows N w op (P.turns c m op s).memory (P.turns c m op s).state
   pub turned : (c : Counts) (m : Memory) (op : OpId) (s : S) → IsTurned D (D.decided s) (P.turns c m op s).state
   -- its request is safe
-  pub meets : (c : Counts) (w : World) (op : OpId) (m : Memory) (s : S) → Sound w → Remembers w op.actor m → IsActor op m → N.Knows w op m s
+  pub meets : (c : Counts) (w : World) (op : OpId) (m : Memory) (s : S) → Remembers w op.actor m → IsActor op m → N.Knows w op m s
       → Meets w op m (P.asks c m op s)
   -- what others do leaves what it knows, and what is so of its result
-  pub stays : (by : Touched) (w v : World) (op : OpId) (m : Memory) (s : S) → Sound w → Later by w v → IsApart by op → N.Knows w op m s
+  pub stays : (by : Touched) (w v : World) (op : OpId) (m : Memory) (s : S) → Later by w v → IsApart by op → N.Knows w op m s
       → N.Knows v op m s
   pub ends : (by : Touched) (w v : World) (r : R) → Later by w v → N.Ends w r → N.Ends v r
   -- at the reply it goes on, in the world after its request, with what it did not bind given up where its answer is decided; its memory is
   -- then whatever is kept of the reply
-  pub goes_on : (c : Counts) (w : World) (op : OpId) (m n : Memory) (s : S) → Sound w → Remembers w op.actor m → IsActor op m
-      → N.Knows w op m s → Kept w (next w (P.asks c m op s)) (P.asks c m op s)
+  pub goes_on : (c : Counts) (w : World) (op : OpId) (m n : Memory) (s : S) → Remembers w op.actor m → IsActor op m
+      → N.Knows w op m s → Moved w (next w (P.asks c m op s)) (P.asks c m op s)
       → n.serial ≡ (always m (P.asks c m op s) (store_reply w.store (P.asks c m op s))).serial
       → NextKnows N
       (settled op (D.decided s) (next_decided D (P.hears c m op s (P.asks c m op s) (store_reply w.store (P.asks c m op s))))
@@ -64,12 +63,12 @@ pub record PartLaws {S R : Type 0} (P : Part S R) (D : Deciding S R) (N : Known 
   pub heard : (c : Counts) (m : Memory) (op : OpId) (s : S) (q : AnyReq) (x : AnyReply) (r : R) → D.decided s ≡ Some r
       → next_decided D (P.hears c m op s q x) ≡ Some r
   -- while a hold may still be bound, its answer is decided by no request but one that touches this hold
-  pub spends : (c : Counts) (w : World) (op : OpId) (m : Memory) (s : S) → Sound w → Remembers w op.actor m → IsActor op m
+  pub spends : (c : Counts) (w : World) (op : OpId) (m : Memory) (s : S) → Remembers w op.actor m → IsActor op m
       → N.Knows w op m s → D.decided s ≡ None → (r : R) (h : Hold) (g : Given)
       → next_decided D (P.hears c m op s (P.asks c m op s) (store_reply w.store (P.asks c m op s))) ≡ Some r → h.op ≡ op
       → w.ghost.given h ≡ Some g → g.phase ≡ Live → (touched_by (P.asks c m op s)).hold h ≡ true
   -- and no reply decides it that grants one
-  pub grants : (c : Counts) (w : World) (op : OpId) (m : Memory) (s : S) → Sound w → Remembers w op.actor m → IsActor op m
-      → N.Knows w op m s → D.decided s ≡ None → Kept w (next w (P.asks c m op s)) (P.asks c m op s) → (h : Hold) → w.ghost.given h ≡ None
+  pub grants : (c : Counts) (w : World) (op : OpId) (m : Memory) (s : S) → Remembers w op.actor m → IsActor op m
+      → N.Knows w op m s → D.decided s ≡ None → Moved w (next w (P.asks c m op s)) (P.asks c m op s) → (h : Hold) → w.ghost.given h ≡ None
       → (touched_by (P.asks c m op s)).hold h ≡ true → is_granted (store_reply w.store (P.asks c m op s)) ≡ true
       → next_decided D (P.hears c m op s (P.asks c m op s) (store_reply w.store (P.asks c m op s))) ≡ None

@@ -5,8 +5,8 @@ use Rattle.tect_ids.specs.declared.answer.Answer.{Answer}
 use Rattle.tect_calls.specs.declared.tokens.Freed.{Freed}
 use Rattle.program_forms.specs.Memories.{Memory}
 use Rattle.program_parts.specs.declared.releasing.Releasing.{Releasing}
-use Rattle.store_world.specs.Worlds.{World}
-use Rattle.store_world.specs.Sound.{is_spent}
+use Rattle.store_pasts.specs.Worlds.{World}
+use Rattle.store_pasts.specs.Pasts.{is_spent}
 use Rattle.program_laws.specs.Known.{Deciding, Known, is_odd}
 
 abbrev pub IsFreed : World → Option Freed → Type 0

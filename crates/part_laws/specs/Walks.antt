@@ -7,8 +7,8 @@ use Rattle.tect_ids.specs.declared.answer.Answer.{Answer}
 use Rattle.program_forms.specs.Memories.{Memory}
 use Rattle.program_parts.specs.declared.walking.Walking.{Walking}
 use Rattle.program_parts.specs.declared.walking.Walking.TheVariants.{Way, There}
-use Rattle.store_world.specs.Worlds.{World}
-use Rattle.store_world.specs.Sound.{Sound, was_made}
+use Rattle.store_pasts.specs.Worlds.{World}
+use Rattle.store_pasts.specs.Pasts.{was_made}
 use Rattle.program_laws.specs.Known.{Deciding, Known, IsNewOp, is_odd}
 
 -- on its way it knows that the directory was made, that its op has no hold, and that a serial is left for what it is to make
@@ -34,5 +34,5 @@ walk_deciding D = record { decided = walk_decided D }
 -- the operation begins with what a walk knows, nothing of it is decided then, and its answer is not odd
 pub record BeginsLaws {O S : Type 0} (begins : O → DirId → S) (D : Deciding S Answer) (N : Known S Answer) : Type 0 where
   pub undecided : (o : O) (d : DirId) → D.decided (begins o d) ≡ None
-  pub knows : (w : World) (op : OpId) (m : Memory) (o : O) (d : DirId) → Sound w → OnItsWay w op m d → N.Knows w op m (begins o d)
+  pub knows : (w : World) (op : OpId) (m : Memory) (o : O) (d : DirId) → OnItsWay w op m d → N.Knows w op m (begins o d)
   pub plain : (w : World) (a : Answer) → N.Ends w a → is_odd a ≡ false

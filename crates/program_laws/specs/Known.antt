@@ -11,10 +11,10 @@ use Rattle.tect_ids.specs.Numbers.{object_number}
 use Rattle.store_rules.specs.declared.any.AnyReq.{AnyReq}
 use Rattle.program_forms.specs.Memories.{Memory}
 use Rattle.program_forms.specs.Kinds.{Does, Asks, Says}
-use Rattle.store_world.specs.Worlds.{World}
-use Rattle.store_world.specs.Sound.{was_made}
-use Rattle.store_world.specs.Later.{actor_of, Touched, Within}
-use Rattle.store_world.specs.Requests.{Needs, makes, touched_by}
+use Rattle.store_pasts.specs.Worlds.{World}
+use Rattle.store_pasts.specs.Pasts.{was_made}
+use Rattle.store_pasts.specs.Later.{actor_of, Touched, Within}
+use Rattle.store_pasts.specs.Requests.{Needs, makes, touched_by}
 
 -- The answer of a command in such a state, once it can't change any more; what the command has not bound by then it will not bind.
 pub record Deciding (S R : Type 0) : Type 0 where

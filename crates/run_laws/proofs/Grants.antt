@@ -21,10 +21,11 @@ use Rattle.world_runs.specs.Actors.{Actor}
 use Rattle.world_runs.specs.Moments.{WorldState, May, RunFrom, after, opening}
 use Rattle.world_runs.proofs.Fronts.{front_runs}
 use Rattle.claim_words.specs.Granted.{op_spends, IsHeld}
-use Rattle.store_world.specs.Worlds.{World, Ghost, Given, Live, next, opening_ghost}
-use Rattle.store_world.specs.Sound.{Sound, IsGranted}
-use Rattle.store_world.specs.Requests.{Needs, is_moved, touched_by}
-use Rattle.store_world.proofs.Over.{settles_nothing}
+use Rattle.store_pasts.specs.Worlds.{World, Ghost, Given, Live, next, opening_ghost}
+use Rattle.store_pasts.specs.Pasts.{IsGranted}
+use Rattle.store_world.specs.Sound.{Sound}
+use Rattle.store_pasts.specs.Requests.{Needs, is_moved, touched_by}
+use Rattle.store_pasts.proofs.Over.{settles_nothing}
 use Rattle.store_world.proofs.Rows.{role_laws}
 use Rattle.program_laws.specs.Known.{Deciding, Known}
 use Rattle.program_laws.specs.Laws.{ProgramLaws, HoldLaws}
@@ -32,7 +33,7 @@ use Rattle.run_laws.specs.Pasts.{ghosts_after, ghost_after, world_of, world}
 use Rattle.run_laws.specs.Known.{AllSound}
 use Rattle.run_laws.specs.Laws.{EveryGrantedHoldIsListed}
 use Rattle.run_laws.proofs.Turns.{IsAsked, asked_by_op}
-use Rattle.run_laws.proofs.MomentsKeep.{u, kept, meets, actor, runs, is_actor, after_reply, past_is, event_sound, opening_all_sound}
+use Rattle.run_laws.proofs.MomentsKeep.{u, kept, moved, meets, actor, runs, is_actor, after_reply, past_is, event_sound, opening_all_sound}
 use Rattle.run_laws.proofs.RunsKeep.{run_world_sound}
 
 -- ---- a request that grants a hold, and one that leaves it
@@ -103,7 +104,7 @@ module _ {S : Type 0} (P : Programs S) (D : Deciding S Answer) (N : Known S Answ
       decides_none : op_eq h.op op ≡ true → (touched_by q).hold h ≡ false → D.decided st ≡ None → D.decided on ≡ None
       decides_none own un none = none_by (D.decided on) (λ r e.
           let touched : (touched_by q).hold h ≡ true
-          = (rw by.ask at (holds.spends m.counts (world_of m g) op me.memory st s.sound (actor P D N laws m g s op q st by).remembers
+          = (rw by.ask at (holds.spends m.counts (world_of m g) op me.memory st (actor P D N laws m g s op q st by).remembers
           (is_actor P D N laws m g s op q st by) (runs P D N laws m g s op q st by).at none)) r h v e (grind (arith, keys)) is live
           in grind (arith, un, touched))
 
@@ -141,8 +142,8 @@ module _ {S : Type 0} (P : Programs S) (D : Deciding S Answer) (N : Known S Answ
 
       grants_none : D.decided st ≡ None → D.decided on ≡ None
       grants_none none =
-          (rw by.ask at (holds.grants m.counts (world_of m g) op me.memory st s.sound (actor P D N laws m g s op q st by).remembers
-          (is_actor P D N laws m g s op q st by) (runs P D N laws m g s op q st by).at none)) (kept P D N laws m g s op q st by) a.hold
+          (rw by.ask at (holds.grants m.counts (world_of m g) op me.memory st (actor P D N laws m g s op q st by).remembers
+          (is_actor P D N laws m g s op q st by) (runs P D N laws m g s op q st by).at none)) (moved P D N laws m g s op q st by) a.hold
           ((role_laws q).new (world_of m g) a asks (meets P D N laws m g s op q st by).needs) (grant_touches q a asks) ok
 
       granted_then : (heard : Heard) → IsGranted (then heard) a.hold a.node a.key

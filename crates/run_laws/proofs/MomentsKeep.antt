@@ -23,12 +23,14 @@ use Rattle.world_runs.specs.declared.event.Event.TheVariants.{Own, Dumped}
 use Rattle.world_runs.specs.declared.event.Happening.TheVariants.{Began, NotBegun, Acted, Ended, Stopped, Failed}
 use Rattle.world_runs.specs.Actors.{Actor, Running, CanBegin, went_on, ended, memory_at_end, standing_heard}
 use Rattle.world_runs.specs.Moments.{WorldState, May, after, opening, with_actor}
-use Rattle.store_world.specs.Worlds.{World, Ghost, next, settled, opening_ghost}
+use Rattle.store_pasts.specs.Worlds.{World, Ghost, next, settled, opening_ghost}
 use Rattle.store_world.specs.Sound.{Sound}
-use Rattle.store_world.specs.Later.{Later, by_actor}
-use Rattle.store_world.specs.Requests.{Kept, touched_by, touches_op}
-use Rattle.store_world.proofs.Frames.{weaken, later_then}
-use Rattle.store_world.proofs.Over.{settled_sound, settled_later}
+use Rattle.store_pasts.specs.Later.{Later, by_actor}
+use Rattle.store_pasts.specs.Requests.{Moved, touched_by, touches_op}
+use Rattle.store_world.specs.Kept.{Kept}
+use Rattle.store_pasts.proofs.Laters.{weaken, later_then}
+use Rattle.store_pasts.proofs.Over.{settled_later}
+use Rattle.store_world.proofs.Over.{settled_sound}
 use Rattle.store_world.proofs.Rows.{row_kept, opening_sound}
 use Rattle.world_runs.proofs.Actors.{changed, other_number}
 use Rattle.tect_ids.specs.Numbers.{object_number}
@@ -49,7 +51,7 @@ apart_of a op other = record {
 
 module _ {S : Type 0} (P : Programs S) (D : Deciding S Answer) (N : Known S Answer) (laws : ProgramLaws P D N) where
   -- what another actor does leaves an actor's part
-  module _ (a b : ℕ) (w v : World) (s : Sound w) (l : Later (by_actor a) w v) (apart : eqb b a ≡ false) where
+  module _ (a b : ℕ) (w v : World) (l : Later (by_actor a) w v) (apart : eqb b a ≡ false) where
     remembers_still : (m : Memory) → Remembers w b m → Remembers v b m
     remembers_still m r = record {
       files = λ one i le lt. l.unmade (File record { 0 = object_number b i }) (rw (file_of_actor b i lt) apart) (r.files one i le lt);
@@ -58,7 +60,7 @@ module _ {S : Type 0} (P : Programs S) (D : Deciding S Answer) (N : Known S Answ
 
     standing_stays : (op : OpId) → eqb op.actor a ≡ false → (m : Memory) (at : Standing S) → StandingKnows N w op m at
         → StandingKnows N v op m at
-    standing_stays op other m (Goes st) k = laws.kind.stays (by_actor a) w v op m st s l (apart_of a op other) k
+    standing_stays op other m (Goes st) k = laws.kind.stays (by_actor a) w v op m st l (apart_of a op other) k
     standing_stays op other m Left k = tt
     standing_stays op other m NoRoom k = tt
 
@@ -110,14 +112,17 @@ module _ {S : Type 0} (P : Programs S) (D : Deciding S Answer) (N : Known S Answ
 
     -- by its look-ups it still knows
     looked_up : Remembers w op.actor mem × (mem.serial ≡ me.memory.serial) × N.Knows w op mem (turned P.kind m.counts me.memory op st).state
-    looked_up = laws.kind.turns m.counts w op me.memory st s.sound actor.remembers runs.at
+    looked_up = laws.kind.turns m.counts w op me.memory st actor.remembers runs.at
 
     -- what it asks is safe
     pub meets : Meets w op mem q
-    meets = rw by.ask at (laws.kind.meets m.counts w op me.memory st s.sound actor.remembers is_actor runs.at)
+    meets = rw by.ask at (laws.kind.meets m.counts w op me.memory st actor.remembers is_actor runs.at)
 
     pub kept : Kept w v q
     kept = row_kept w s.sound q meets.needs
+
+    pub moved : Moved w v q
+    moved = record { later = kept.later; taught = kept.taught }
 
     -- from its memory's serial on
     serial : SerialGoesOn op mem q x
@@ -130,7 +135,7 @@ module _ {S : Type 0} (P : Programs S) (D : Deciding S Answer) (N : Known S Answ
     goes_on : (n : Memory) → n.serial ≡ (always mem q x).serial
         → N.Knows (settled op (D.decided st) (D.decided (state_heard P.kind m.counts me.memory op st q x)) v) op n
         (state_heard P.kind m.counts me.memory op st q x)
-    goes_on n e = (rw by.ask at (laws.kind.goes_on m.counts w op me.memory n st s.sound actor.remembers is_actor runs.at)) kept e
+    goes_on n e = (rw by.ask at (laws.kind.goes_on m.counts w op me.memory n st actor.remembers is_actor runs.at)) moved e
 
     -- the world once it heard the reply so
     abbrev pub u : Heard → World
@@ -189,7 +194,7 @@ module _ {S : Type 0} (P : Programs S) (D : Deciding S Answer) (N : Known S Answ
       sound = sound_then h;
       actors = λ b. changed (λ z. ActorSound N (u h) b z) m.actors op.actor (went_on P m.counts me me.running q x h) b
           (λ e. rw (e, by.is) (acts_on h))
-          (λ d. actor_stays op.actor b w (u h) s.sound (later h) (other_number b op.actor d) (m.actors b) (s.actors b));
+          (λ d. actor_stays op.actor b w (u h) (later h) (other_number b op.actor d) (m.actors b) (s.actors b));
     }
 
     pub acted_sound : (h : Heard) → AllSound N (after P m (Own op (Acted q x h))) (ghost_after P D m g (Own op (Acted q x h)))
@@ -234,7 +239,7 @@ module _ {S : Type 0} (P : Programs S) (D : Deciding S Answer) (N : Known S Answ
 
     began_sound : P.serves c ≡ true → AllSound N (after P m (Own op (Began c))) g
     began_sound served = begins_sound (Goes (P.starts m.counts c))
-        (laws.begins m.counts here op idle.memory c s.sound new serial_few served)
+        (laws.begins m.counts here op idle.memory c s.sound.tree.root_made new serial_few served)
 
     -- a refused op has its answer, of which nothing is owed
     refused_sound : AllSound N (after P m (Own op (NotBegun c))) g
@@ -254,7 +259,7 @@ module _ {S : Type 0} (P : Programs S) (D : Deciding S Answer) (N : Known S Answ
         × ((turned P.kind m.counts (m.actors a).memory op st).memory.serial ≡ (m.actors a).memory.serial)
         × N.Knows (world_of m g) op (turned P.kind m.counts (m.actors a).memory op st).memory
         (turned P.kind m.counts (m.actors a).memory op st).state
-        = laws.kind.turns m.counts (world_of m g) op (m.actors a).memory st s.sound part k in
+        = laws.kind.turns m.counts (world_of m g) op (m.actors a).memory st part k in
         (subst (λ (b : ℕ). Remembers (world_of m g) b (turned P.kind m.counts (m.actors a).memory op st).memory) own t.0, t.1)
     end_by op Left own k = ((s.actors a).remembers, refl)
     end_by op NoRoom own k = ((s.actors a).remembers, refl)

@@ -17,7 +17,7 @@ use Rattle.world_runs.specs.Moments.{WorldState, RunFrom, IsWorldRun, moment, af
 use Rattle.world_runs.proofs.Fronts.{front_runs}
 use Rattle.world_runs.proofs.Owns.{store_is_after}
 use Rattle.claim_words.specs.Sound.{IsSoundStore}
-use Rattle.store_world.specs.Worlds.{World, Ghost, opening_ghost}
+use Rattle.store_pasts.specs.Worlds.{World, Ghost, opening_ghost}
 use Rattle.store_world.specs.Sound.{Sound}
 use Rattle.program_laws.specs.Known.{Deciding, Known, IsActor, is_odd}
 use Rattle.program_laws.specs.Laws.{ProgramLaws}
@@ -98,7 +98,7 @@ module _ {S : Type 0} (P : Programs S) (D : Deciding S Answer) (N : Known S Answ
         let says : next_does P.kind m.counts (m.actors op.actor).memory op st ≡ Says a
         = says_it (next_does P.kind m.counts (m.actors op.actor).memory op st) a e in
         laws.plain (world_of m g) a
-        (rw says at (laws.kind.meets m.counts (world_of m g) op (m.actors op.actor).memory st s.sound part.remembers is_actor k.at))
+        (rw says at (laws.kind.meets m.counts (world_of m g) op (m.actors op.actor).memory st part.remembers is_actor k.at))
     standing_plain r runs Left k e = absurd (let f : None ≡ Some a = e in cc)
     standing_plain r runs NoRoom k e = grind (arith, e)
 

@@ -9,10 +9,11 @@ use Rattle.store_rules.specs.declared.any.AnyReq.{AnyReq}
 use Rattle.store_rules.specs.declared.any.AnyReply.{AnyReply}
 use Rattle.store_rules.specs.Store.{store_reply}
 use Rattle.program_forms.specs.Memories.{Memory, always}
-use Rattle.store_world.specs.Worlds.{World}
-use Rattle.store_world.specs.Later.{actor_of, by_actor, Within}
-use Rattle.store_world.specs.Roles.{role}
-use Rattle.store_world.specs.Requests.{makes, is_that, touched_by, Kept}
+use Rattle.store_pasts.specs.Worlds.{World}
+use Rattle.store_pasts.specs.Later.{actor_of, by_actor, Within}
+use Rattle.store_pasts.specs.Roles.{role}
+use Rattle.store_pasts.specs.Requests.{makes, is_that, touched_by}
+use Rattle.store_world.specs.Kept.{Kept}
 use Rattle.store_world.proofs.Rows.{role_laws}
 use Rattle.program_laws.specs.Known.{by_op, Meets}
 

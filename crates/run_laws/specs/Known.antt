@@ -11,7 +11,7 @@ use Rattle.program_forms.specs.Kinds.{Programs}
 use Rattle.world_runs.specs.declared.event.Event.{Event}
 use Rattle.world_runs.specs.Actors.{Actor, Running}
 use Rattle.world_runs.specs.Moments.{WorldState, IsWorldRun, moment}
-use Rattle.store_world.specs.Worlds.{World, Ghost}
+use Rattle.store_pasts.specs.Worlds.{World, Ghost}
 use Rattle.store_world.specs.Sound.{Sound}
 use Rattle.program_laws.specs.Known.{Deciding, Known, Remembers}
 use Rattle.run_laws.specs.Pasts.{world_of, ghosts}

@@ -14,7 +14,7 @@ use Rattle.world_runs.specs.declared.event.Happening.TheVariants.{Began, NotBegu
 use Rattle.world_runs.specs.Actors.{Actor, Running, went_on}
 use Rattle.world_runs.specs.Moments.{WorldState, after, opening}
 use Rattle.world_runs.specs.OwnRuns.{stored_after}
-use Rattle.store_world.specs.Worlds.{Ghost, World, opening_ghost, ghost_next, ghost_settled}
+use Rattle.store_pasts.specs.Worlds.{Ghost, World, opening_ghost, ghost_next, ghost_settled}
 use Rattle.program_laws.specs.Known.{Deciding}
 
 -- what is decided where a command stands: one that did not hear its last reply decided nothing by it

@@ -9,8 +9,8 @@ use Rattle.tect_ids.specs.declared.answer.Answer.{Answer}
 use Rattle.store_rules.specs.declared.any.AnyReq.{AnyReq}
 use Rattle.store_rules.specs.declared.any.AnyReply.{AnyReply}
 use Rattle.store_rules.specs.Store.{store_reply, store_step}
-use Rattle.store_world.specs.Worlds as worlds
-use Rattle.store_world.specs.Requests.{Kept}
+use Rattle.store_pasts.specs.Worlds as worlds
+use Rattle.store_world.specs.Kept.{Kept}
 use Rattle.store_world.proofs.Rows.{role_laws}
 use Rattle.tree_model.specs.declared.step.TreeStep.{TreeStep}
 use Rattle.tree_model.specs.Tree.{Tree, tree_reply}

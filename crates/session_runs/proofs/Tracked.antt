@@ -4,8 +4,8 @@ use Rattle.tect_ids.specs.declared.ids.Counts.{Counts}
 use Rattle.tect_ids.specs.declared.ids.OpId.{OpId}
 use Rattle.store_rules.specs.declared.any.AnyReq.{AnyReq}
 use Rattle.store_rules.specs.Store.{store_reply}
-use Rattle.store_world.specs.Worlds.{next}
-use Rattle.store_world.specs.Requests.{Kept}
+use Rattle.store_pasts.specs.Worlds.{next}
+use Rattle.store_world.specs.Kept.{Kept}
 use Rattle.tree_model.specs.Tree.{Tree, opening_tree}
 use Rattle.program_rules.specs.Served.{Program, programs}
 use Rattle.world_runs.specs.declared.event.Event.{Event}

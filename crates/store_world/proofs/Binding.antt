@@ -17,9 +17,11 @@ use Rattle.store_rules.specs.declared.any.AnyReq.TheVariants as any
 use Rattle.store_rules.specs.Names.{key_in, replaced}
 use Rattle.store_rules.specs.Store.{Store, store_changes, store_reply}
 use Rattle.store_rules.specs.Views.{is_made, as_bound, as_unbound, as_swapped}
-use Rattle.store_world.specs.Worlds.{World, Live, done}
-use Rattle.store_world.specs.Sound.{Sound, was_made, dead_in, parent, IsGranted}
-use Rattle.store_world.specs.Requests.{Needs, Kept, BoundTaught, SwappedTaught, UnboundTaught}
+use Rattle.store_pasts.specs.Worlds.{World, Live, done}
+use Rattle.store_pasts.specs.Pasts.{was_made, dead_in, IsGranted}
+use Rattle.store_world.specs.Sound.{Sound, parent}
+use Rattle.store_pasts.specs.Requests.{Needs, BoundTaught, SwappedTaught, UnboundTaught}
+use Rattle.store_world.specs.Kept.{Kept}
 use Rattle.store_world.proofs.Frames.{Row, by_answer, by_reading, grants_nothing}
 
 -- a hold's node was made, and so was the directory that it is for
@@ -111,7 +113,7 @@ pub bind_row : (k : Key) (n : Node) (h : Hold) (o : Over) → Row (any.Name (nam
 bind_row k n h o = record {
   kept = λ w s needs. by_answer w (any.Name (names.Bind k n h o)) _ refl (λ e. by_reading w _ s (bind_refused w k n h o needs e))
       (bind_done w s k n h o needs);
-  laws = grants_nothing (any.Name (names.Bind k n h o)) refl refl (λ s. bind_untold s k n h o);
+  laws = grants_nothing (any.Name (names.Bind k n h o)) refl refl (λ s. bind_untold s k n h o) (λ w k. tt);
 }
 
 -- Unbind
@@ -177,7 +179,7 @@ pub unbind_row : (k : Key) (want : Want) → Row (any.Name (names.Unbind k want)
 unbind_row k want = record {
   kept = λ w s needs. by_answer w (any.Name (names.Unbind k want)) _ refl (λ e. by_reading w _ s (unbind_refused w k want e))
       (unbind_done w s k want);
-  laws = grants_nothing (any.Name (names.Unbind k want)) refl refl (λ s. unbind_untold s k want);
+  laws = grants_nothing (any.Name (names.Unbind k want)) refl refl (λ s. unbind_untold s k want) (λ w k. tt);
 }
 
 -- Swap
@@ -309,5 +311,5 @@ pub swap_row : (d : DirId) (from to : List ℕ) (n : Node) (h : Hold) → Row (a
 swap_row d from to n h = record {
   kept = λ w s needs. by_answer w (any.Name (names.Swap d from to n h)) _ refl
       (λ e. by_reading w _ s (swap_refused w d from to n h needs e)) (swap_done w s d from to n h needs);
-  laws = grants_nothing (any.Name (names.Swap d from to n h)) refl refl (λ s. swap_untold s d from to n h);
+  laws = grants_nothing (any.Name (names.Swap d from to n h)) refl refl (λ s. swap_untold s d from to n h) (λ w k. k.1);
 }

@@ -11,9 +11,10 @@ use Rattle.store_rules.specs.declared.files.FileReq.TheVariants as files
 use Rattle.store_rules.specs.declared.any.AnyReq.TheVariants as any
 use Rattle.store_rules.specs.Store.{Store, store_changes, store_reply}
 use Rattle.store_rules.specs.Views.{is_made}
-use Rattle.store_world.specs.Worlds.{World, done}
+use Rattle.store_pasts.specs.Worlds.{World, done}
 use Rattle.store_world.specs.Sound.{Sound, parent}
-use Rattle.store_world.specs.Requests.{Needs, Kept, GrantTaught}
+use Rattle.store_pasts.specs.Requests.{Needs, GrantTaught}
+use Rattle.store_world.specs.Kept.{Kept}
 use Rattle.store_world.proofs.Frames.{Row, by_answer, by_reading, grants_nothing, grants_one}
 use Rattle.store_world.proofs.Chains.{climbs_still}
 
@@ -81,7 +82,7 @@ pub grant_dir_row : (d : DirId) (h : Hold) (k : Key) → Row (any.Name (names.Gr
 grant_dir_row d h k = record {
   kept = λ w s needs. by_answer w (any.Name (names.Grant d h k)) _ refl (λ e. by_reading w _ s (dir_grant_refused w d h k e))
       (dir_granted w s d h k needs);
-  laws = grants_one (any.Name (names.Grant d h k)) record { node = Dir d; hold = h; key = k } refl (λ w needs. needs.0) refl
+  laws = grants_one (any.Name (names.Grant d h k)) record { node = Dir d; hold = h; key = k } refl (λ w needs. needs.0) (λ w k. tt) refl
       (λ s. dir_grant_untold s d h k) (λ v x t. t);
 }
 
@@ -142,7 +143,7 @@ pub grant_file_row : (f : FileId) (h : Hold) (k : Key) → Row (any.File (files.
 grant_file_row f h k = record {
   kept = λ w s needs. by_answer w (any.File (files.Grant f h k)) _ refl (λ e. by_reading w _ s (file_grant_refused w f h k e))
       (file_granted w s f h k needs);
-  laws = grants_one (any.File (files.Grant f h k)) record { node = File f; hold = h; key = k } refl (λ w needs. needs.0) refl
+  laws = grants_one (any.File (files.Grant f h k)) record { node = File f; hold = h; key = k } refl (λ w needs. needs.0) (λ w k. tt) refl
       (λ s. file_grant_untold s f h k) (λ v x t. t);
 }
 
@@ -205,7 +206,7 @@ dir_release_untold s d h = grind arith
 pub release_dir_row : (d : DirId) (h : Hold) → Row (any.Name (names.Release d h))
 release_dir_row d h = record {
   kept = λ w s needs. by_answer w (any.Name (names.Release d h)) _ refl (λ e. by_reading w _ s tt) (λ e. dir_released w s d h needs);
-  laws = grants_nothing (any.Name (names.Release d h)) refl refl (λ s. dir_release_untold s d h);
+  laws = grants_nothing (any.Name (names.Release d h)) refl refl (λ s. dir_release_untold s d h) (λ w k. tt);
 }
 
 -- Release at a file
@@ -246,5 +247,5 @@ file_release_untold s f h = grind arith
 pub release_file_row : (f : FileId) (h : Hold) → Row (any.File (files.Release f h))
 release_file_row f h = record {
   kept = λ w s needs. by_answer w (any.File (files.Release f h)) _ refl (λ e. by_reading w _ s tt) (λ e. file_released w s f h needs);
-  laws = grants_nothing (any.File (files.Release f h)) refl refl (λ s. file_release_untold s f h);
+  laws = grants_nothing (any.File (files.Release f h)) refl refl (λ s. file_release_untold s f h) (λ w k. tt);
 }

@@ -13,9 +13,10 @@ use Rattle.store_rules.specs.declared.names.NameReq.TheVariants as names
 use Rattle.store_rules.specs.declared.files.FileReq.TheVariants as files
 use Rattle.store_rules.specs.declared.any.AnyReq.TheVariants as any
 use Rattle.store_rules.specs.Store.{store_changes}
-use Rattle.store_world.specs.Worlds.{World, done}
+use Rattle.store_pasts.specs.Worlds.{World, done}
 use Rattle.store_world.specs.Sound.{Sound, parent, above}
-use Rattle.store_world.specs.Requests.{Needs, Kept}
+use Rattle.store_pasts.specs.Requests.{Needs}
+use Rattle.store_world.specs.Kept.{Kept}
 use Rattle.store_world.proofs.Frames.{Row, by_answer, makes_one}
 use Rattle.store_world.proofs.Chains.{climbs_still, climbs_from}
 
@@ -74,8 +75,8 @@ pub make_file_row : (f : FileId) (h : Hold) (k : Key) (t : Option OpId) → Row 
 make_file_row f h k t = record {
   kept = λ w s needs. by_answer w (any.File (files.MakeFile f h k t)) _ refl (file_not_refused w s f h k t needs)
       (file_made w s f h k t needs);
-  laws = makes_one (any.File (files.MakeFile f h k t)) record { node = File f; hold = h; key = k } refl (λ w needs. needs.1) refl
-      (λ v x t. t);
+  laws = makes_one (any.File (files.MakeFile f h k t)) record { node = File f; hold = h; key = k } refl (λ w needs. needs.1) (λ w k. tt) refl
+      (λ w needs. needs.0) (λ v x t. t);
 }
 
 -- MakeDir
@@ -157,6 +158,6 @@ pub make_dir_row : (d up : DirId) (h : Hold) (k : Key) → Row (any.Name (names.
 make_dir_row d up h k = record {
   kept = λ w s needs. by_answer w (any.Name (names.MakeDir d up h k)) _ refl (dir_not_refused w s d up h k needs)
       (dir_made w s d up h k needs);
-  laws = makes_one (any.Name (names.MakeDir d up h k)) record { node = Dir d; hold = h; key = k } refl (λ w needs. needs.1) refl
-      (λ v x t. t);
+  laws = makes_one (any.Name (names.MakeDir d up h k)) record { node = Dir d; hold = h; key = k } refl (λ w needs. needs.1) (λ w k. tt) refl
+      (λ w needs. needs.0) (λ v x t. t);
 }

@@ -1,127 +1,37 @@
 -- giving up, where the answer of an op is decided, keeps a world sound: what is bound stays, and nothing asks that a hold may still be
 -- bound
-use Rattle.std.proofs.Common.{◌≡◌, Bool, true, false, if◌then◌else◌, Option, Some, None, refl, subst}
-use Rattle.tect_ids.specs.declared.ids.Hold.{Hold}
-use Rattle.tect_ids.specs.declared.ids.Node.{Node}
+use Rattle.std.proofs.Common.{Option, Some, None, refl}
 use Rattle.tect_ids.specs.declared.ids.OpId.{OpId}
-use Rattle.tect_ids.specs.declared.key.Key.{Key}
-use Rattle.tect_ids.specs.Keys.{op_eq}
-use Rattle.store_rules.specs.Store.{Store}
-use Rattle.store_world.specs.Worlds.{HoldPhase, Live, Set, Past, Given, World, over, over_phase, given_over, settled}
-use Rattle.store_world.specs.Sound.{Sound, leads, phase_spent, given_spent, is_spent, IsGranted}
-use Rattle.store_world.specs.Later.{Later}
-use Rattle.store_world.specs.Requests.{touches_op}
-use Rattle.store_world.proofs.Frames.{later_same}
+use Rattle.store_pasts.specs.Worlds.{World, over, settled}
+use Rattle.store_pasts.proofs.Over.{before, set_stays, leads_stay}
+use Rattle.store_world.specs.Sound.{Sound}
 
--- ---- a hold, and what it was before
-
--- the hold was granted for the same; where it is bound it was bound, and where it may still be bound it might
-pub record WasGiven (o : Option Given) (g : Given) : Type 0 where
-  pub phase : HoldPhase
-  pub is : o ≡ Some record { lower = g.lower; upper = g.upper; phase = phase }
-  pub set : g.phase ≡ Set → o ≡ Some g
-  pub live : g.phase ≡ Live → o ≡ Some g
-
-same_given : (o : Option Given) (g : Given) → o ≡ Some g → WasGiven o g
-same_given o g e = record { phase = g.phase; is = e; set = λ p. e; live = λ p. e }
-
--- of one that was given up, if it was not bound
-over_given : (n : Node) (k : Key) (p : HoldPhase) (g : Given) → given_over (Some record { lower = n; upper = k; phase = p }) ≡ Some g
-    → WasGiven (Some record { lower = n; upper = k; phase = p }) g
-over_given n k Live g e =
-    let same : record { lower = n; upper = k; phase = Past } ≡ g = cc in
-    subst (λ (x : Given). WasGiven (Some record { lower = n; upper = k; phase = Live }) x) same
-    record { phase = Live; is = refl; set = λ p. absurd (let f : Past ≡ Set = p in cc); live = λ p. absurd (let f : Past ≡ Live = p in cc) }
-over_given n k Set g e = same_given _ g e
-over_given n k Past g e = same_given _ g e
-
-past_given : (o : Option Given) (g : Given) → given_over o ≡ Some g → WasGiven o g
-past_given None g e = absurd (let f : None ≡ Some g = e in cc)
-past_given (Some was) g e = over_given was.lower was.upper was.phase g e
-
--- what is bound stays so
-over_set : (n : Node) (k : Key) (p : HoldPhase) → p ≡ Set
-    → given_over (Some record { lower = n; upper = k; phase = p }) ≡ Some record { lower = n; upper = k; phase = p }
-over_set n k Live e = absurd (let f : Live ≡ Set = e in cc)
-over_set n k Set e = refl
-over_set n k Past e = absurd (let f : Past ≡ Set = e in cc)
-
-over_leads : (o : Option Given) → leads (given_over o) ≡ leads o
-over_leads None = refl
-over_leads (Some g) = refl
-
-phase_still : (p : HoldPhase) (b : Bool) → phase_spent p b ≡ true → phase_spent (over_phase p) b ≡ true
-phase_still Live b e = refl
-phase_still Set b e = e
-phase_still Past b e = e
-
-over_still : (s : Store) (op : OpId) (o : Option Given) → given_spent s op o ≡ true → given_spent s op (given_over o) ≡ true
-over_still s op None e = e
-over_still s op (Some g) e = phase_still g.phase _ e
-
--- ---- in a world
-
-module _ (w : World) (op : OpId) where
-  -- by whether a hold is the op's
-  by_op : (h : Hold) (Q : Option Given → Type 0) → Q (given_over (w.ghost.given h)) → Q (w.ghost.given h) → Q ((over op w).ghost.given h)
-  by_op h Q own other =
-      elim (op_eq h.op op) as (λ b. Q (if b then given_over (w.ghost.given h) else w.ghost.given h)) [ true ↦ own | false ↦ other ]
-
-  before : (h : Hold) (g : Given) → (over op w).ghost.given h ≡ Some g → WasGiven (w.ghost.given h) g
-  before h g = by_op h (λ o. o ≡ Some g → WasGiven (w.ghost.given h) g) (past_given (w.ghost.given h) g) (same_given (w.ghost.given h) g)
-
-  set_stays : (h : Hold) (g : Given) → w.ghost.given h ≡ Some g → g.phase ≡ Set → (over op w).ghost.given h ≡ Some g
-  set_stays h g is p = by_op h (λ o. o ≡ Some g) (rw is (over_set g.lower g.upper g.phase p)) is
-
-  leads_stay : (h : Hold) → leads ((over op w).ghost.given h) ≡ leads (w.ghost.given h)
-  leads_stay h = by_op h (λ o. leads o ≡ leads (w.ghost.given h)) (over_leads (w.ghost.given h)) refl
-
-  -- what was not granted is not
-  pub over_free : (h : Hold) → w.ghost.given h ≡ None → (over op w).ghost.given h ≡ None
-  over_free h e = by_op h (λ o. o ≡ None) (rw e refl) e
-
-  -- each hold of the op that was granted can be released, if it is not bound
-  pub over_spent : (h : Hold) (n : Node) (k : Key) → op_eq h.op op ≡ true → IsGranted w h n k → is_spent (over op w) h ≡ true
-  over_spent h n k own granted = rw (own, granted) refl
-
-  pub over_later : Later (touches_op op) w (over op w)
-  over_later = record {
-    made = λ n e. e;
-    unmade = λ n o e. e;
-    named = λ n e. e;
-    unnamed = λ n o e. e;
-    fresh = λ h o e. over_free h e;
-    live = λ h g o e l. rw o e;
-    kept = λ h p e. rw (leads_stay h) e;
-    spent = λ h e. by_op h (λ o. given_spent w.store h.op o ≡ true) (over_still w.store h.op (w.ghost.given h) e) e;
-  }
-
-  pub over_sound : Sound w → Sound (over op w)
-  over_sound s = record {
-    entries = record {
-      bound = λ k e is. set_stays e.hold _ (s.entries.bound k e is) refl;
-      at_home = s.entries.at_home;
-      in_dir = s.entries.in_dir;
-      set = λ h g is p. s.entries.set h g ((before h g is).set p) p;
-    };
-    holds = record {
-      set = λ h g is p. s.holds.set h g ((before h g is).set p) p;
-      live = λ h g is l nd. s.holds.live h g ((before h g is).live l) l nd;
-      listed = λ n h u is. rw (leads_stay h) (s.holds.listed n h u is);
-      lower_made = λ h g is. s.holds.lower_made h _ (before h g is).is;
-      upper_made = λ h g is. s.holds.upper_made h _ (before h g is).is;
-    };
-    nodes = s.nodes;
-    tree = record {
-      named = s.tree.named;
-      unnamed = λ h g d p is low hm par. s.tree.unnamed h _ d p (before h g is).is low hm par;
-      stands = s.tree.stands;
-      climbs = s.tree.climbs;
-      root_made = s.tree.root_made;
-      root_home = s.tree.root_home;
-      root_free = λ h g is low. s.tree.root_free h _ (before h g is).is low;
-    };
-  }
+pub over_sound : (w : World) (op : OpId) → Sound w → Sound (over op w)
+over_sound w op s = record {
+  entries = record {
+    bound = λ k e is. set_stays w op e.hold _ (s.entries.bound k e is) refl;
+    at_home = s.entries.at_home;
+    in_dir = s.entries.in_dir;
+    set = λ h g is p. s.entries.set h g ((before w op h g is).set p) p;
+  };
+  holds = record {
+    set = λ h g is p. s.holds.set h g ((before w op h g is).set p) p;
+    live = λ h g is l nd. s.holds.live h g ((before w op h g is).live l) l nd;
+    listed = λ n h u is. rw (leads_stay w op h) (s.holds.listed n h u is);
+    lower_made = λ h g is. s.holds.lower_made h _ (before w op h g is).is;
+    upper_made = λ h g is. s.holds.upper_made h _ (before w op h g is).is;
+  };
+  nodes = s.nodes;
+  tree = record {
+    named = s.tree.named;
+    unnamed = λ h g d p is low hm par. s.tree.unnamed h _ d p (before w op h g is).is low hm par;
+    stands = s.tree.stands;
+    climbs = s.tree.climbs;
+    root_made = s.tree.root_made;
+    root_home = s.tree.root_home;
+    root_free = λ h g is low. s.tree.root_free h _ (before w op h g is).is low;
+  };
+}
 
 -- ---- at a step
 
@@ -130,20 +40,3 @@ module _ {R : Type 0} (w : World) (op : OpId) where
   settled_sound None None s = s
   settled_sound None (Some a) s = over_sound w op s
   settled_sound (Some b) now s = s
-
-  pub settled_later : (was now : Option R) → Later (touches_op op) w (settled op was now w)
-  settled_later None None = later_same _ w
-  settled_later None (Some a) = over_later w op
-  settled_later (Some b) now = later_same _ w
-
-  -- what was not granted is not
-  pub settled_free : (was now : Option R) (h : Hold) → w.ghost.given h ≡ None → (settled op was now w).ghost.given h ≡ None
-  settled_free None None h e = e
-  settled_free None (Some a) h e = over_free w op h e
-  settled_free (Some b) now h e = e
-
-  -- where nothing is decided by the step, it gives nothing up
-  pub settles_nothing : (was now : Option R) → (was ≡ None → now ≡ None) → settled op was now w ≡ w
-  settles_nothing None None none = refl
-  settles_nothing None (Some a) none = absurd (let f : Some a ≡ None = none refl in cc)
-  settles_nothing (Some b) now none = refl

@@ -8,10 +8,11 @@ use Rattle.store_rules.specs.declared.files.FileReq.TheVariants as files
 use Rattle.store_rules.specs.declared.any.AnyReq.{AnyReq}
 use Rattle.store_rules.specs.declared.any.AnyReq.TheVariants as any
 use Rattle.store_rules.specs.Store.{opening_store}
-use Rattle.store_world.specs.Worlds.{World, next, opening_ghost}
+use Rattle.store_pasts.specs.Worlds.{World, next, opening_ghost}
 use Rattle.store_world.specs.Sound.{Sound}
-use Rattle.store_world.specs.Requests.{Needs, Kept}
-use Rattle.store_world.specs.RoleLaws.{RoleLaws}
+use Rattle.store_pasts.specs.Requests.{Needs}
+use Rattle.store_world.specs.Kept.{Kept}
+use Rattle.store_pasts.specs.RoleLaws.{RoleLaws}
 use Rattle.store_world.proofs.Frames.{Row}
 use Rattle.store_world.proofs.Reading.{check_row, look_row, list_row}
 use Rattle.store_world.proofs.Making.{make_dir_row, make_file_row}

@@ -1,7 +1,2 @@
-pub mod Ghosts
 pub mod Sound
-pub mod Later
-pub mod Roles
-pub mod Worlds
-pub mod Requests
-pub mod RoleLaws
+pub mod Kept

@@ -16,7 +16,8 @@ use Rattle.store_rules.specs.declared.names.DirectoryEntry.{DirectoryEntry}
 use Rattle.store_rules.specs.Names.{dir_lists}
 use Rattle.store_rules.specs.Files.{file_lists}
 use Rattle.store_rules.specs.Store.{Store}
-use Rattle.store_world.specs.Ghosts.{HoldPhase, Live, Set, Past, Given, Ghost, World}
+use Rattle.store_pasts.specs.Ghosts.{Live, Set, Given, World}
+use Rattle.store_pasts.specs.Pasts.{was_made, dead_in, leads}
 
 -- what the node lists the hold for; nothing where the node does not stand
 abbrev pub lists : Store → Node → Hold → Option Upper
@@ -28,28 +29,10 @@ abbrev pub stands : Store → Node → Bool
 stands s (Dir d) = is_some (get s.names.dirs d)
 stands s (File f) = is_some (get s.files f)
 
--- whether the node was ever made
-abbrev pub was_made : Ghost → Node → Bool
-was_made g n = is_some (get g.made n)
-
--- whether the op can bind nothing in that directory any more: it stands no more
-abbrev pub dead : Option Directory → OpId → Bool
-dead None op = true
-dead (Some d) op = false
-
--- the same of a directory by its identifier
-abbrev pub dead_in : Store → DirId → OpId → Bool
-dead_in s d op = dead (get s.names.dirs d) op
-
 -- the hold of an entry
 abbrev pub hold_of : Option DirectoryEntry → Option Hold
 hold_of None = None
 hold_of (Some e) = Some e.hold
-
--- the node that a hold holds, and what it was granted for
-abbrev pub leads : Option Given → Option (Node × Upper)
-leads None = None
-leads (Some g) = Some (g.lower, uppers.Entry g.upper)
 
 -- of the entries: each one's hold is bound at just its key, and its node is at home there
 pub record SoundEntries (entries : FinMap key_cmp DirectoryEntry) (standing : DirId → Bool) (given : Hold → Option Given)
@@ -116,22 +99,3 @@ pub record Sound (w : World) : Type 0 where
   pub holds : SoundHolds (lists w.store) (dead_in w.store) w.ghost.given (was_made w.ghost)
   pub nodes : SoundNodes (stands w.store) (was_made w.ghost) w.ghost.home
   pub tree : SoundTree (parent w.store) w.ghost.given w.ghost.home (was_made w.ghost)
-
--- whether a hold in that phase is not bound and never will be
-abbrev pub phase_spent : HoldPhase → Bool → Bool
-phase_spent Live no_more = no_more
-phase_spent Set no_more = false
-phase_spent Past no_more = true
-
--- the same of a hold that was granted, or not
-abbrev pub given_spent : Store → OpId → Option Given → Bool
-given_spent s op None = false
-given_spent s op (Some g) = phase_spent g.phase (dead_in s g.upper.dir op)
-
--- whether the hold is not bound and never will be
-abbrev pub is_spent : World → Hold → Bool
-is_spent w h = given_spent w.store h.op (w.ghost.given h)
-
--- the hold was granted for that key, and is not bound yet
-abbrev pub IsGranted : World → Hold → Node → Key → Type 0
-IsGranted w h n k = w.ghost.given h ≡ Some record { lower = n; upper = k; phase = Live }

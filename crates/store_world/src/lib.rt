@@ -1,3 +1,2 @@
-//! The store beside its past: what was made, the holds that were granted and where each node is named. When such a world
-//! is sound, what each request needs and teaches, and that each keeps the world sound.
+//! When the store beside its past is sound; each request whose needs are met keeps it so, and teaches what its role says. So does giving up.
 #![tactic(auto)]

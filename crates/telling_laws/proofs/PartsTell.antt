@@ -24,7 +24,7 @@ use Rattle.world_runs.specs.declared.event.Event.TheVariants.{Own}
 use Rattle.world_runs.specs.declared.event.Happening.TheVariants.{Began, Acted}
 use Rattle.claim_words.specs.TreeSteps.{tree_steps}
 use Rattle.claim_words.specs.Points.{of_op}
-use Rattle.telling_laws.specs.Telling.{is_of, IsSafe, Telling, OfDecided, Tells, TellingLaws}
+use Rattle.telling_laws.specs.Telling.{is_of, IsFresh, Telling, OfDecided, Tells, TellingLaws}
 use Rattle.telling_laws.specs.Parts.{NextTells, NextBefore, next_telling, PartTells, release_telling}
 use Rattle.telling_laws.proofs.Steps.{reply_at, act_at, Allows}
 
@@ -35,7 +35,7 @@ pub record TellsAt {S : Type 0} (d : Doing S Answer) (D : Deciding S Answer) (T 
     (Before : List Event → OpId → Command → Type 0) : Type 0 where
   pub turns : (counts : Counts) (h : List Event) (op : OpId) (c : Command) (m : Memory) → Before h op c → now ≡ None
       → NextTells D T h op c (d.turns counts m op).state
-  pub hears : (counts : Counts) (h : List Event) (op : OpId) (c : Command) (m : Memory) (how : Heard) → IsSafe h (d.asks counts m op)
+  pub hears : (counts : Counts) (h : List Event) (op : OpId) (c : Command) (m : Memory) (how : Heard) → IsFresh h (d.asks counts m op)
       → Before h op c → now ≡ None → Allows h (act_at h op (d.asks counts m op) how)
       → NextTells D T (h ++ act_at h op (d.asks counts m op) how ∷ []) op c
       (d.hears counts m op (d.asks counts m op) (reply_at h (d.asks counts m op)))
@@ -55,11 +55,11 @@ module _ {S : Type 0} {P : Part S Answer} {D : Deciding S Answer} {T : Telling S
   pub part_tells : ((s : S) → TellsIn P D T s) → Lasts T → PartTells P D T
   part_tells at lasts = record {
     turns = λ counts h op c m s. (at s).turns counts h op c m;
-    hears = λ counts h op c m s x how safe is before none.
+    hears = λ counts h op c m s x how fresh is before none.
         let q : AnyReq = P.asks counts m op s in
         subst (λ (y : AnyReply). Allows h (Own op (Acted q y how))
         → NextTells D T (h ++ Own op (Acted q y how) ∷ []) op c (P.hears counts m op s q y)) (sym is)
-        ((at s).hears counts h op c m how safe before none);
+        ((at s).hears counts h op c m how fresh before none);
     stays = λ h e op c s. (at s).stays h e op c;
     lasts = lasts;
     turned = λ counts m op s. (at s).turned counts m op;
@@ -69,8 +69,8 @@ module _ {S : Type 0} {P : Part S Answer} {D : Deciding S Answer} {T : Telling S
   pub tells_in : PartTells P D T → (s : S) → TellsIn P D T s
   tells_in L s = record {
     turns = λ counts h op c m. L.turns counts h op c m s;
-    hears = λ counts h op c m how safe before none.
-        L.hears counts h op c m s (reply_at h (P.asks counts m op s)) how safe refl before none;
+    hears = λ counts h op c m how fresh before none.
+        L.hears counts h op c m s (reply_at h (P.asks counts m op s)) how fresh refl before none;
     stays = λ h e op c. L.stays h e op c s;
     turned = λ counts m op. L.turned counts m op s;
     heard = λ counts m op. L.heard counts m op s;
@@ -80,7 +80,7 @@ module _ {S : Type 0} {P : Part S Answer} {D : Deciding S Answer} {T : Telling S
 pub record WaitsAt {S : Type 0} (P : Part S Answer) (D : Deciding S Answer) (T : Telling S) (s : S) : Type 0 where
   pub looks : (counts : Counts) (m : Memory) (op : OpId) → P.turns counts m op s ≡ record { memory = m; state = Goes s }
   pub undecided : D.decided s ≡ None
-  pub hears : (counts : Counts) (h : List Event) (op : OpId) (c : Command) (m : Memory) (how : Heard) → IsSafe h (P.asks counts m op s)
+  pub hears : (counts : Counts) (h : List Event) (op : OpId) (c : Command) (m : Memory) (how : Heard) → IsFresh h (P.asks counts m op s)
       → T.Before h op c s → Allows h (act_at h op (P.asks counts m op s) how)
       → NextTells D T (h ++ act_at h op (P.asks counts m op s) how ∷ []) op c
       (P.hears counts m op s (P.asks counts m op s) (reply_at h (P.asks counts m op s)))
@@ -97,7 +97,7 @@ waits_tell {S} P D T s L = record {
   turns = λ counts h op c m before none.
       subst (λ (t : Turned (Next S Answer)). NextTells D T h op c t.state) (sym (L.looks counts m op))
       (told_before D T h op c s none before);
-  hears = λ counts h op c m how safe before none. L.hears counts h op c m how safe before;
+  hears = λ counts h op c m how fresh before none. L.hears counts h op c m how fresh before;
   stays = L.stays;
   turned = λ counts m op. subst (λ (t : Turned (Next S Answer)). IsTurned D (D.decided s) t.state) (sym (L.looks counts m op)) refl;
   heard = λ counts m op q x a is. absurd (let k : None ≡ Some a = sym L.undecided ∙ is in cc);
@@ -128,7 +128,7 @@ module _ {S R : Type 0} (f : S → R) {D : Deciding S Answer} {T : Telling S} {E
       → TellsAt d D T now Before → TellsAt (doing_within f d) E U now Before
   tells_within {d} {now} {Before} L = record {
     turns = λ counts h op c m before none. within_tells h op c (d.turns counts m op).state (L.turns counts h op c m before none);
-    hears = λ counts h op c m how safe before none run. within_tells _ op c _ (L.hears counts h op c m how safe before none run);
+    hears = λ counts h op c m how fresh before none run. within_tells _ op c _ (L.hears counts h op c m how fresh before none run);
     stays = L.stays;
     turned = λ counts m op. within_turned f D E i.decided now (d.turns counts m op).state (L.turned counts m op);
     heard = λ counts m op q x a is. within_decided f D E i.decided (d.hears counts m op q x) ∙ L.heard counts m op q x a is;
@@ -146,7 +146,7 @@ pub release_tells : (because : List Event → OpId → Command → Answer → Ty
     → PartTells releasing release_deciding (release_telling because)
 release_tells because lasts = part_tells (λ r. record {
   turns = λ counts h op c m before none. absurd (let k : Some r.answer ≡ None = none in cc);
-  hears = λ counts h op c m how safe before none. absurd (let k : Some r.answer ≡ None = none in cc);
+  hears = λ counts h op c m how fresh before none. absurd (let k : Some r.answer ≡ None = none in cc);
   stays = λ h e op c other before. tt;
   turned = λ counts m op. refl;
   heard = λ counts m op q x a is. then_release_decided r.second r.answer ∙ is;
@@ -175,15 +175,15 @@ module _ {S : Type 0} {P : Part S Answer} {D : Deciding S Answer} {T : Telling S
   next_turns counts h op c m (Comes r) before none = absurd (let k : Some r ≡ None = none in cc)
 
   next_hears_told : (counts : Counts) (h : List Event) (op : OpId) (c : Command) (m : Memory) (n : Next S Answer) (q : AnyReq)
-      (x : AnyReply) (how : Heard) → IsSafe h q → next_asks P counts m op n ≡ Asks q → x ≡ reply_at h q → NextBefore T h op c n
+      (x : AnyReply) (how : Heard) → IsFresh h q → next_asks P counts m op n ≡ Asks q → x ≡ reply_at h q → NextBefore T h op c n
       → next_decided D n ≡ None → Allows h (Own op (Acted q x how))
       → Tells (next_deciding D) (next_telling T) (h ++ Own op (Acted q x how) ∷ []) op c (next_hears P counts m op n q x)
-  next_hears_told counts h op c m (Goes s) q x how safe asks is before none run =
-      next_tells (h ++ Own op (Acted q x how) ∷ []) op c (P.hears counts m op s q x) (subst (λ (r : AnyReq). IsSafe h r → x ≡ reply_at h r
+  next_hears_told counts h op c m (Goes s) q x how fresh asks is before none run =
+      next_tells (h ++ Own op (Acted q x how) ∷ []) op c (P.hears counts m op s q x) (subst (λ (r : AnyReq). IsFresh h r → x ≡ reply_at h r
       → Allows h (Own op (Acted r x how)) → NextTells D T (h ++ Own op (Acted r x how) ∷ []) op c (P.hears counts m op s r x))
       (same_ask (P.asks counts m op s) q (ap (λ (d : Does Answer). asked_by d) asks))
-      (λ safe is run. L.hears counts h op c m s x how safe is before none run) safe is run)
-  next_hears_told counts h op c m (Comes r) q x how safe asks is before none run = absurd (let k : Some r ≡ None = none in cc)
+      (λ fresh is run. L.hears counts h op c m s x how fresh is before none run) fresh is run)
+  next_hears_told counts h op c m (Comes r) q x how fresh asks is before none run = absurd (let k : Some r ≡ None = none in cc)
 
   next_stays : (h : List Event) (e : Event) (op : OpId) (c : Command) (n : Next S Answer) → is_of op e ≡ false → NextBefore T h op c n
       → NextBefore T (h ++ e ∷ []) op c n
@@ -222,9 +222,9 @@ module _ {S : Type 0} {P : Part S Answer} {D : Deciding S Answer} {T : Telling S
     part_telling_laws begins = record {
       begins = λ counts h op c served none. next_tells (h ++ Own op (Began c) ∷ []) op c (starts counts c) (begins counts h op c served none);
       turns = next_turns;
-      hears = λ counts h op c m n q x how safe asks is before none run.
+      hears = λ counts h op c m n q x how fresh asks is before none run.
           let t : Turned (Next S Answer) = turned (kind_of P) counts m op n in
-          next_hears_told counts h op c t.memory t.state q x how safe asks is before none run;
+          next_hears_told counts h op c t.memory t.state q x how fresh asks is before none run;
       stays = next_stays;
       lasts = L.lasts;
       turned_so = next_turned;

@@ -1,5 +1,5 @@
 -- each request, seen by the tree
-use Rattle.std.proofs.Common.{◌≡◌, ℕ, Bool, true, false, Option, Some, None, refl, sym, ap, ◌∙◌, arith, if◌then◌else◌, List, [], ◌∷◌, map}
+use Rattle.std.proofs.Common.{◌≡◌, ◌≢◌, ℕ, Bool, true, false, Option, Some, None, refl, sym, ap, ◌∙◌, arith, if◌then◌else◌, List, [], ◌∷◌, map}
 use Rattle.std.specs.FinMap.{FinMap, get, entries, empty}
 use Rattle.tect_ids.specs.declared.ids.DirId.{DirId}
 use Rattle.tect_ids.specs.declared.ids.FileId.{FileId}
@@ -13,6 +13,7 @@ use Rattle.tect_ids.specs.declared.key.Upper.TheVariants as uppers
 use Rattle.tect_ids.specs.declared.values.Over.{Over}
 use Rattle.tect_ids.specs.declared.values.Want.{Want}
 use Rattle.tect_ids.specs.Keys.{key_cmp, name_eq}
+use Rattle.tect_ids.proofs.KeyTests.{name_eq_cases}
 use Rattle.ordered_rows.specs.Maps.{set_at}
 use Rattle.key_maps.specs.Maps.{within}
 use Rattle.store_rules.specs.declared.names.DirectoryEntry.{DirectoryEntry}
@@ -45,6 +46,9 @@ listing_alike : (m : FinMap key_cmp DirectoryEntry) (d : DirId)
     → map listed (entries (within m d)) ≡ map as_listed (entries (within (map_values shown_entry m) d))
 listing_alike m d = items_alike (entries (within m d)) ∙ ap (map as_listed)
     (sym (ap entries (within_seen shown_entry m d) ∙ entries-map_values shown_entry (within m d)))
+
+names_differ : (a b : List ℕ) → a ≢ b → name_eq a b ≡ false
+names_differ a b d = grind (arith, name_eq_cases a b)
 
 module _ (s : Store) (made : Made) (op : OpId) where
   -- what the reply says
@@ -180,15 +184,15 @@ module _ (s : Store) (made : Made) (op : OpId) where
   name_shows (names.CheckDir d) all new = check_shows d
   name_shows (names.Look k) all new = look_shows k
   name_shows (names.List d) all new = list_shows d
-  name_shows (names.MakeDir d p h k) all new = make_dir_shows d p h k all new
+  name_shows (names.MakeDir d p h k) all new = make_dir_shows d p h k all (new.new (nodes.Dir d) refl)
   name_shows (names.Bind k n h o) all new = bind_shows k n h o
-  name_shows (names.Swap d from to n h) all new = swap_shows d from to n h new
+  name_shows (names.Swap d from to n h) all new = swap_shows d from to n h (names_differ from to new.fits)
   name_shows (names.Unbind k w) all new = unbind_shows k w
   name_shows (names.Grant d h k) all new = grant_dir_shows d h k
   name_shows (names.Release d h) all new = release_dir_shows d h
 
   file_shows : (q : FileReq) → AllMade s made → MakesNew made (any.File q) → StepShows s made op (any.File q)
-  file_shows (files.MakeFile f h k t) all new = make_file_shows f h k t all new
+  file_shows (files.MakeFile f h k t) all new = make_file_shows f h k t all (new.new (nodes.File f) refl)
   file_shows (files.Grant f h k) all new = grant_file_shows f h k
   file_shows (files.Release f h) all new = release_file_shows f h
 

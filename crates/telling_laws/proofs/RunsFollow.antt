@@ -1,24 +1,11 @@
--- the small machine follows each run of programs that ask safely
-use Rattle.std.proofs.Common.{◌≡◌, ◌≢◌, ℕ, false, Option, Some, None, List, [], ◌∷◌, ◌++◌, sym, subst, append_assoc, arith}
+-- the small machine follows each run of programs that ask what is fresh
+use Rattle.std.proofs.Common.{◌≡◌, ℕ, Option, Some, None, List, [], ◌∷◌, ◌++◌, sym, subst, append_assoc}
 use Rattle.std.proofs.lemmas.List.{append-nil}
-use Rattle.std.specs.FinMap.{get}
 use Rattle.tect_ids.specs.declared.ids.Counts.{Counts}
-use Rattle.tect_ids.specs.declared.ids.Node.{Node}
-use Rattle.tect_ids.specs.declared.ids.Node.TheVariants as nodes
 use Rattle.tect_ids.specs.declared.ids.OpId.{OpId}
-use Rattle.tect_ids.specs.Keys.{name_eq}
-use Rattle.tect_ids.proofs.KeyTests.{name_eq_cases}
-use Rattle.store_rules.specs.declared.names.NameReq.{NameReq}
-use Rattle.store_rules.specs.declared.names.NameReq.TheVariants as names
-use Rattle.store_rules.specs.declared.files.FileReq.{FileReq}
-use Rattle.store_rules.specs.declared.files.FileReq.TheVariants as files
 use Rattle.store_rules.specs.declared.any.AnyReq.{AnyReq}
-use Rattle.store_rules.specs.declared.any.AnyReq.TheVariants as any
 use Rattle.store_rules.specs.declared.any.AnyReply.{AnyReply}
 use Rattle.store_rules.specs.Store.{Store, store_reply, store_step}
-use Rattle.store_world.specs.Worlds.{World}
-use Rattle.store_world.specs.Sound.{was_made}
-use Rattle.store_world.specs.Requests.{Needs, NameNeeds, FileNeeds}
 use Rattle.tree_model.specs.declared.step.TreeStep.{TreeStep}
 use Rattle.tree_model.specs.declared.step.TreeReply.{TreeReply}
 use Rattle.tree_model.specs.Tree.{Tree, opening_tree}
@@ -34,8 +21,8 @@ use Rattle.world_runs.proofs.Actors.{moment-append}
 use Rattle.world_runs.proofs.Owns.{counts_stay}
 use Rattle.world_runs.proofs.Standings.{Asking, asks_of}
 use Rattle.claim_words.specs.TreeSteps.{Told, told_as, told_of, tree_steps, tree_step, says, tree_after, IsTreeRun}
-use Rattle.telling_laws.specs.View.{Made, Shows, AllMade, NameMakesNew, FileMakesNew, MakesNew, TreeFollows, StepShows}
-use Rattle.telling_laws.specs.Telling.{tree_of, IsSafe, RunsAskSafely, RunsFollowTree}
+use Rattle.telling_laws.specs.View.{Shows, AllMade, MakesNew, TreeFollows, StepShows}
+use Rattle.telling_laws.specs.Telling.{tree_of, IsFresh, RunsAskFresh, RunsFollowTree}
 use Rattle.telling_laws.specs.Following.{RunsShowTree}
 use Rattle.telling_laws.proofs.RequestsShow.{request_shows}
 use Rattle.telling_laws.proofs.Made.{TreeMade, all_made, next_made, opening_shows, opening_made}
@@ -77,74 +64,43 @@ request_follows t s op q shown made new =
       run = follows_run t (store_step s q) op (tree_step q (store_reply s q)) (says (store_reply s q)) follows;
     }
 
--- ---- what is safe makes what was not made before
-
-name_safe : (w : World) (made : Made) (q : NameReq) → ((n : Node) → was_made w.ghost n ≡ false → get made n ≡ None) → NameNeeds w q
-    → NameMakesNew made q
-name_safe w made (names.CheckDir d) new needs = tt
-name_safe w made (names.Look k) new needs = tt
-name_safe w made (names.List d) new needs = tt
-name_safe w made (names.MakeDir d p h k) new needs = new (nodes.Dir d) needs.0
-name_safe w made (names.Bind k n h o) new needs = tt
-name_safe w made (names.Swap d from to n h) new needs = names_differ from to needs.1
-  where
-    names_differ : (a b : List ℕ) → a ≢ b → name_eq a b ≡ false
-    names_differ a b d = grind (arith, name_eq_cases a b)
-name_safe w made (names.Unbind k want) new needs = tt
-name_safe w made (names.Grant d h k) new needs = tt
-name_safe w made (names.Release d h) new needs = tt
-
-file_safe : (w : World) (made : Made) (q : FileReq) → ((n : Node) → was_made w.ghost n ≡ false → get made n ≡ None) → FileNeeds w q
-    → FileMakesNew made q
-file_safe w made (files.MakeFile f h k t) new needs = new (nodes.File f) needs.0
-file_safe w made (files.Grant f h k) new needs = tt
-file_safe w made (files.Release f h) new needs = tt
-
-pub needs_make_new : (w : World) (made : Made) (q : AnyReq) → ((n : Node) → was_made w.ghost n ≡ false → get made n ≡ None) → Needs w q
-    → MakesNew made q
-needs_make_new w made (any.Name q) new needs = name_safe w made q new needs
-needs_make_new w made (any.File q) new needs = file_safe w made q new needs
-
-pub safe_makes_new : (h : List Event) (q : AnyReq) → IsSafe h q → MakesNew (tree_of h).made q
-safe_makes_new h q safe = needs_make_new safe.world (tree_of h).made q safe.made safe.needs
-
 -- ---- an event, and a run
 
--- what the running commands ask next at that moment is safe
-abbrev pub AskSafely : {S : Type 0} → Programs S → List Event → WorldState S → Type 0
-AskSafely {S = S} P h m = (a : ℕ) (op : OpId) (s : S) (q : AnyReq) → (m.actors a).running ≡ Some record { op = op; at = Goes s }
-    → next_does P.kind m.counts (m.actors a).memory op s ≡ Asks q → IsSafe h q
+-- what the running commands ask next at that moment is fresh
+abbrev pub AskFresh : {S : Type 0} → Programs S → List Event → WorldState S → Type 0
+AskFresh {S = S} P h m = (a : ℕ) (op : OpId) (s : S) (q : AnyReq) → (m.actors a).running ≡ Some record { op = op; at = Goes s }
+    → next_does P.kind m.counts (m.actors a).memory op s ≡ Asks q → IsFresh h q
 
 module _ {S : Type 0} (P : Programs S) where
-  acted_follows : (h : List Event) (m : WorldState S) (op : OpId) (q : AnyReq) (x : AnyReply) (how : Heard) → AskSafely P h m
+  acted_follows : (h : List Event) (m : WorldState S) (op : OpId) (q : AnyReq) (x : AnyReply) (how : Heard) → AskFresh P h m
       → Shows m.store (tree_of h) → TreeMade (tree_of h) → May P m (Own op (Acted q x how))
       → Following (tree_of h) (store_step m.store q) (told_of (Own op (Acted q x how)))
-  acted_follows h m op q x how safe shown made may =
+  acted_follows h m op q x how fresh shown made may =
       let memory : Memory = (m.actors op.actor).memory in
       let a : Asking S P m.counts memory (m.actors op.actor).running op q =
       asks_of S P m.counts memory (m.actors op.actor).running op q may.0 in
-      let new : MakesNew (tree_of h).made q = safe_makes_new h q (safe op.actor op a.state q a.is a.asks) in
+      let new : MakesNew (tree_of h).made q = (fresh op.actor op a.state q a.is a.asks).new in
       subst (λ (y : AnyReply). Following (tree_of h) (store_step m.store q) (told_as op (tree_step q y) (says y))) (sym may.1)
       (request_follows (tree_of h) m.store op q shown made new)
 
-  event_follows : (h : List Event) (m : WorldState S) (e : Event) → AskSafely P h m → Shows m.store (tree_of h) → TreeMade (tree_of h)
+  event_follows : (h : List Event) (m : WorldState S) (e : Event) → AskFresh P h m → Shows m.store (tree_of h) → TreeMade (tree_of h)
       → May P m e → Following (tree_of h) (after P m e).store (told_of e)
-  event_follows h m (Own op (Acted q x how)) safe shown made may = acted_follows h m op q x how safe shown made may
-  event_follows h m (Own op (Began c)) safe shown made may = record { shown = shown; made = made; run = tt }
-  event_follows h m (Own op (NotBegun c)) safe shown made may = record { shown = shown; made = made; run = tt }
-  event_follows h m (Own op (Ended a)) safe shown made may = record { shown = shown; made = made; run = tt }
-  event_follows h m (Own op Stopped) safe shown made may = record { shown = shown; made = made; run = tt }
-  event_follows h m (Own op (Failed a)) safe shown made may = record { shown = shown; made = made; run = tt }
-  event_follows h m Dumped safe shown made may = record { shown = shown; made = made; run = tt }
+  event_follows h m (Own op (Acted q x how)) fresh shown made may = acted_follows h m op q x how fresh shown made may
+  event_follows h m (Own op (Began c)) fresh shown made may = record { shown = shown; made = made; run = tt }
+  event_follows h m (Own op (NotBegun c)) fresh shown made may = record { shown = shown; made = made; run = tt }
+  event_follows h m (Own op (Ended a)) fresh shown made may = record { shown = shown; made = made; run = tt }
+  event_follows h m (Own op Stopped) fresh shown made may = record { shown = shown; made = made; run = tt }
+  event_follows h m (Own op (Failed a)) fresh shown made may = record { shown = shown; made = made; run = tt }
+  event_follows h m Dumped fresh shown made may = record { shown = shown; made = made; run = tt }
 
   -- so it follows a history, whose steps are these
   abbrev Followed : List Event → WorldState S → Type 0
   Followed h m = Following opening_tree m.store (tree_steps h)
 
-  one_more : (h : List Event) (m : WorldState S) (e : Event) → Followed h m → AskSafely P h m → May P m e
+  one_more : (h : List Event) (m : WorldState S) (e : Event) → Followed h m → AskFresh P h m → May P m e
       → Followed (h ++ e ∷ []) (after P m e)
-  one_more h m e f safe may =
-      let g : Following (tree_of h) (after P m e).store (told_of e) = event_follows h m e safe f.shown f.made may in
+  one_more h m e f fresh may =
+      let g : Following (tree_of h) (after P m e).store (told_of e) = event_follows h m e fresh f.shown f.made may in
       let grown_tree : tree_after opening_tree (tree_steps h ++ told_of e) ≡ tree_after (tree_of h) (told_of e) =
       tree_after-append opening_tree (tree_steps h) (told_of e) in
       subst (λ (l : List Told). Following opening_tree (after P m e).store l) (sym (steps_more h e)) record {
@@ -154,30 +110,30 @@ module _ {S : Type 0} (P : Programs S) where
       }
 
   -- at each moment of a run
-  pub asks_safely : RunsAskSafely P → (counts : Counts) (h : List Event) → IsWorldRun P counts h → AskSafely P h (moment P counts h)
-  asks_safely safe counts h run = λ a op s q is asks. safe counts h run a op s q is (subst
+  pub asks_fresh : RunsAskFresh P → (counts : Counts) (h : List Event) → IsWorldRun P counts h → AskFresh P h (moment P counts h)
+  asks_fresh fresh counts h run = λ a op s q is asks. fresh counts h run a op s q is (subst
       (λ (c : Counts). next_does P.kind c ((moment P counts h).actors a).memory op s ≡ Asks q) (counts_stay P (opening counts) h) asks)
 
-  run_followed : RunsAskSafely P → (counts : Counts) (h es : List Event) → IsWorldRun P counts (h ++ es) → Followed h (moment P counts h)
+  run_followed : RunsAskFresh P → (counts : Counts) (h es : List Event) → IsWorldRun P counts (h ++ es) → Followed h (moment P counts h)
       → Followed (h ++ es) (moment P counts (h ++ es))
-  run_followed safe counts h [] run f = rw append-nil f
-  run_followed safe counts h (e ∷ es) run f =
+  run_followed fresh counts h [] run f = rw append-nil f
+  run_followed fresh counts h (e ∷ es) run f =
       let whole : IsWorldRun P counts ((h ++ e ∷ []) ++ es) = rw (append_assoc h (e ∷ []) es) run in
       let more : IsWorldRun P counts (h ++ e ∷ []) = run_front P (opening counts) (h ++ e ∷ []) es whole in
       let front : IsWorldRun P counts h = run_front P (opening counts) h (e ∷ []) more in
       let may : May P (moment P counts h) e = (run_rest P (opening counts) h (e ∷ []) more).0 in
       let next : Followed (h ++ e ∷ []) (moment P counts (h ++ e ∷ [])) =
       subst (λ (n : WorldState S). Followed (h ++ e ∷ []) n) (sym (moment-append P counts h (e ∷ [])))
-      (one_more h (moment P counts h) e f (asks_safely safe counts h front) may) in
+      (one_more h (moment P counts h) e f (asks_fresh fresh counts h front) may) in
       subst (λ (l : List Event). Followed l (moment P counts l)) (append_assoc h (e ∷ []) es)
-      (run_followed safe counts (h ++ e ∷ []) es whole next)
+      (run_followed fresh counts (h ++ e ∷ []) es whole next)
 
-  world_followed : RunsAskSafely P → (counts : Counts) (es : List Event) → IsWorldRun P counts es → Followed es (moment P counts es)
-  world_followed safe counts es run =
-      run_followed safe counts [] es run record { shown = opening_shows; made = opening_made; run = tt }
+  world_followed : RunsAskFresh P → (counts : Counts) (es : List Event) → IsWorldRun P counts es → Followed es (moment P counts es)
+  world_followed fresh counts es run =
+      run_followed fresh counts [] es run record { shown = opening_shows; made = opening_made; run = tt }
 
-  pub runs_show_tree : RunsAskSafely P → RunsShowTree P
-  runs_show_tree safe counts es run = (world_followed safe counts es run).shown
+  pub runs_show_tree : RunsAskFresh P → RunsShowTree P
+  runs_show_tree fresh counts es run = (world_followed fresh counts es run).shown
 
-  pub runs_follow_tree : RunsAskSafely P → RunsFollowTree P
-  runs_follow_tree safe counts es run = (world_followed safe counts es run).run
+  pub runs_follow_tree : RunsAskFresh P → RunsFollowTree P
+  runs_follow_tree fresh counts es run = (world_followed fresh counts es run).run

@@ -36,10 +36,10 @@ use Rattle.world_runs.proofs.Standings.{runs_at, Asking, asks_of, Saying, says_o
 use Rattle.claim_words.specs.TreeSteps.{told_of, tree_steps, IsTreeRun}
 use Rattle.claim_words.specs.Points.{of_op}
 use Rattle.claim_words.specs.Headline.{begun_by, or_later, command_of, ExplainsBy, HadNoRoom}
-use Rattle.telling_laws.specs.Telling.{is_of, tree_of, IsSafe, RunsAskSafely, RunsFollowTree, Telling, OfDecided, Tells, TellingLaws}
+use Rattle.telling_laws.specs.Telling.{is_of, tree_of, IsFresh, RunsAskFresh, RunsFollowTree, Telling, OfDecided, Tells, TellingLaws}
 use Rattle.telling_laws.specs.Telling.{RunsAreExplained}
 use Rattle.telling_laws.proofs.Histories.{steps_more, tree_run-rest, others_steps, others_begin, command_more, itself, run_front, run_rest}
-use Rattle.telling_laws.proofs.RunsFollow.{AskSafely, asks_safely}
+use Rattle.telling_laws.proofs.RunsFollow.{AskFresh, asks_fresh}
 
 module _ (S : Type 0) (P : Programs S) (D : Deciding S Answer) (T : Telling S) (L : TellingLaws P D T) where
   -- ---- one command
@@ -62,16 +62,16 @@ module _ (S : Type 0) (P : Programs S) (D : Deciding S Answer) (T : Telling S) (
 
   -- after a reply
   heard_tells : (counts : Counts) (h : List Event) (op : OpId) (c : Command) (m : Memory) (s : S) (q : AnyReq) (x : AnyReply) (how : Heard)
-      → IsSafe h q → next_does P.kind counts m op s ≡ Asks q → x ≡ store_reply (stored_after opening_store h) q
+      → IsFresh h q → next_does P.kind counts m op s ≡ Asks q → x ≡ store_reply (stored_after opening_store h) q
       → IsTreeRun (tree_of h) (told_of (Own op (Acted q x how))) → Tells D T h op c s
       → Tells D T (h ++ Own op (Acted q x how) ∷ []) op c (state_heard P.kind counts m op s q x)
-  heard_tells counts h op c m s q x how safe asks is allowed t =
+  heard_tells counts h op c m s q x how fresh asks is allowed t =
       by (D.decided (turned P.kind counts m op s).state) refl (turned_tells counts h op c m s t)
     where
       by : (d : Option Answer) → D.decided (turned P.kind counts m op s).state ≡ d
           → OfDecided (T.Before h op c (turned P.kind counts m op s).state) (T.because h op c) d
           → Tells D T (h ++ Own op (Acted q x how) ∷ []) op c (state_heard P.kind counts m op s q x)
-      by None e b = L.hears counts h op c m s q x how safe asks is b e allowed
+      by None e b = L.hears counts h op c m s q x how fresh asks is b e allowed
       by (Some a) e b =
           let so : D.decided (state_heard P.kind counts m op s q x) ≡ Some a = L.heard_so counts m op s q x a e in
           rw so (L.lasts h (Own op (Acted q x how) ∷ []) op c a b)
@@ -119,7 +119,7 @@ module _ (S : Type 0) (P : Programs S) (D : Deciding S Answer) (T : Telling S) (
 
   -- ---- an actor's event
 
-  module _ (h : List Event) (m : WorldState S) (t : AllTold h m) (safe : AskSafely P h m) (stored : m.store ≡ stored_after opening_store h)
+  module _ (h : List Event) (m : WorldState S) (t : AllTold h m) (fresh : AskFresh P h m) (stored : m.store ≡ stored_after opening_store h)
       (op : OpId) where
     -- the actor
     abbrev s : Actor S
@@ -168,7 +168,7 @@ module _ (S : Type 0) (P : Programs S) (D : Deciding S Answer) (T : Telling S) (
         goes g run = (
           was.0,
           command_more h (Own op (Acted q x g)) op ∙ ap (λ (z : Option Command). or_later z None) was.1,
-          heard_tells m.counts h op was.0 s.memory state q x g (safe op.actor op state q is asks) asks here run was.2,
+          heard_tells m.counts h op was.0 s.memory state q x g (fresh op.actor op state q is asks) asks here run was.2,
         )
 
         by : (g : Heard) → IsTreeRun (tree_of h) (told_of (Own op (Acted q x g)))
@@ -237,10 +237,10 @@ module _ (S : Type 0) (P : Programs S) (D : Deciding S Answer) (T : Telling S) (
     unasked = λ o late. others_steps h Dumped o refl ∙ t.unasked o late;
   }
 
-  event_told : (h : List Event) (m : WorldState S) (e : Event) → AllTold h m → AskSafely P h m → m.store ≡ stored_after opening_store h
+  event_told : (h : List Event) (m : WorldState S) (e : Event) → AllTold h m → AskFresh P h m → m.store ≡ stored_after opening_store h
       → May P m e → IsTreeRun (tree_of h) (told_of e) → AllTold (h ++ e ∷ []) (after P m e)
-  event_told h m (Own op hp) t safe stored may allowed = own_told h m t safe stored op hp may allowed
-  event_told h m Dumped t safe stored may allowed = dump_told h m t
+  event_told h m (Own op hp) t fresh stored may allowed = own_told h m t fresh stored op hp may allowed
+  event_told h m Dumped t fresh stored may allowed = dump_told h m t
 
   opening_told : (counts : Counts) → AllTold [] (opening counts)
   opening_told counts = record { tells = λ a. tt; unbegun = λ op late. refl; unasked = λ op late. refl }
@@ -260,7 +260,7 @@ module _ (S : Type 0) (P : Programs S) (D : Deciding S Answer) (T : Telling S) (
 
   -- ---- each run
 
-  module _ (safely : RunsAskSafely P) (follows : RunsFollowTree P) (counts : Counts) where
+  module _ (freshly : RunsAskFresh P) (follows : RunsFollowTree P) (counts : Counts) where
     run_told : (h es : List Event) → IsWorldRun P counts (h ++ es) → AllTold h (moment P counts h)
         → AllTold (h ++ es) (moment P counts (h ++ es))
     run_told h [] run t = rw append-nil t
@@ -274,7 +274,7 @@ module _ (S : Type 0) (P : Programs S) (D : Deciding S Answer) (T : Telling S) (
         let now : moment P counts (h ++ e ∷ []) ≡ after P (moment P counts h) e = moment-append P counts h (e ∷ []) in
         let next : AllTold (h ++ e ∷ []) (moment P counts (h ++ e ∷ [])) =
         subst (λ (n : WorldState S). AllTold (h ++ e ∷ []) n) (sym now)
-        (event_told h (moment P counts h) e t (asks_safely P safely counts h front) (store_is_after P (opening counts) h) may
+        (event_told h (moment P counts h) e t (asks_fresh P freshly counts h front) (store_is_after P (opening counts) h) may
         (tree_run-rest opening_tree (tree_steps h) (told_of e) steps)) in
         subst (λ (l : List Event). AllTold l (moment P counts l)) (append_assoc h (e ∷ []) es) (run_told (h ++ e ∷ []) es whole next)
 
@@ -290,15 +290,15 @@ module _ (S : Type 0) (P : Programs S) (D : Deciding S Answer) (T : Telling S) (
         let tells : RunningTells h op.actor actor.number (Some record { op = op; at = its.at }) = rw its.is at (t.tells op.actor) in
         stand_answers h op a m.counts actor.memory its.at its.says tells.2
 
-  pub runs_are_explained : RunsAskSafely P → RunsFollowTree P → RunsAreExplained P T
-  runs_are_explained safely follows counts es run = record {
+  pub runs_are_explained : RunsAskFresh P → RunsFollowTree P → RunsAreExplained P T
+  runs_are_explained freshly follows counts es run = record {
     tree = follows counts es run;
     begins = λ place op c is.
         let m : WorldState S = moment P counts (take place es) in
         let may : May P m (Own op (Began c)) = may_at P (opening counts) es place (Own op (Began c)) run is in
-        (told_at safely follows counts es place run).unasked op (omega (arith, ((may.0).0).next));
+        (told_at freshly follows counts es place run).unasked op (omega (arith, ((may.0).0).next));
     answers = λ place op a is.
-        answer_told safely follows counts (take place es) op a
-        (told_at safely follows counts es place run)
+        answer_told freshly follows counts (take place es) op a
+        (told_at freshly follows counts es place run)
         (may_at P (opening counts) es place (Own op (Ended a)) run is);
   }

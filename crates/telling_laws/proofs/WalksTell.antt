@@ -95,7 +95,7 @@ module _ {O S : Type 0} (begins : O → DirId → S) (fits : Command → O → T
     walk_tells_in (Way d n ns o) = waits_tell (walking begins P) (walk_deciding D) (walk_telling fits T) (Way d n ns o) record {
       looks = λ counts m op. refl;
       undecided = refl;
-      hears = λ counts h op c m how safe before run.
+      hears = λ counts h op c m how fresh before run.
           walked_tells h op c d n ns o how before.0 before.1 run (request_place counts (any.Name (names.Look (key_in d n)))) _ refl;
       stays = λ h e op c other before. (walked_stays h e op c d (n ∷ ns) other before.0, before.1);
     }

@@ -26,7 +26,7 @@ use Rattle.world_runs.specs.OwnRuns.{stored_after}
 use Rattle.claim_words.specs.Ways.{way}
 use Rattle.claim_words.specs.TreeSteps.{told_of, tree_steps, IsTreeRun}
 use Rattle.claim_words.specs.Points.{of_op, Walked, Point}
-use Rattle.telling_laws.specs.Telling.{is_of, tree_of, IsSafe, Telling, Tells}
+use Rattle.telling_laws.specs.Telling.{is_of, tree_of, IsFresh, Telling, Tells}
 
 -- what the history tells where the part goes on, or explains what it has come to
 abbrev pub NextTells : {S : Type 0} → Deciding S Answer → Telling S → List Event → OpId → Command → Next S Answer → Type 0
@@ -45,7 +45,7 @@ pub record PartTells {S : Type 0} (P : Part S Answer) (D : Deciding S Answer) (T
   pub turns : (counts : Counts) (h : List Event) (op : OpId) (c : Command) (m : Memory) (s : S) → T.Before h op c s → D.decided s ≡ None
       → NextTells D T h op c (P.turns counts m op s).state
   pub hears : (counts : Counts) (h : List Event) (op : OpId) (c : Command) (m : Memory) (s : S) (x : AnyReply) (how : Heard)
-      → IsSafe h (P.asks counts m op s) → x ≡ store_reply (stored_after opening_store h) (P.asks counts m op s)
+      → IsFresh h (P.asks counts m op s) → x ≡ store_reply (stored_after opening_store h) (P.asks counts m op s)
       → T.Before h op c s → D.decided s ≡ None → IsTreeRun (tree_of h) (told_of (Own op (Acted (P.asks counts m op s) x how)))
       → NextTells D T (h ++ Own op (Acted (P.asks counts m op s) x how) ∷ []) op c (P.hears counts m op s (P.asks counts m op s) x)
   pub stays : (h : List Event) (e : Event) (op : OpId) (c : Command) (s : S) → is_of op e ≡ false → T.Before h op c s

@@ -1,8 +1,6 @@
 -- What is owed of programs so that each of their answers is explained by the history before it, and that it is so in all their runs.
-use Rattle.std.specs.FinMap.{get}
 use Rattle.std.specs.Prelude.{◌≡◌, ℕ, Bool, true, false, Option, Some, None, List, [], ◌∷◌, ◌++◌}
 use Rattle.tect_ids.specs.declared.ids.Counts.{Counts}
-use Rattle.tect_ids.specs.declared.ids.Node.{Node}
 use Rattle.tect_ids.specs.declared.ids.OpId.{OpId}
 use Rattle.tect_ids.specs.declared.command.Command.{Command}
 use Rattle.tect_ids.specs.declared.answer.Answer.{Answer}
@@ -10,9 +8,8 @@ use Rattle.tect_ids.specs.Keys.{op_eq}
 use Rattle.store_rules.specs.declared.any.AnyReq.{AnyReq}
 use Rattle.store_rules.specs.declared.any.AnyReply.{AnyReply}
 use Rattle.store_rules.specs.Store.{opening_store, store_reply}
-use Rattle.store_world.specs.Worlds.{World}
-use Rattle.store_world.specs.Sound.{Sound, was_made}
-use Rattle.store_world.specs.Requests.{Needs}
+use Rattle.store_rules.specs.Views.{is_made}
+use Rattle.store_pasts.specs.Requests.{makes}
 use Rattle.program_laws.specs.Known.{Deciding}
 use Rattle.tree_model.specs.Tree.{Tree, opening_tree}
 use Rattle.program_forms.specs.declared.heard.Heard.{Heard}
@@ -27,6 +24,7 @@ use Rattle.world_runs.specs.OwnRuns.{stored_after}
 use Rattle.claim_words.specs.TreeSteps.{told_of, tree_steps, tree_after, IsTreeRun}
 use Rattle.claim_words.specs.Points.{of_op}
 use Rattle.claim_words.specs.Headline.{HeadlineBy}
+use Rattle.telling_laws.specs.View.{MakesNew}
 
 -- the event is of that op
 abbrev pub is_of : OpId → Event → Bool
@@ -37,20 +35,16 @@ is_of op Dumped = false
 abbrev pub tree_of : List Event → Tree
 tree_of h = tree_after opening_tree (tree_steps h)
 
--- What is asked after that history is safe: some past of the store knows what the request needs, and the tree has made no more than was
--- made in that past.
-pub record IsSafe (h : List Event) (q : AnyReq) : Type 0 where
-  pub world : World
-  pub store : world.store ≡ stored_after opening_store h
-  pub sound : Sound world
-  pub needs : Needs world q
-  pub made : (n : Node) → was_made world.ghost n ≡ false → get (tree_of h).made n ≡ None
+-- What is asked after that history is fresh: the tree has not made what it is to make, and the store says that it is made.
+pub record IsFresh (h : List Event) (q : AnyReq) : Type 0 where
+  pub new : MakesNew (tree_of h).made q
+  pub made : makes q ≡ true → is_made (store_reply (stored_after opening_store h) q) ≡ true
 
--- at each moment of each run, what a running command asks next is safe
-abbrev pub RunsAskSafely : {S : Type 0} → Programs S → Type 0
-RunsAskSafely {S = S} P = (counts : Counts) (es : List Event) → IsWorldRun P counts es → (a : ℕ) (op : OpId) (s : S) (q : AnyReq)
+-- at each moment of each run, what a running command asks next is fresh
+abbrev pub RunsAskFresh : {S : Type 0} → Programs S → Type 0
+RunsAskFresh {S = S} P = (counts : Counts) (es : List Event) → IsWorldRun P counts es → (a : ℕ) (op : OpId) (s : S) (q : AnyReq)
     → ((moment P counts es).actors a).running ≡ Some record { op = op; at = Goes s }
-    → next_does P.kind counts ((moment P counts es).actors a).memory op s ≡ Asks q → IsSafe es q
+    → next_does P.kind counts ((moment P counts es).actors a).memory op s ≡ Asks q → IsFresh es q
 
 -- in each run the tree allows what was said to each of its steps
 abbrev pub RunsFollowTree : {S : Type 0} → Programs S → Type 0
@@ -80,7 +74,7 @@ pub record TellingLaws {S : Type 0} (P : Programs S) (D : Deciding S Answer) (T 
       → Tells D T h op c (turned P.kind counts m op s).state
   -- at the store's reply to its request, which the tree allows, if it is a step
   pub hears : (counts : Counts) (h : List Event) (op : OpId) (c : Command) (m : Memory) (s : S) (q : AnyReq) (x : AnyReply) (how : Heard)
-      → IsSafe h q → next_does P.kind counts m op s ≡ Asks q → x ≡ store_reply (stored_after opening_store h) q
+      → IsFresh h q → next_does P.kind counts m op s ≡ Asks q → x ≡ store_reply (stored_after opening_store h) q
       → T.Before h op c (turned P.kind counts m op s).state → D.decided (turned P.kind counts m op s).state ≡ None
       → IsTreeRun (tree_of h) (told_of (Own op (Acted q x how)))
       → Tells D T (h ++ Own op (Acted q x how) ∷ []) op c (state_heard P.kind counts m op s q x)

@@ -1,20 +1,16 @@
 -- The store seen as a tree.
-use Rattle.std.specs.Prelude.{◌≡◌, Bool, true, false, Option, Some, None, is_some}
+use Rattle.std.specs.Prelude.{◌≡◌, Bool, true, Option, Some, None, is_some}
 use Rattle.std.specs.FinMap.{FinMap, get}
 use Rattle.tect_ids.specs.declared.ids.Node.{Node}
 use Rattle.tect_ids.specs.declared.ids.Node.TheVariants as nodes
 use Rattle.tect_ids.specs.declared.ids.OpId.{OpId}
-use Rattle.tect_ids.specs.Keys.{node_cmp, name_eq}
+use Rattle.tect_ids.specs.Keys.{node_cmp}
 use Rattle.store_rules.specs.declared.names.Directory.{Directory}
 use Rattle.store_rules.specs.declared.names.DirectoryEntry.{DirectoryEntry}
-use Rattle.store_rules.specs.declared.names.NameReq.{NameReq}
-use Rattle.store_rules.specs.declared.names.NameReq.TheVariants as names
 use Rattle.store_rules.specs.declared.files.File.{File}
-use Rattle.store_rules.specs.declared.files.FileReq.{FileReq}
-use Rattle.store_rules.specs.declared.files.FileReq.TheVariants as files
 use Rattle.store_rules.specs.declared.any.AnyReq.{AnyReq}
-use Rattle.store_rules.specs.declared.any.AnyReq.TheVariants as any
 use Rattle.store_rules.specs.Store.{Store, store_reply, store_step}
+use Rattle.store_pasts.specs.Roles.{role}
 use Rattle.tree_model.specs.declared.step.TreeDir.{TreeDir}
 use Rattle.tree_model.specs.declared.step.TreeFile.{TreeFile}
 use Rattle.tree_model.specs.declared.step.TreeStep.{TreeStep}
@@ -61,28 +57,10 @@ stands s (nodes.File f) = is_some (get s.files f)
 abbrev pub AllMade : Store → Made → Type 0
 AllMade s made = (n : Node) → stands s n ≡ true → is_some (get made n) ≡ true
 
--- a directory or file that is to be made was not made before, and a swap is of two names
-abbrev pub NameMakesNew : Made → NameReq → Type 0
-NameMakesNew made (names.CheckDir d) = Unit {0}
-NameMakesNew made (names.Look k) = Unit {0}
-NameMakesNew made (names.List d) = Unit {0}
-NameMakesNew made (names.MakeDir d p h k) = get made (nodes.Dir d) ≡ None
-NameMakesNew made (names.Bind k n h o) = Unit {0}
-NameMakesNew made (names.Swap d from to n h) = name_eq from to ≡ false
-NameMakesNew made (names.Unbind k w) = Unit {0}
-NameMakesNew made (names.Grant d h k) = Unit {0}
-NameMakesNew made (names.Release d h) = Unit {0}
-
--- the same of a request to a file shard
-abbrev pub FileMakesNew : Made → FileReq → Type 0
-FileMakesNew made (files.MakeFile f h k t) = get made (nodes.File f) ≡ None
-FileMakesNew made (files.Grant f h k) = Unit {0}
-FileMakesNew made (files.Release f h) = Unit {0}
-
--- the same of any request
-abbrev pub MakesNew : Made → AnyReq → Type 0
-MakesNew made (any.Name q) = NameMakesNew made q
-MakesNew made (any.File q) = FileMakesNew made q
+-- what the request is to make was not made before, and what its role says of its own words is so
+pub record MakesNew (made : Made) (q : AnyReq) : Type 0 where
+  pub new : (n : Node) → (role q).makes ≡ Some n → get made n ≡ None
+  pub fits : (role q).fits
 
 -- From the tree t on: no step, and the store shows t still; or a step to which t allows what was said, and the store shows
 -- the tree after it.

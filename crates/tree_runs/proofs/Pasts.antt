@@ -17,8 +17,8 @@ use Rattle.store_rules.specs.declared.any.AnyReq.{AnyReq}
 use Rattle.store_rules.specs.declared.any.AnyReq.TheVariants as any
 use Rattle.store_rules.specs.declared.any.AnyReply.{AnyReply}
 use Rattle.store_rules.specs.Store.{Store, store_reply, store_changes}
-use Rattle.store_world.specs.Worlds.{Ghost, ghost_change, ghost_next, ghost_settled}
-use Rattle.store_world.specs.Sound.{was_made}
+use Rattle.store_pasts.specs.Worlds.{Ghost, ghost_change, ghost_next, ghost_settled}
+use Rattle.store_pasts.specs.Pasts.{was_made}
 use Rattle.tree_model.specs.declared.step.TreeStep.{TreeStep}
 use Rattle.tree_model.specs.declared.step.TreeStep.TheVariants as step
 use Rattle.tree_model.specs.declared.step.TreeReply.{TreeReply}

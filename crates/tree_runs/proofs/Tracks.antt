@@ -6,7 +6,7 @@ use Rattle.tect_ids.specs.declared.answer.Answer.{Answer}
 use Rattle.store_rules.specs.declared.any.AnyReq.{AnyReq}
 use Rattle.store_rules.specs.declared.any.AnyReply.{AnyReply}
 use Rattle.store_rules.specs.Store.{store_step}
-use Rattle.store_world.specs.Worlds.{Ghost, opening_ghost}
+use Rattle.store_pasts.specs.Worlds.{Ghost, opening_ghost}
 use Rattle.tree_model.specs.Tree.{Tree, opening_tree}
 use Rattle.program_forms.specs.declared.heard.Heard.{Heard}
 use Rattle.program_forms.specs.Kinds.{Programs}
@@ -24,9 +24,9 @@ use Rattle.run_laws.proofs.MomentsKeep.{meets, event_sound, opening_all_sound}
 use Rattle.telling_laws.specs.View.{Shows, MakesNew}
 use Rattle.telling_laws.proofs.Made.{TreeMade, opening_shows, opening_made}
 use Rattle.telling_laws.proofs.Histories.{tree_after-append, tree_run-append}
-use Rattle.telling_laws.proofs.RunsFollow.{Following, request_follows, needs_make_new}
+use Rattle.telling_laws.proofs.RunsFollow.{Following, request_follows}
 use Rattle.tree_runs.proofs.Pasts.{WithinPast, event_within}
-use Rattle.tree_runs.proofs.AskSafely.{opening_within}
+use Rattle.tree_runs.proofs.AskSafely.{opening_within, needs_make_new}
 
 -- so it is of a moment and a tree
 pub record Tracks {S : Type 0} (N : Known S Answer) (m : WorldState S) (t : Tree) : Type 0 where

@@ -12,7 +12,7 @@ ghost use Rattle.tree_model.specs.Tree.{opening_tree};
 ghost use Rattle.program_rules.specs.Served.{programs};
 ghost use Rattle.world_runs.specs.declared.event.Event.{Event};
 ghost use Rattle.world_runs.specs.Moments.{IsWorldRun, moment};
-ghost use Rattle.telling_laws.specs.Telling.{RunsAskSafely};
+ghost use Rattle.tree_runs.specs.Safe.{RunsAskSafely};
 ghost use Rattle.claim_words.specs.TreeSteps.{tree_steps, tree_after, IsTreeRun};
 ghost use Rattle.telling_laws.specs.View.{Made, Shows, AllMade, MakesNew, StepShows};
 

@@ -18,8 +18,8 @@ use Rattle.store_rules.specs.declared.any.AnyReply.{AnyReply}
 use Rattle.store_rules.specs.Names.{key_in}
 use Rattle.store_rules.specs.Store.{Store}
 use Rattle.store_rules.specs.Views.{as_found, is_made, is_granted, as_bound, as_unbound, as_swapped}
-use Rattle.store_world.specs.Ghosts.{Ghost, World, ghost_made, ghost_granted, ghost_bound, ghost_unbound}
-use Rattle.store_world.specs.Sound.{was_made, is_spent, IsGranted}
+use Rattle.store_pasts.specs.Ghosts.{Ghost, World, ghost_made, ghost_granted, ghost_bound, ghost_unbound}
+use Rattle.store_pasts.specs.Pasts.{was_made, is_spent, IsGranted}
 
 -- ---- what has to be known
 
@@ -73,18 +73,19 @@ GrantTaught v n h k x = is_granted x ≡ true → IsGranted v h n k
 
 -- ---- the table
 
--- what is done to the past where the store is changed, the node that is made, the node that is named, what has to be known before, and
--- what the reply teaches
+-- what is done to the past where the store is changed, the node that is made, the node that is named, what is so of the request's own
+-- words, what has to be known before, and what the reply teaches
 pub record Role : Type 1 where
   pub ghost : Store → Ghost → Ghost
   pub makes : Option Node
   pub names : Option Node
+  pub fits : Type 0
   pub needs : World → Type 0
   pub taught : World → AnyReply → Type 0
 
 -- a request with no role: what it does is seen of no past
 abbrev pub plain : Role
-plain = record { ghost = λ s g. g; makes = None; names = None; needs = λ w. Unit {0}; taught = λ v x. Unit {0} }
+plain = record { ghost = λ s g. g; makes = None; names = None; fits = Unit {0}; needs = λ w. Unit {0}; taught = λ v x. Unit {0} }
 
 -- A swap asks for another name than the old one: the tree refuses the same. What it names was named before.
 abbrev pub name_role : NameReq → Role
@@ -109,6 +110,7 @@ name_role (names.Swap d from to n h) =
     record plain {
       ghost = λ s g. ghost_bound (ghost_unbound g (get s.names.entries (key_in d from)) (key_in d from))
           (get s.names.entries (key_in d to)) (key_in d to) n h;
+      fits = from ≢ to;
       needs = λ w. IsGranted w h n (key_in d to) × (from ≢ to);
       taught = λ v x. SwappedTaught v h n (key_in d to) (as_swapped x);
     }

@@ -4,8 +4,8 @@ use Rattle.tect_ids.specs.declared.ids.OpId.{OpId}
 use Rattle.tect_ids.specs.Keys.{op_eq}
 use Rattle.store_rules.specs.declared.any.AnyReq.{AnyReq}
 use Rattle.store_rules.specs.Store.{Store, store_changes, store_change, store_step}
-use Rattle.store_world.specs.Roles.{role}
-pub use Rattle.store_world.specs.Ghosts.{HoldPhase, Live, Set, Past, Given, Ghost, World, opening_ghost}
+use Rattle.store_pasts.specs.Roles.{role}
+pub use Rattle.store_pasts.specs.Ghosts.{HoldPhase, Live, Set, Past, Given, Ghost, World, opening_ghost}
 
 -- what a request does to the past where it changes the store
 abbrev pub ghost_change : Store → Ghost → AnyReq → Ghost

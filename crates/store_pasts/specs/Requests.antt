@@ -10,11 +10,10 @@ use Rattle.store_rules.specs.declared.any.AnyReq.{AnyReq}
 use Rattle.store_rules.specs.declared.any.AnyReply.{AnyReply}
 use Rattle.store_rules.specs.Holds.{HoldUse, Grants, Binds, GivesUp, NoHold, hold_use}
 use Rattle.store_rules.specs.Store.{store_reply}
-use Rattle.store_world.specs.Ghosts.{World}
-use Rattle.store_world.specs.Sound.{Sound}
-use Rattle.store_world.specs.Later.{Touched, Later}
-use Rattle.store_world.specs.Roles.{name_role, file_role, role}
-pub use Rattle.store_world.specs.Roles.{FoundTaught, MadeTaught, OldSpent, BoundTaught, SwappedTaught, UnboundTaught, GrantTaught}
+use Rattle.store_pasts.specs.Ghosts.{World}
+use Rattle.store_pasts.specs.Later.{Touched, Later}
+use Rattle.store_pasts.specs.Roles.{name_role, file_role, role}
+pub use Rattle.store_pasts.specs.Roles.{FoundTaught, MadeTaught, OldSpent, BoundTaught, SwappedTaught, UnboundTaught, GrantTaught}
 
 -- nothing
 abbrev pub touches_nothing : Touched
@@ -70,8 +69,7 @@ Needs w q = (role q).needs w
 abbrev pub Taught : World → AnyReq → AnyReply → Type 0
 Taught v q x = (role q).taught v x
 
--- what a request has to keep, from w to v
-pub record Kept (w v : World) (q : AnyReq) : Type 0 where
-  pub sound : Sound v
+-- what may have been done from w to v by a request: no more was touched, and its reply has taught
+pub record Moved (w v : World) (q : AnyReq) : Type 0 where
   pub later : Later (touched_by q) w v
   pub taught : Taught v q (store_reply w.store q)

@@ -4,8 +4,8 @@ use Rattle.tect_ids.specs.declared.ids.Hold.{Hold}
 use Rattle.tect_ids.specs.declared.ids.Node.{Node}
 use Rattle.tect_ids.specs.declared.ids.Node.TheVariants.{Dir, File}
 use Rattle.tect_ids.specs.declared.key.Upper.{Upper}
-use Rattle.store_world.specs.Ghosts.{Live, Given, World}
-use Rattle.store_world.specs.Sound.{was_made, leads, is_spent}
+use Rattle.store_pasts.specs.Ghosts.{Live, Given, World}
+use Rattle.store_pasts.specs.Pasts.{was_made, leads, is_spent}
 
 -- what a request touches: the holds that it grants or binds, the nodes that it makes, and those that it names first
 pub record Touched : Type 0 where
