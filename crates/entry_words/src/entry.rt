@@ -2,7 +2,7 @@ ghost use Rattle.std.specs.Prelude.{◌≡◌, ◌↔◌, IsTrue};
 
 use program_forms::Heard;
 use store_rules::{AnyReply, AnyReq};
-use tect_ids::{Answer, Command, OpId, Place};
+use tect_ids::{Answer, Command, Layer, OpId, Place};
 
 /// One transaction that was done, as its place and its actor keep it: when, where, by whom, the number of the actor's op
 /// that did it (0 where none was running), its number among the actor's transactions, and what was asked and replied.
@@ -29,10 +29,11 @@ impl Entry {
 /// No stamp is given from this clock on: a pass or a shard whose clock has come to it takes nothing more.
 pub const CLOCK_LIMIT: u64 = 1 << 63;
 
-/// What a kept machine is: its place, whether it opened with the root, and whether its history was cut.
+/// What a kept machine is: its place and its layer, whether it opened with the root, and whether its history was cut.
 #[derive(Clone, Copy, Debug, PartialEq, Eq)]
 pub struct Label {
     pub place: Place,
+    pub layer: Layer,
     pub rooted: bool,
     pub folded: bool,
 }

@@ -10,7 +10,7 @@ use Rattle.entry_words.specs.declared.entry.Label.{Label}
 use Rattle.place_kit.specs.declared.kept.Kept.{Kept}
 use Rattle.place_kit.specs.declared.machine.Machine.{Ghosts}
 use Rattle.passes.specs.Logged.{Logged}
-use Rattle.place_kit.specs.Replay.{IsKept, IsKept-prop}
+use Rattle.place_kit.specs.Replay.{IsKept, IsKept-prop, Layer-set}
 use Rattle.place_kit.proofs.Pushes.{state_after-push, IsLegal-push, all_at-push, stamps_rise-push}
 
 pub IsKept-push : {S : Type 0} (after : S → AnyReq → S) (answer : S → AnyReq → AnyReply) (opening : Bool → S)
@@ -35,7 +35,7 @@ module _ {X Y Z : Type 0} {g : Ghosts X Y Z} (code : Coded X) where
       → k.history ≡ l.history → k.clock ≡ l.clock → k.count ≡ l.count → k ≡ l
   same_kept k l a b c d e f =
       let T : Type 0 = Label × X × Snapshot X × Logged Entry × ℕ × ℕ in
-      let F : T → Type 0 = λ t. IsKept g.after g.answer g.opening t.0 t.1 t.2.value t.3.items t.4 t.5 in
+      let F : T → Type 0 = λ t. IsKept g.after g.answer g.opening t.0 t.1 t.2.value t.3.items t.4 t.5 × (t.0.layer ≡ g.layer) in
       let to : (t : T) → F t → Kept X Y Z g = λ t f. record {
         label = t.0;
         machine = t.1;
@@ -43,12 +43,16 @@ module _ {X Y Z : Type 0} {g : Ghosts X Y Z} (code : Coded X) where
         history = t.3;
         clock = t.4;
         count = t.5;
-        kept = f;
+        kept = f.0;
+        layered = f.1;
       } in
       let s : T = (k.label, k.machine, k.base, k.history, k.clock, k.count) in
       let t : T = (l.label, l.machine, l.base, l.history, l.clock, l.count) in
       let p : s ≡ t = cc in
       let here : (f : F t) → to t f ≡ l =
-      λ f. ap (to t) (IsKept-prop code g.after g.answer g.opening l.label l.machine l.base.value l.history.items
-      l.clock l.count f l.kept) in
-      subst (λ (u : T). (f : F u) → to u f ≡ l) (sym p) here k.kept
+      λ f.
+      let same : f.0 ≡ l.kept = IsKept-prop code g.after g.answer g.opening l.label l.machine l.base.value l.history.items
+      l.clock l.count f.0 l.kept in
+      let layer : f.1 ≡ l.layered = Layer-set l.label.layer g.layer f.1 l.layered in
+      λ i. to t (same i, layer i) in
+      subst (λ (u : T). (f : F u) → to u f ≡ l) (sym p) here (k.kept, k.layered)

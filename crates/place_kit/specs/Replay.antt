@@ -2,6 +2,8 @@
 use Rattle.std.specs.Prelude.{◌≡◌, ℕ, ◌+◌, ◌≤◌, ◌^◌, Bool, true, false, ◌&&◌, List, [], ◌∷◌, length, nat_lt, ◌==◌}
 use Rattle.std.specs.Coded.{Coded, Coded-set, coded_bool, coded_ℕ, ×_prop, Unit-prop, le_prop}
 use Rattle.tect_ids.specs.declared.ids.Place.{Place}
+use Rattle.tect_ids.specs.declared.ids.Layer.{Layer}
+use Rattle.tect_ids.specs.contracts.ids.Layer as layer
 use Rattle.store_rules.specs.declared.any.AnyReq.{AnyReq}
 use Rattle.store_rules.specs.declared.any.AnyReply.{AnyReply}
 use Rattle.store_rules.specs.contracts.AnyReply as any_reply
@@ -36,6 +38,9 @@ pub record IsKept {S : Type 0} (after : S → AnyReq → S) (answer : S → AnyR
   pub rising : stamps_rise 0 clock history ≡ true
   pub bounded : clock ≤ 2 ^ 63 + 2 ^ 32 + length history
   pub counted : count ≡ length history
+
+pub Layer-set : IsSet Layer
+Layer-set = Coded-set (layer.the_row).coded
 
 pub AnyReply-set : IsSet AnyReply
 AnyReply-set = Coded-set (any_reply.the_row).coded

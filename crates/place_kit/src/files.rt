@@ -2,7 +2,7 @@ use crate::machine::Machine;
 use file_shard::FileShard;
 use store_rules::{FileReply, FileReq};
 use tect_calls::{AnyReply, AnyReq};
-use tect_ids::NoMemory;
+use tect_ids::{Layer, NoMemory};
 
 impl Machine for FileShard {
     ghost use Rattle.std.specs.Prelude.{false};
@@ -10,10 +10,13 @@ impl Machine for FileShard {
     ghost use Rattle.store_rules.specs.declared.any.AnyReq.TheVariants.{File};
     ghost use Rattle.store_rules.specs.declared.any.AnyReply.TheVariants.{File as file_reply};
     ghost use Rattle.place_kit.specs.Machines.{file_after, file_replies, file_is_free};
+    ghost use Rattle.tect_ids.specs.declared.ids.Layer.TheVariants as layers;
 
     type Req = FileReq;
 
     type Reply = FileReply;
+
+    ghost layer = { layers.Files };
 
     ghost wide = { File };
 
@@ -28,6 +31,10 @@ impl Machine for FileShard {
     ghost rooted = { λ s. false };
 
     ghost is_free = { λ s. file_is_free };
+
+    fn layer() -> Layer {
+        Layer::Files
+    }
 
     // No directory stands in a file shard.
     fn has_root(&self) -> bool {

@@ -1,5 +1,5 @@
 ghost use Rattle.std.specs.Prelude.{◌≡◌, ◌<◌, ◌≤◌, ◌^◌, [], true, false, length, IfOk, OnOk, OnErr, IsOk, ◌↔◌};
-ghost use Rattle.place_kit.specs.Replay.{IsKept, IsKept-prop};
+ghost use Rattle.place_kit.specs.Replay.{IsKept, IsKept-prop, Layer-set};
 ghost use Rattle.passes.specs.Commits.{HasRoom, IsFull, spare_of};
 
 use crate::machine::Machine;
@@ -11,7 +11,7 @@ use std::snapshot::Snapshot;
 use tect_calls::{AnyReply, AnyReq};
 use tect_ids::{NoMemory, Place};
 
-/// A machine at its place, and the entries that led to it from its base state.
+/// A machine at its place, and the entries that led to it from its base state. Its label says the layer of its kind.
 #[derive(Drop)]
 pub struct Kept<M: Machine> {
     pub(crate) label: Label,
@@ -22,6 +22,7 @@ pub struct Kept<M: Machine> {
     pub(crate) count: u64,
     ghost kept: { IsKept M.after M.answer M.opening label machine base.value
         history.items clock count } by { IsKept-prop M.code _ _ _ _ _ _ _ _ _ },
+    ghost layered: { label.layer ≡ M.layer } by { Layer-set _ _ },
 }
 
 impl<M: Machine> Kept<M> {
@@ -30,7 +31,7 @@ impl<M: Machine> Kept<M> {
     /// An opening machine at its place, with nothing done. It takes no memory.
     pub fn start(alloc: Global, place: Place, machine: M) -> Kept<M>
         requires { machine ≡ M.opening (M.rooted machine) }
-        ensures label { result.label ≡ record { place = place; rooted = M.rooted machine; folded = false } }
+        ensures label { result.label ≡ record { place = place; layer = M.layer; rooted = M.rooted machine; folded = false } }
         ensures state { (result.machine ≡ machine) × (result.base.value ≡ machine) }
         ensures history { (result.history ≡ record { items = []; spare = 0 }) × (result.clock ≡ 0) }
     {
@@ -39,6 +40,7 @@ impl<M: Machine> Kept<M> {
         Kept {
             label: Label {
                 place,
+                layer: M::layer(),
                 rooted,
                 folded: false,
             },

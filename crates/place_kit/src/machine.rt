@@ -1,15 +1,19 @@
 ghost use Rattle.std.specs.Prelude.{◌≡◌, Bool, true, IfOk, OnErr, IsOk};
+ghost use Rattle.tect_ids.specs.declared.ids.Layer.{Layer};
 ghost use Rattle.store_rules.specs.declared.any.AnyReq.{AnyReq};
 ghost use Rattle.store_rules.specs.declared.any.AnyReply.{AnyReply};
 
 use tect_calls::{AnyReply, AnyReq};
-use tect_ids::NoMemory;
+use tect_ids::{Layer, NoMemory};
 
 /// A machine that answers one request at a time.
 pub trait Machine: Drop {
     type Req: Drop;
 
     type Reply: Drop;
+
+    /// The layer of which it is a shard.
+    ghost layer: { Layer };
 
     /// A request and a reply as all places know them.
     ghost wide: { Self.Req → AnyReq };
@@ -28,6 +32,10 @@ pub trait Machine: Drop {
 
     /// In this state the request takes no memory, and it holds no name.
     ghost is_free: { Self → AnyReq → Bool };
+
+    /// The layer of which it is a shard. It takes no memory.
+    fn layer() -> Layer
+        ensures { result ≡ layer };
 
     /// Whether the root stands here. It takes no memory.
     fn has_root(&self) -> bool

@@ -5,16 +5,19 @@ use crate::machine::Machine;
 use name_shard::NameShard;
 use store_rules::{NameReply, NameReq};
 use tect_calls::{AnyReply, AnyReq};
-use tect_ids::{NoMemory, ROOT};
+use tect_ids::{Layer, NoMemory, ROOT};
 
 impl Machine for NameShard {
     ghost use Rattle.store_rules.specs.declared.any.AnyReq.TheVariants.{Name};
     ghost use Rattle.store_rules.specs.declared.any.AnyReply.TheVariants.{Name as name_reply};
     ghost use Rattle.place_kit.specs.Machines.{name_after, name_replies, name_opening, has_root, name_is_free};
+    ghost use Rattle.tect_ids.specs.declared.ids.Layer.TheVariants as layers;
 
     type Req = NameReq;
 
     type Reply = NameReply;
+
+    ghost layer = { layers.Names };
 
     ghost wide = { Name };
 
@@ -29,6 +32,10 @@ impl Machine for NameShard {
     ghost rooted = { has_root };
 
     ghost is_free = { λ s. name_is_free };
+
+    fn layer() -> Layer {
+        Layer::Names
+    }
 
     fn has_root(&self) -> bool {
         match NameShard::reply(self, &NameReq::CheckDir { dir: ROOT }) {

@@ -1,5 +1,6 @@
 ghost use Rattle.std.specs.Prelude.{◌≡◌, [], IfOk, false};
 ghost use Rattle.std.specs.FinMap.{empty};
+ghost use Rattle.tect_ids.specs.declared.ids.Layer.TheVariants as layers;
 ghost use Rattle.place_kit.specs.Machines.{name_opening};
 
 use crate::kept::Kept;
@@ -15,7 +16,7 @@ impl Kept<NameShard> {
         place: Place,
         has_root: bool,
     ) -> Result<Kept<NameShard>, NoMemory>
-        ensures label { IfOk result (λ kept. kept.label ≡ record { place = place; rooted = has_root; folded = false }) }
+        ensures label { IfOk result (λ kept. kept.label ≡ record { place = place; layer = layers.Names; rooted = has_root; folded = false }) }
         ensures state { IfOk result (λ kept. kept.machine ≡ name_opening has_root) }
         ensures history { IfOk result (λ kept. (kept.history ≡ record { items = []; spare = 0 }) × (kept.clock ≡ 0)) }
     {
@@ -27,7 +28,7 @@ impl Kept<NameShard> {
 impl Kept<FileShard> {
     /// A file shard with no file, at its place, with nothing done. It takes no memory.
     pub fn open_files(alloc: Global, place: Place) -> Kept<FileShard>
-        ensures label { result.label ≡ record { place = place; rooted = false; folded = false } }
+        ensures label { result.label ≡ record { place = place; layer = layers.Files; rooted = false; folded = false } }
         ensures state { result.machine ≡ empty }
         ensures history { (result.history ≡ record { items = []; spare = 0 }) × (result.clock ≡ 0) }
     {
