@@ -1,5 +1,4 @@
 pub mod Pushes
 pub mod Keeping
 pub mod Openings
-pub mod Alone
 pub mod Committing

@@ -3,4 +3,3 @@ pub mod Machines
 pub mod Kept
 pub mod Committed
 pub mod Started
-pub mod AnyMachines

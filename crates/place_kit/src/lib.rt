@@ -2,7 +2,6 @@
 #![tactic(auto)]
 
 mod any;
-mod any_machine;
 mod files;
 mod kept;
 mod machine;
@@ -11,7 +10,6 @@ mod opening;
 mod prepared;
 
 pub use any::AnyKept;
-pub use any_machine::AnyMachine;
 pub use kept::Kept;
 pub use machine::Machine;
 pub use prepared::Prepared;

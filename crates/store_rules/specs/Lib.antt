@@ -3,6 +3,7 @@ pub mod Names
 pub mod Files
 pub mod Holds
 pub mod Store
+pub mod Alone
 pub mod Views
 pub mod Places
 pub mod Dumps

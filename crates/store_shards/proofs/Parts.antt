@@ -20,7 +20,8 @@ use Rattle.store_rules.specs.Places.{dir_of, file_of, request_place}
 use Rattle.store_rules.specs.Store.{Store, opening_store, store_reply, store_changes, store_step}
 use Rattle.store_shards.specs.Runs.{parts_after, parts_replies, store_after, store_replies}
 use Rattle.store_shards.specs.Shards.{AreWhole, IsShardOf, KeepsFiles, KeepsNames, Parts, dir_place, file_place}
-use Rattle.store_shards.specs.Shards.{place_eq, opening_parts, parts_changes, parts_reply, parts_step, request_layer}
+use Rattle.store_shards.specs.Shards.{place_eq, opening_parts, parts_changes, parts_reply, parts_step}
+use Rattle.store_rules.specs.Alone.{request_layer}
 use Rattle.store_shards.proofs.Files.{same_file_answer, files_kept, same_files}
 use Rattle.store_shards.proofs.Names.{same_name_answer, names_kept, same_names}
 

@@ -10,7 +10,6 @@ use Rattle.tect_ids.specs.declared.ids.Place.{Place}
 use Rattle.tect_ids.specs.declared.key.Key.{Key}
 use Rattle.tect_ids.specs.Places.{count_of, first_place, place_number}
 use Rattle.store_rules.specs.declared.any.AnyReq.{AnyReq}
-use Rattle.store_rules.specs.declared.any.AnyReq.TheVariants as any
 use Rattle.store_rules.specs.declared.any.AnyReply.{AnyReply}
 use Rattle.store_rules.specs.Names.{Names, root_names, no_names}
 use Rattle.store_rules.specs.Files.{Files}
@@ -66,11 +65,6 @@ parts_changes c parts q = store_changes (parts (request_place c q)) q
 -- the shards after a request: the one at its place has done it, and the others stay
 abbrev pub parts_step : Counts → Parts → AnyReq → Parts
 parts_step c parts q p = if place_eq p (request_place c q) then store_step (parts p) q else parts p
-
--- the layer that a request goes to
-abbrev pub request_layer : AnyReq → Layer
-request_layer (any.Name q) = layers.Names
-request_layer (any.File q) = layers.Files
 
 -- the place is that of one of the layer's shards
 abbrev pub IsShardOf : Counts → Layer → Place → Type 0

@@ -32,4 +32,5 @@ invariant_of-self-2 g c = record {
       k.clock k.count e k.kept
       (s ∙ ap (λ q. m.after k.machine q) (sym w)) (c.requires.answer ∙ ap (λ q. m.answer k.machine q) (sym w)) refl (omega (arith, max))
       (omega (arith, max, c.requires.early, bounded)));
+  layered = c.args.self.now.layered;
 }

@@ -1,5 +1,5 @@
-use Rattle.place_kit.proofs.Alone.{names_alone, files_alone}
-use Rattle.place_kit.proofs.any_machine.AnyMachine.dump.Goals as goal
+use Rattle.layers.proofs.Alone.{names_alone, files_alone}
+use Rattle.layers.proofs.machine.AnyMachine.dump.Goals as goal
 
 pub returns-in-Name : goal.returns-in-Name
 returns-in-Name c = rw (c.in-Name.is, names_alone c.in-Name.shard) c.dump.ensures

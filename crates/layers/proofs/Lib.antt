@@ -1,0 +1,3 @@
+pub mod Alone
+pub mod Sorted
+pub mod Dumped

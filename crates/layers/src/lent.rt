@@ -1,0 +1,73 @@
+ghost use Rattle.std.specs.Prelude.{◌≡◌, ◌++◌, map, OnOk};
+ghost use Rattle.std.specs.FinMap.{keys};
+ghost use Rattle.layers.specs.Dumps.{ids_of, lines_of};
+ghost use Rattle.layers.specs.Machines.{alone, lent_as};
+
+use file_shard::FileShard;
+use name_shard::NameShard;
+use tect_ids::{DirId, DumpLine, FileId, Layer, NoMemory};
+
+/// A shard of any layer, lent by whoever keeps it.
+#[derive(Drop)]
+pub enum LentMachine<'a> {
+    Name(&'a NameShard),
+    File(&'a FileShard),
+}
+
+impl LentMachine<'_> {
+    /// Adds the identifiers of what the shard has of a layer, rising: of its directories, or of its files. A shard of another
+    /// layer has none.
+    pub fn add_ids(&self, layer: Layer, ids: &mut Vec<u64>) -> Result<(), NoMemory>
+        ensures { OnOk result (ids.new.items ≡ ids.old.items ++ ids_of layer (alone (lent_as self.now))) }
+    {
+        match (self, layer) {
+            (LentMachine::Name(shard), Layer::Names) => add_dirs(shard, ids),
+            (LentMachine::File(shard), Layer::Files) => add_files(shard, ids),
+            _ => Ok(()),
+        }
+    }
+
+    /// Adds the lines that a dump shows of what has that identifier in that layer: none where the shard does not have it.
+    pub fn add_lines(
+        &self,
+        layer: Layer,
+        id: u64,
+        lines: &mut Vec<DumpLine>,
+    ) -> Result<(), NoMemory>
+        ensures { OnOk result (lines.new.items ≡ lines.old.items ++ lines_of layer (alone (lent_as self.now)) id) }
+    {
+        match (self, layer) {
+            (LentMachine::Name(shard), Layer::Names) => {
+                let mut own = shard.dump_one(DirId(id))?;
+                lines.append(&mut own)?;
+            }
+            (LentMachine::File(shard), Layer::Files) => {
+                if let Some(line) = shard.dump_one(FileId(id))? {
+                    lines.push(line)?;
+                }
+            }
+            _ => {}
+        }
+        Ok(())
+    }
+}
+
+fn add_dirs(shard: &NameShard, ids: &mut Vec<u64>) -> Result<(), NoMemory>
+    ensures { OnOk result (ids.new.items ≡ ids.old.items ++ map (λ d. d.0) (keys shard.now.dirs)) }
+{
+    let dirs = shard.dirs()?;
+    for dir in &dirs {
+        ids.push(dir.0)?;
+    }
+    Ok(())
+}
+
+fn add_files(shard: &FileShard, ids: &mut Vec<u64>) -> Result<(), NoMemory>
+    ensures { OnOk result (ids.new.items ≡ ids.old.items ++ map (λ f. f.0) (keys shard.now)) }
+{
+    let files = shard.files()?;
+    for file in &files {
+        ids.push(file.0)?;
+    }
+    Ok(())
+}
