@@ -2,7 +2,6 @@
 #![tactic(auto)]
 
 mod dump;
-mod outcome;
 mod requests;
 mod shard;
 

@@ -3,18 +3,16 @@ ghost use Rattle.std.specs.FinMap.{get};
 ghost use Rattle.ordered_rows.specs.Maps.{set_at};
 ghost use Rattle.store_rules.specs.Files.{make_file_answer, make_file_change, grant_file_answer, grant_file_change};
 ghost use Rattle.store_rules.specs.Files.{release_file_answer, release_file_change, file_with_hold, file_lists};
-ghost use Rattle.file_shard.specs.Outcomes.{outcome_of};
 
-use crate::outcome::Outcome;
 use crate::shard::FileShard;
 use key_maps::{FileMap, HoldList};
 use std::alloc::Global;
-use store_rules::{File, FileReply};
+use store_rules::{File, FileReply, Outcome};
 use tect_ids::{FileId, Hold, Key, NoMemory, Refusal, Token, Upper};
 
 impl FileShard {
-    pub(crate) fn make_file_outcome(&self, file: FileId) -> Outcome
-        ensures { outcome_of result ≡ make_file_answer self.now file }
+    pub(crate) fn make_file_outcome(&self, file: FileId) -> Outcome<FileReply>
+        ensures { result ≡ make_file_answer self.now file }
     {
         if self.files.get(file).is_some() {
             return Outcome::Leaves(FileReply::HasId);
@@ -40,11 +38,13 @@ impl FileShard {
         }
     }
 
-    pub(crate) fn grant_outcome(&self, file: FileId) -> Outcome
-        ensures { outcome_of result ≡ grant_file_answer self.now file }
+    pub(crate) fn grant_outcome(&self, file: FileId) -> Outcome<FileReply>
+        ensures { result ≡ grant_file_answer self.now file }
     {
         if self.files.get(file).is_none() {
-            return Outcome::refused(Refusal::NoFile);
+            return Outcome::Leaves(FileReply::Refused {
+                why: Refusal::NoFile,
+            });
         }
         Outcome::Changes(FileReply::Granted)
     }
@@ -57,8 +57,8 @@ impl FileShard {
         grant_hold(&mut self.files, file, hold, key)
     }
 
-    pub(crate) fn release_outcome(&self, file: FileId, hold: Hold) -> Outcome
-        ensures { outcome_of result ≡ release_file_answer self.now file hold }
+    pub(crate) fn release_outcome(&self, file: FileId, hold: Hold) -> Outcome<FileReply>
+        ensures { result ≡ release_file_answer self.now file hold }
     {
         let was = self.lists(file, hold);
         if was {

@@ -1,14 +1,12 @@
-ghost use Rattle.std.specs.Prelude.{◌≡◌, IsTrue, IsOk, IfOk, OnOk, OnErr};
+ghost use Rattle.std.specs.Prelude.{◌≡◌, true, IsTrue, IsOk, IfOk, OnOk, OnErr};
 ghost use Rattle.std.specs.FinMap.{empty};
-ghost use Rattle.store_rules.specs.Outcomes.{reply};
+ghost use Rattle.store_rules.specs.Outcomes.{changes, reply};
 ghost use Rattle.store_rules.specs.Files.{file_answer, file_change, file_rule, file_step};
-ghost use Rattle.file_shard.specs.Outcomes.{outcome_of};
 
-use crate::outcome::Outcome;
 use key_maps::FileMap;
 use std::alloc::Global;
 use std::marker::Model;
-use store_rules::{File, FileReply, FileReq};
+use store_rules::{File, FileReply, FileReq, Outcome};
 use tect_ids::NoMemory;
 
 /// A shard of the File layer: some of the files.
@@ -52,13 +50,11 @@ impl FileShard {
         // What wants no memory is always answered.
         ensures sure { IsTrue (file_rule req.now).free → IsOk result }
     {
-        match self.outcome(req) {
-            Outcome::Leaves(reply) => Ok(reply),
-            Outcome::Changes(reply) => {
-                self.change(req)?;
-                Ok(reply)
-            }
+        let outcome = self.decide(req);
+        if outcome.changes() {
+            self.apply(req)?;
         }
+        Ok(outcome.into_reply())
     }
 
     /// What `step` would answer. It changes nothing.
@@ -66,12 +62,12 @@ impl FileShard {
         ensures answers { IfOk result (λ x. x ≡ reply (file_answer self.now req.now)) }
         ensures sure { IsTrue (file_rule req.now).free → IsOk result }
     {
-        Ok(self.outcome(req).into_reply())
+        Ok(self.decide(req).into_reply())
     }
 
-    // What the request comes to, before anything is changed.
-    fn outcome(&self, req: &FileReq) -> Outcome
-        ensures { outcome_of result ≡ file_answer self.now req.now }
+    /// What `step` would answer, and whether it would change the shard. It changes nothing, and takes no memory.
+    pub fn decide(&self, req: &FileReq) -> Outcome<FileReply>
+        ensures { result ≡ file_answer self.now req.now }
     {
         match req {
             FileReq::MakeFile { file, .. } => self.make_file_outcome(*file),
@@ -80,8 +76,10 @@ impl FileShard {
         }
     }
 
-    // Does what a request changes that is not refused.
-    fn change(&mut self, req: &FileReq) -> Result<(), NoMemory>
+    /// Makes the change of a request that was decided to change the shard. For want of memory nothing is changed; `Release`
+    /// takes none.
+    pub fn apply(&mut self, req: &FileReq) -> Result<(), NoMemory>
+        requires { changes (file_answer self.old req.now) ≡ true }
         ensures ok { OnOk result (self.new ≡ file_change self.old req.now) }
         ensures err { OnErr result (self.new ≡ self.old) }
         ensures sure { IsTrue (file_rule req.now).free → IsOk result }

@@ -1,4 +1,4 @@
 pub mod Codes
 pub mod DirDumps
 pub mod Limits
-pub mod Outcomes
+pub mod Refusals

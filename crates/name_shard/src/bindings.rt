@@ -4,16 +4,15 @@ ghost use Rattle.std.specs.FinMap.{get};
 ghost use Rattle.ordered_rows.specs.Maps.{set_at};
 ghost use Rattle.tect_ids.specs.Keys.{node_eq};
 ghost use Rattle.store_rules.specs.declared.names.NameReply.TheVariants.{Unbound};
-ghost use Rattle.store_rules.specs.Outcomes.{Changes};
 ghost use Rattle.store_rules.specs.Names.{bind_answer, bind_over, bind_change, swap_answer, swap_over, swap_change};
 ghost use Rattle.store_rules.specs.Names.{unbind_answer, unbind_any, unbind_node, key_in, set_entry};
 ghost use Rattle.name_shard.specs.Limits.{HasRoom};
-ghost use Rattle.name_shard.specs.Outcomes.{outcome_of, dir_refusal};
+ghost use Rattle.name_shard.specs.Refusals.{dir_refusal};
 
-use crate::outcome::Outcome;
+use crate::refused::refused;
 use crate::shard::NameShard;
 use key_maps::EntryTable;
-use store_rules::{DirectoryEntry, NameReply, Replaced};
+use store_rules::{DirectoryEntry, NameReply, Outcome, Replaced};
 use tect_ids::{DirId, Hold, Key, Name, NoMemory, Node, Over, Refusal, Want};
 
 // How many entries a directory may have.
@@ -21,11 +20,11 @@ const ENTRY_LIMIT: u64 = 65_536;
 
 // The requests that change an entry.
 impl NameShard {
-    pub(crate) fn bind_outcome(&self, key: &Key, over: Over) -> Outcome
-        ensures { outcome_of result ≡ bind_answer self.now key.now over }
+    pub(crate) fn bind_outcome(&self, key: &Key, over: Over) -> Outcome<NameReply>
+        ensures { result ≡ bind_answer self.now key.now over }
     {
         match self.refusal(key.dir) {
-            Some(why) => Outcome::refused(why),
+            Some(why) => refused(why),
             None => self.bind_over(key, over),
         }
     }
@@ -42,18 +41,18 @@ impl NameShard {
     }
 
     // What stands at the key decides.
-    fn bind_over(&self, key: &Key, over: Over) -> Outcome
-        ensures { outcome_of result ≡ bind_over self.now key.now (get self.now.entries key.now) over }
+    fn bind_over(&self, key: &Key, over: Over) -> Outcome<NameReply>
+        ensures { result ≡ bind_over self.now key.now (get self.now.entries key.now) over }
     {
         let Some(old) = self.entries.get(key) else {
             if self.entries.count(key.dir) >= ENTRY_LIMIT {
-                return Outcome::refused(Refusal::Full);
+                return refused(Refusal::Full);
             }
             return Outcome::Changes(NameReply::Bound { old: None });
         };
         match (over, old.node) {
-            (Over::Absent, _) => Outcome::refused(Refusal::Exists),
-            (Over::File, Node::Dir(_)) => Outcome::refused(Refusal::IsDir),
+            (Over::Absent, _) => refused(Refusal::Exists),
+            (Over::File, Node::Dir(_)) => refused(Refusal::IsDir),
             (Over::File, Node::File(file)) => Outcome::Changes(NameReply::Bound {
                 old: Some(Replaced {
                     file,
@@ -73,11 +72,11 @@ impl NameShard {
         Ok(())
     }
 
-    pub(crate) fn unbind_outcome(&self, key: &Key, want: Want) -> Outcome
-        ensures { outcome_of result ≡ unbind_answer self.now key.now want }
+    pub(crate) fn unbind_outcome(&self, key: &Key, want: Want) -> Outcome<NameReply>
+        ensures { result ≡ unbind_answer self.now key.now want }
     {
         match (self.refusal(key.dir), want) {
-            (Some(why), _) => Outcome::refused(why),
+            (Some(why), _) => refused(why),
             (None, Want::AnyFile) => unbind_any(self.entries.get(key)),
             (None, Want::Exactly(node)) => unbind_node(self.entries.get(key), node),
         }
@@ -95,26 +94,26 @@ impl NameShard {
         from: &Name,
         to: &Name,
         node: Node,
-    ) -> Result<Outcome, NoMemory>
-        ensures { IfOk result (λ x. outcome_of x ≡ swap_answer self.now dir from.now to.now node) }
+    ) -> Result<Outcome<NameReply>, NoMemory>
+        ensures { IfOk result (λ x. x ≡ swap_answer self.now dir from.now to.now node) }
     {
         let from = key_in(dir, from)?;
         let to = key_in(dir, to)?;
         Ok(self.swap_keys(&from, &to, node))
     }
 
-    fn swap_keys(&self, from: &Key, to: &Key, node: Node) -> Outcome
+    fn swap_keys(&self, from: &Key, to: &Key, node: Node) -> Outcome<NameReply>
         requires { to.now.dir ≡ from.now.dir }
-        ensures { outcome_of result ≡ swap_answer self.now from.now.dir from.now.name to.now.name node }
+        ensures { result ≡ swap_answer self.now from.now.dir from.now.name to.now.name node }
     {
         if let Some(why) = self.refusal(from.dir) {
-            return Outcome::refused(why);
+            return refused(why);
         }
         let Some(renamed) = self.entries.get(from) else {
-            return Outcome::refused(Refusal::Changed { now: None });
+            return refused(Refusal::Changed { now: None });
         };
         if !is_node(renamed.node, node) {
-            return Outcome::refused(Refusal::Changed {
+            return refused(Refusal::Changed {
                 now: Some(renamed.node),
             });
         }
@@ -150,35 +149,35 @@ fn key_in(dir: DirId, name: &Name) -> Result<Key, NoMemory>
 }
 
 // What an unbind of any file comes to at what stands at the key.
-fn unbind_any(entry: Option<&DirectoryEntry>) -> Outcome
-    ensures { outcome_of result ≡ unbind_any (option_copied entry.entry) }
+fn unbind_any(entry: Option<&DirectoryEntry>) -> Outcome<NameReply>
+    ensures { result ≡ unbind_any (option_copied entry.entry) }
 {
     let Some(entry) = entry else {
-        return Outcome::refused(Refusal::NoName);
+        return refused(Refusal::NoName);
     };
     match entry.node {
-        Node::Dir(_) => Outcome::refused(Refusal::IsDir),
+        Node::Dir(_) => refused(Refusal::IsDir),
         Node::File(_) => unbound(entry),
     }
 }
 
 // What an unbind of that node alone comes to at what stands at the key.
-fn unbind_node(entry: Option<&DirectoryEntry>, node: Node) -> Outcome
-    ensures { outcome_of result ≡ unbind_node (option_copied entry.entry) node }
+fn unbind_node(entry: Option<&DirectoryEntry>, node: Node) -> Outcome<NameReply>
+    ensures { result ≡ unbind_node (option_copied entry.entry) node }
 {
     let Some(entry) = entry else {
-        return Outcome::refused(Refusal::Changed { now: None });
+        return refused(Refusal::Changed { now: None });
     };
     if !is_node(entry.node, node) {
-        return Outcome::refused(Refusal::Changed {
+        return refused(Refusal::Changed {
             now: Some(entry.node),
         });
     }
     unbound(entry)
 }
 
-fn unbound(entry: &DirectoryEntry) -> Outcome
-    ensures { outcome_of result ≡ Changes (Unbound entry.now.node entry.now.hold) }
+fn unbound(entry: &DirectoryEntry) -> Outcome<NameReply>
+    ensures { result ≡ Outcome.Changes (Unbound entry.now.node entry.now.hold) }
 {
     Outcome::Changes(NameReply::Unbound {
         node: entry.node,
@@ -193,15 +192,15 @@ fn is_node(a: Node, b: Node) -> bool
 }
 
 // What a swap comes to at what stands at the new name; the hold is that of the old name.
-fn swap_over(over: Option<&DirectoryEntry>, node: Node, hold: Hold) -> Outcome
-    ensures { outcome_of result ≡ swap_over (option_copied over.entry) node hold }
+fn swap_over(over: Option<&DirectoryEntry>, node: Node, hold: Hold) -> Outcome<NameReply>
+    ensures { result ≡ swap_over (option_copied over.entry) node hold }
 {
     let Some(old) = over else {
         return Outcome::Changes(NameReply::Swapped { hold, old: None });
     };
     match (old.node, node) {
-        (Node::Dir(_), _) => Outcome::refused(Refusal::IsDir),
-        (Node::File(_), Node::Dir(_)) => Outcome::refused(Refusal::Exists),
+        (Node::Dir(_), _) => refused(Refusal::IsDir),
+        (Node::File(_), Node::Dir(_)) => refused(Refusal::Exists),
         (Node::File(file), Node::File(_)) => Outcome::Changes(NameReply::Swapped {
             hold,
             old: Some(Replaced {

@@ -3,18 +3,17 @@ ghost use Rattle.std.specs.FinMap.{get};
 ghost use Rattle.ordered_rows.specs.Maps.{set_at};
 ghost use Rattle.store_rules.specs.Names.{make_dir_answer, make_dir_change, grant_dir_answer, grant_dir_change};
 ghost use Rattle.store_rules.specs.Names.{release_dir_answer, release_dir_change, dir_with_hold, dir_lists};
-ghost use Rattle.name_shard.specs.Outcomes.{outcome_of};
 
-use crate::outcome::Outcome;
+use crate::refused::refused;
 use crate::shard::NameShard;
 use key_maps::{DirMap, HoldList};
-use store_rules::{Directory, NameReply};
+use store_rules::{Directory, NameReply, Outcome};
 use tect_ids::{DirId, Hold, Key, NoMemory, Refusal, Upper};
 
 // The requests that change a directory.
 impl NameShard {
-    pub(crate) fn make_dir_outcome(&self, dir: DirId) -> Outcome
-        ensures { outcome_of result ≡ make_dir_answer self.now dir }
+    pub(crate) fn make_dir_outcome(&self, dir: DirId) -> Outcome<NameReply>
+        ensures { result ≡ make_dir_answer self.now dir }
     {
         if self.dirs.get(dir).is_some() {
             return Outcome::Leaves(NameReply::HasId);
@@ -45,11 +44,11 @@ impl NameShard {
         }
     }
 
-    pub(crate) fn grant_outcome(&self, dir: DirId) -> Outcome
-        ensures { outcome_of result ≡ grant_dir_answer self.now dir }
+    pub(crate) fn grant_outcome(&self, dir: DirId) -> Outcome<NameReply>
+        ensures { result ≡ grant_dir_answer self.now dir }
     {
         if self.dirs.get(dir).is_none() {
-            return Outcome::refused(Refusal::NoDir);
+            return refused(Refusal::NoDir);
         }
         Outcome::Changes(NameReply::Granted)
     }
@@ -62,8 +61,8 @@ impl NameShard {
         grant_hold(&mut self.dirs, dir, hold, key)
     }
 
-    pub(crate) fn release_outcome(&self, dir: DirId, hold: Hold) -> Outcome
-        ensures { outcome_of result ≡ release_dir_answer self.now dir hold }
+    pub(crate) fn release_outcome(&self, dir: DirId, hold: Hold) -> Outcome<NameReply>
+        ensures { result ≡ release_dir_answer self.now dir hold }
     {
         let was = self.lists(dir, hold);
         if was {

@@ -4,8 +4,8 @@
 mod bindings;
 mod directories;
 mod dump;
-mod outcome;
 mod readings;
+mod refused;
 mod shard;
 
 pub use shard::NameShard;

@@ -2,20 +2,19 @@ ghost use Rattle.std.specs.Prelude.{◌≡◌, map, IfOk};
 ghost use Rattle.std.specs.FinMap.{entries};
 ghost use Rattle.key_maps.specs.Maps.{within};
 ghost use Rattle.store_rules.specs.Names.{check_dir_answer, look_answer, list_answer, listed};
-ghost use Rattle.name_shard.specs.Outcomes.{outcome_of};
 
-use crate::outcome::Outcome;
+use crate::refused::refused;
 use crate::shard::NameShard;
-use store_rules::NameReply;
+use store_rules::{NameReply, Outcome};
 use tect_ids::{DirId, Items, Key, Listed, NoMemory, Refusal};
 
 // The requests that change nothing.
 impl NameShard {
-    pub(crate) fn check_dir(&self, dir: DirId) -> Outcome
-        ensures { outcome_of result ≡ check_dir_answer self.now dir }
+    pub(crate) fn check_dir(&self, dir: DirId) -> Outcome<NameReply>
+        ensures { result ≡ check_dir_answer self.now dir }
     {
         match self.dirs.get(dir) {
-            None => Outcome::refused(Refusal::NoDir),
+            None => refused(Refusal::NoDir),
             Some(directory) => Outcome::Leaves(NameReply::DirIs {
                 parent: directory.parent,
                 sealed: directory.sealed,
@@ -23,23 +22,23 @@ impl NameShard {
         }
     }
 
-    pub(crate) fn look(&self, key: &Key) -> Outcome
-        ensures { outcome_of result ≡ look_answer self.now key.now }
+    pub(crate) fn look(&self, key: &Key) -> Outcome<NameReply>
+        ensures { result ≡ look_answer self.now key.now }
     {
         if self.dirs.get(key.dir).is_none() {
-            return Outcome::refused(Refusal::NoDir);
+            return refused(Refusal::NoDir);
         }
         match self.entries.get(key) {
-            None => Outcome::refused(Refusal::NoName),
+            None => refused(Refusal::NoName),
             Some(entry) => Outcome::Leaves(NameReply::Found { node: entry.node }),
         }
     }
 
-    pub(crate) fn list(&self, dir: DirId) -> Result<Outcome, NoMemory>
-        ensures { IfOk result (λ x. outcome_of x ≡ list_answer self.now dir) }
+    pub(crate) fn list(&self, dir: DirId) -> Result<Outcome<NameReply>, NoMemory>
+        ensures { IfOk result (λ x. x ≡ list_answer self.now dir) }
     {
         let Some(directory) = self.dirs.get(dir) else {
-            return Ok(Outcome::refused(Refusal::NoDir));
+            return Ok(refused(Refusal::NoDir));
         };
         Ok(Outcome::Leaves(NameReply::Listing {
             sealed: directory.sealed,

@@ -1,13 +1,11 @@
 ghost use Rattle.std.specs.Prelude.{◌≡◌, true, IsTrue, IsOk, IfOk, OnOk, OnErr, if◌then◌else◌};
 ghost use Rattle.store_rules.specs.Names.{root_names, no_names, name_rule, name_answer, name_change, name_step};
 ghost use Rattle.store_rules.specs.Outcomes.{changes, reply};
-ghost use Rattle.name_shard.specs.Outcomes.{outcome_of};
 
-use crate::outcome::Outcome;
 use key_maps::{DirMap, EntryTable, HoldList};
 use std::alloc::Global;
 use std::marker::Model;
-use store_rules::{Directory, DirectoryEntry, NameReply, NameReq};
+use store_rules::{Directory, DirectoryEntry, NameReply, NameReq, Outcome};
 use tect_ids::{DirId, NoMemory, ROOT};
 
 /// A shard of the Name layer: some of the directories, each with all of its entries. No directory comes to have more than
@@ -69,13 +67,11 @@ impl NameShard {
         // What wants no memory is always answered.
         ensures sure { IsTrue (name_rule req.now).free → IsOk result }
     {
-        match self.outcome(req)? {
-            Outcome::Leaves(reply) => Ok(reply),
-            Outcome::Changes(reply) => {
-                self.change(req)?;
-                Ok(reply)
-            }
+        let outcome = self.decide(req)?;
+        if outcome.changes() {
+            self.apply(req)?;
         }
+        Ok(outcome.into_reply())
     }
 
     /// What `step` would answer. It changes nothing.
@@ -83,12 +79,13 @@ impl NameShard {
         ensures answers { IfOk result (λ x. x ≡ reply (name_answer self.now req.now)) }
         ensures sure { IsTrue (name_rule req.now).free → IsOk result }
     {
-        Ok(self.outcome(req)?.into_reply())
+        Ok(self.decide(req)?.into_reply())
     }
 
-    // What the request comes to, before anything is changed.
-    fn outcome(&self, req: &NameReq) -> Result<Outcome, NoMemory>
-        ensures answers { IfOk result (λ x. outcome_of x ≡ name_answer self.now req.now) }
+    /// What `step` would answer, and whether it would change the shard. It changes nothing, and takes memory only for `List`
+    /// and `Swap`.
+    pub fn decide(&self, req: &NameReq) -> Result<Outcome<NameReply>, NoMemory>
+        ensures answers { IfOk result (λ x. x ≡ name_answer self.now req.now) }
         ensures sure { IsTrue (name_rule req.now).free → IsOk result }
     {
         match req {
@@ -110,8 +107,9 @@ impl NameShard {
         }
     }
 
-    // Does what a request changes that is not refused.
-    fn change(&mut self, req: &NameReq) -> Result<(), NoMemory>
+    /// Makes the change of a request that was decided to change the shard. For want of memory nothing is changed; `Unbind` and
+    /// `Release` take none.
+    pub fn apply(&mut self, req: &NameReq) -> Result<(), NoMemory>
         requires { changes (name_answer self.old req.now) ≡ true }
         ensures ok { OnOk result (self.new ≡ name_change self.old req.now) }
         ensures err { OnErr result (self.new ≡ self.old) }

@@ -7,7 +7,8 @@ use Rattle.store_rules.specs.declared.names.Directory.{Directory}
 use Rattle.store_rules.specs.declared.names.NameReq.TheVariants as names
 use Rattle.tect_ids.specs.declared.values.Refusal.TheVariants.{NoDir}
 use Rattle.store_rules.specs.declared.names.NameReply.TheVariants.{DirIs, Refused}
-use Rattle.store_rules.specs.Outcomes.{Leaves, reply, found}
+use Rattle.store_rules.specs.declared.outcome.Outcome.TheVariants.{Leaves}
+use Rattle.store_rules.specs.Outcomes.{reply, found}
 use Rattle.store_rules.specs.Names.{Names}
 use Rattle.std.specs.FinMap.{get}
 use Rattle.store_rules.specs.Views.{as_parent}

@@ -1,6 +1,6 @@
 use crate::machine::Machine;
 use file_shard::FileShard;
-use store_rules::{FileReply, FileReq};
+use store_rules::{FileReply, FileReq, Outcome};
 use tect_calls::{AnyReply, AnyReq};
 use tect_ids::{Layer, NoMemory};
 
@@ -9,7 +9,7 @@ impl Machine for FileShard {
     ghost use Rattle.std.specs.FinMap.{empty};
     ghost use Rattle.store_rules.specs.declared.any.AnyReq.TheVariants.{File};
     ghost use Rattle.store_rules.specs.declared.any.AnyReply.TheVariants.{File as file_reply};
-    ghost use Rattle.place_kit.specs.Machines.{file_after, file_replies, file_is_free};
+    ghost use Rattle.place_kit.specs.Machines.{file_after, file_replies, file_alters, file_leaves, file_is_free};
     ghost use Rattle.tect_ids.specs.declared.ids.Layer.TheVariants as layers;
 
     type Req = FileReq;
@@ -26,11 +26,15 @@ impl Machine for FileShard {
 
     ghost answer = { file_replies };
 
+    ghost alters = { file_alters };
+
     ghost opening = { λ rooted. empty };
 
     ghost rooted = { λ s. false };
 
     ghost is_free = { λ s. file_is_free };
+
+    ghost leaves = { file_leaves };
 
     fn layer() -> Layer {
         Layer::Files
@@ -42,18 +46,12 @@ impl Machine for FileShard {
         false
     }
 
-    fn reply(&self, req: &FileReq) -> Result<FileReply, NoMemory> {
-        FileShard::reply(self, req)
+    fn decide(&self, req: &FileReq) -> Result<Outcome<FileReply>, NoMemory> {
+        Ok(FileShard::decide(self, req))
     }
 
-    fn step(&mut self, req: &FileReq) -> Result<FileReply, NoMemory> {
-        FileShard::step(self, req)
-    }
-
-    // Each request of a file shard may change it.
-    fn only_reads(req: &FileReq) -> bool {
-        let _req = req;
-        false
+    fn apply(&mut self, req: &FileReq) -> Result<(), NoMemory> {
+        FileShard::apply(self, req)
     }
 
     fn own(req: FileReq) -> AnyReq {

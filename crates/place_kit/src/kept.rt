@@ -192,20 +192,27 @@ impl<M: Machine> Kept<M> {
             copy,
             spare: _,
         } = prepared;
-        let (reply, ours, theirs) = replied(&self.machine, &req)?;
-        let receipt = self.keep(pass, req, ours, (copy, theirs))?;
+        let Decided {
+            changes,
+            reply,
+            ours,
+            theirs,
+        } = Decided::by(&self.machine, &req)?;
+        let receipt = self.keep(pass, req, changes, ours, (copy, theirs))?;
         Ok((reply, receipt))
     }
 
-    // Does the request, whose reply is known, and adds its entry.
+    // Makes the change of the request where there is one, and adds its entry. What the machine decides is known.
     fn keep(
         &mut self,
         pass: &Pass,
         req: M::Req,
+        changes: bool,
         reply: AnyReply,
         theirs: (AnyReq, AnyReply),
     ) -> Result<Receipt, NoMemory>
         requires room { 0 < self.old.history.spare }
+        requires decided { changes ≡ M.alters self.old.machine (M.wide req) }
         requires answer { reply ≡ M.answer self.old.machine (M.wide req) }
         requires same { theirs ≡ (M.wide req, reply) }
         requires early { pass.now.clock < 2 ^ 63 }
@@ -215,7 +222,7 @@ impl<M: Machine> Kept<M> {
     {
         note_that_short(self.history.as_slice());
         let stamp = self.clock.max(pass.clock()) + 1;
-        let Ok(()) = change(&mut self.machine, &req) else {
+        let Ok(()) = change(&mut self.machine, &req, changes) else {
             return Err(NoMemory);
         };
         let place = self.label.place;
@@ -227,32 +234,47 @@ impl<M: Machine> Kept<M> {
     }
 }
 
-// The reply that the machine would give, and as all places know it, for its history and for the pass.
-fn replied<M: Machine>(
-    machine: &M,
-    req: &M::Req,
-) -> Result<(M::Reply, AnyReply, AnyReply), NoMemory>
-    ensures reply { IfOk result (λ r. M.wide_reply r.0 ≡ M.answer machine.now (M.wide req.now)) }
-    ensures copies { IfOk result (λ r. (r.1 ≡ M.wide_reply r.0) × (r.2 ≡ M.wide_reply r.0)) }
-    ensures free { M.is_free machine.now (M.wide req.now) ≡ true → IsOk result }
-{
-    let reply = machine.reply(req)?;
-    let ours = M::copy_reply(&reply)?;
-    let theirs = M::copy_reply(&reply)?;
-    Ok((reply, ours, theirs))
+// What a machine decided of a request: whether it changes, the reply, and this as all places know it, for the history and for the pass.
+#[derive(Drop)]
+struct Decided<M: Machine> {
+    changes: bool,
+    reply: M::Reply,
+    ours: AnyReply,
+    theirs: AnyReply,
 }
 
-// Does the request, unless it only reads.
-fn change<M: Machine>(machine: &mut M, req: &M::Req) -> Result<(), NoMemory>
+impl<M: Machine> Decided<M> {
+    fn by(machine: &M, req: &M::Req) -> Result<Decided<M>, NoMemory>
+        ensures changes { IfOk result (λ d. d.changes ≡ M.alters machine.now (M.wide req.now)) }
+        ensures reply { IfOk result (λ d. M.wide_reply d.reply ≡ M.answer machine.now (M.wide req.now)) }
+        ensures copies { IfOk result (λ d. (d.ours ≡ M.wide_reply d.reply) × (d.theirs ≡ M.wide_reply d.reply)) }
+        ensures free { M.is_free machine.now (M.wide req.now) ≡ true → IsOk result }
+    {
+        let outcome = machine.decide(req)?;
+        let changes = outcome.changes();
+        let reply = outcome.into_reply();
+        let ours = M::copy_reply(&reply)?;
+        let theirs = M::copy_reply(&reply)?;
+        Ok(Decided {
+            changes,
+            reply,
+            ours,
+            theirs,
+        })
+    }
+}
+
+// Makes the change of the request, where it was decided that there is one.
+fn change<M: Machine>(machine: &mut M, req: &M::Req, changes: bool) -> Result<(), NoMemory>
+    requires { changes ≡ M.alters machine.old (M.wide req.now) }
     ensures ok { OnOk result (machine.new ≡ M.after machine.old (M.wide req.now)) }
     ensures err { OnErr result (machine.new ≡ machine.old) }
     ensures free { M.is_free machine.old (M.wide req.now) ≡ true → IsOk result }
 {
-    if M::only_reads(req) {
+    if !changes {
         return Ok(());
     }
-    let _reply = machine.step(req)?;
-    Ok(())
+    machine.apply(req)
 }
 
 /// Stands for its contract alone: a history is short, since its entries take room.

@@ -1,8 +1,10 @@
-ghost use Rattle.std.specs.Prelude.{◌≡◌, Bool, true, IfOk, OnErr, IsOk};
+ghost use Rattle.std.specs.Prelude.{◌≡◌, Bool, true, false, IfOk, OnOk, OnErr, IsOk};
 ghost use Rattle.tect_ids.specs.declared.ids.Layer.{Layer};
 ghost use Rattle.store_rules.specs.declared.any.AnyReq.{AnyReq};
 ghost use Rattle.store_rules.specs.declared.any.AnyReply.{AnyReply};
+ghost use Rattle.store_rules.specs.Outcomes.{changes, reply};
 
+use store_rules::Outcome;
 use tect_calls::{AnyReply, AnyReq};
 use tect_ids::{Layer, NoMemory};
 
@@ -25,6 +27,9 @@ pub trait Machine: Drop {
 
     ghost answer: { Self → AnyReq → AnyReply };
 
+    /// Whether a request changes the machine.
+    ghost alters: { Self → AnyReq → Bool };
+
     /// The machine with which a place opens, with the root or without, and whether a machine has the root.
     ghost opening: { Bool → Self };
 
@@ -41,20 +46,18 @@ pub trait Machine: Drop {
     fn has_root(&self) -> bool
         ensures { result ≡ rooted self.now };
 
-    /// What `step` would reply. It changes nothing.
-    fn reply(&self, req: &Self::Req) -> Result<Self::Reply, NoMemory>
-        ensures ok { IfOk result (λ r. wide_reply r ≡ answer self.now (wide req.now)) }
+    /// What `step` would reply, and whether it would change the machine. It changes nothing.
+    fn decide(&self, req: &Self::Req) -> Result<Outcome<Self::Reply>, NoMemory>
+        ensures answers { IfOk result (λ x. wide_reply (reply x) ≡ answer self.now (wide req.now)) }
+        ensures changes { IfOk result (λ x. changes x ≡ alters self.now (wide req.now)) }
         ensures free { is_free self.now (wide req.now) ≡ true → IsOk result };
 
-    /// Does the request, and replies. For want of memory nothing is changed.
-    fn step(&mut self, req: &Self::Req) -> Result<Self::Reply, NoMemory>
-        ensures ok { IfOk result (λ r. (wide_reply r ≡ answer self.old (wide req.now)) × (self.new ≡ after self.old (wide req.now))) }
+    /// Makes the change of a request that was decided to change the machine. For want of memory nothing is changed.
+    fn apply(&mut self, req: &Self::Req) -> Result<(), NoMemory>
+        requires { alters self.old (wide req.now) ≡ true }
+        ensures ok { OnOk result (self.new ≡ after self.old (wide req.now)) }
         ensures err { OnErr result (self.new ≡ self.old) }
         ensures free { is_free self.old (wide req.now) ≡ true → IsOk result };
-
-    /// Whether the request only reads, so that `step` changes nothing. It takes no memory.
-    fn only_reads(req: &Self::Req) -> bool
-        ensures { (s : Self) → result ≡ true → after s (wide req.now) ≡ s };
 
     /// The request itself, as all places know it. It takes no memory.
     fn own(req: Self::Req) -> AnyReq
@@ -70,6 +73,27 @@ pub trait Machine: Drop {
         ensures same { IfOk result (λ r. r ≡ wide_reply reply.now) }
         ensures free { (s : Self) (q : AnyReq) → is_free s q ≡ true → wide_reply reply.now ≡ answer s q → IsOk result };
 
+    /// What `step` would reply. It changes nothing.
+    fn reply(&self, req: &Self::Req) -> Result<Self::Reply, NoMemory>
+        ensures ok { IfOk result (λ r. wide_reply r ≡ answer self.now (wide req.now)) }
+        ensures free { is_free self.now (wide req.now) ≡ true → IsOk result }
+    {
+        Ok(self.decide(req)?.into_reply())
+    }
+
+    /// Does the request, and replies. For want of memory nothing is changed.
+    fn step(&mut self, req: &Self::Req) -> Result<Self::Reply, NoMemory>
+        ensures ok { IfOk result (λ r. (wide_reply r ≡ answer self.old (wide req.now)) × (self.new ≡ after self.old (wide req.now))) }
+        ensures err { OnErr result (self.new ≡ self.old) }
+        ensures free { is_free self.old (wide req.now) ≡ true → IsOk result }
+    {
+        let outcome = self.decide(req)?;
+        if outcome.changes() {
+            self.apply(req)?;
+        }
+        Ok(outcome.into_reply())
+    }
+
     /// The request and its reply once more, as all places know them.
     fn widen(req: &Self::Req, reply: &Self::Reply) -> Result<(AnyReq, AnyReply), NoMemory>
         ensures ok { IfOk result (λ p. (p.0 ≡ wide req.now) × (p.1 ≡ wide_reply reply.now)) }
@@ -79,4 +103,7 @@ pub trait Machine: Drop {
         let reply = Self::copy_reply(reply)?;
         Ok((req, reply))
     }
+
+    /// What does not change the machine leaves it as it is.
+    ghost leaves: { (s : Self) (q : AnyReq) → alters s q ≡ false → after s q ≡ s };
 }

@@ -3,14 +3,15 @@ ghost use Rattle.store_rules.specs.Views.{as_parent};
 
 use crate::machine::Machine;
 use name_shard::NameShard;
-use store_rules::{NameReply, NameReq};
+use store_rules::{NameReply, NameReq, Outcome};
 use tect_calls::{AnyReply, AnyReq};
 use tect_ids::{Layer, NoMemory, ROOT};
 
 impl Machine for NameShard {
     ghost use Rattle.store_rules.specs.declared.any.AnyReq.TheVariants.{Name};
     ghost use Rattle.store_rules.specs.declared.any.AnyReply.TheVariants.{Name as name_reply};
-    ghost use Rattle.place_kit.specs.Machines.{name_after, name_replies, name_opening, has_root, name_is_free};
+    ghost use Rattle.place_kit.specs.Machines.{name_after, name_replies, name_alters, name_leaves};
+    ghost use Rattle.place_kit.specs.Machines.{name_opening, has_root, name_is_free};
     ghost use Rattle.tect_ids.specs.declared.ids.Layer.TheVariants as layers;
 
     type Req = NameReq;
@@ -27,11 +28,15 @@ impl Machine for NameShard {
 
     ghost answer = { name_replies };
 
+    ghost alters = { name_alters };
+
     ghost opening = { name_opening };
 
     ghost rooted = { has_root };
 
     ghost is_free = { λ s. name_is_free };
+
+    ghost leaves = { name_leaves };
 
     fn layer() -> Layer {
         Layer::Names
@@ -44,19 +49,12 @@ impl Machine for NameShard {
         }
     }
 
-    fn reply(&self, req: &NameReq) -> Result<NameReply, NoMemory> {
-        NameShard::reply(self, req)
+    fn decide(&self, req: &NameReq) -> Result<Outcome<NameReply>, NoMemory> {
+        NameShard::decide(self, req)
     }
 
-    fn step(&mut self, req: &NameReq) -> Result<NameReply, NoMemory> {
-        NameShard::step(self, req)
-    }
-
-    fn only_reads(req: &NameReq) -> bool {
-        matches!(
-            req,
-            NameReq::CheckDir { .. } | NameReq::Look { .. } | NameReq::List { .. }
-        )
+    fn apply(&mut self, req: &NameReq) -> Result<(), NoMemory> {
+        NameShard::apply(self, req)
     }
 
     fn own(req: NameReq) -> AnyReq {

@@ -15,7 +15,9 @@ use Rattle.store_rules.specs.declared.files.FileReq.TheVariants as req
 use Rattle.store_rules.specs.declared.files.FileReply.{FileReply}
 use Rattle.store_rules.specs.declared.files.FileReply.TheVariants.{Made, Granted, Released, HasId, Refused}
 use Rattle.tect_ids.specs.declared.values.Refusal.TheVariants.{NoFile}
-use Rattle.store_rules.specs.Outcomes.{Outcome, Changes, changes, refuse, found}
+use Rattle.store_rules.specs.declared.outcome.Outcome.{Outcome}
+use Rattle.store_rules.specs.declared.outcome.Outcome.TheVariants.{Changes}
+use Rattle.store_rules.specs.Outcomes.{changes, refuse, found}
 
 abbrev pub Files : Type 0
 Files = FinMap file_cmp File

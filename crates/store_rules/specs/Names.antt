@@ -27,7 +27,9 @@ use Rattle.store_rules.specs.declared.names.NameReply.{NameReply}
 use Rattle.store_rules.specs.declared.names.NameReply.TheVariants.{DirIs, Found, Listing, Made, Bound, Swapped, Unbound}
 use Rattle.store_rules.specs.declared.names.NameReply.TheVariants.{Granted, Released, HasId, Refused}
 use Rattle.tect_ids.specs.declared.values.Refusal.TheVariants.{NoDir, NoName, Exists, IsDir, Sealed, Full, Changed}
-use Rattle.store_rules.specs.Outcomes.{Outcome, Leaves, Changes, changes, refuse, found}
+use Rattle.store_rules.specs.declared.outcome.Outcome.{Outcome}
+use Rattle.store_rules.specs.declared.outcome.Outcome.TheVariants.{Leaves, Changes}
+use Rattle.store_rules.specs.Outcomes.{changes, refuse, found}
 
 pub record Names : Type 0 where
   pub dirs : FinMap dir_cmp Directory

@@ -1,9 +1,7 @@
 -- What a rule says of a request: a refusal or a reading, which leaves the shard as it is, or a change.
 use Rattle.std.specs.Prelude.{Bool, true, false, if◌then◌else◌, Option, Some, None}
-
-pub data Outcome (R : Type 0) : Type 0 where
-  Leaves : R → Outcome R
-  Changes : R → Outcome R
+use Rattle.store_rules.specs.declared.outcome.Outcome.{Outcome}
+use Rattle.store_rules.specs.declared.outcome.Outcome.TheVariants.{Leaves, Changes}
 
 abbrev pub reply : {R : Type 0} → Outcome R → R
 reply (Leaves x) = x

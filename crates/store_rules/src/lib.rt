@@ -4,8 +4,10 @@
 mod any;
 mod files;
 mod names;
+mod outcome;
 mod replies;
 
 pub use any::{AnyReply, AnyReq};
 pub use files::{File, FileReply, FileReq};
 pub use names::{Directory, DirectoryEntry, NameReply, NameReq, Replaced};
+pub use outcome::Outcome;

@@ -11,7 +11,8 @@ use Rattle.store_rules.specs.declared.files.FileReply.{FileReply}
 use Rattle.store_rules.specs.declared.files.FileReq.{FileReq}
 use Rattle.store_rules.specs.declared.files.FileReq.TheVariants as req
 use Rattle.store_rules.specs.Files.{Files, FileRule, file_with_hold, file_rule, file_answer, file_change, file_step}
-use Rattle.store_rules.specs.Outcomes.{Outcome, changes}
+use Rattle.store_rules.specs.declared.outcome.Outcome.{Outcome}
+use Rattle.store_rules.specs.Outcomes.{changes}
 use Rattle.store_rules.specs.Places.{file_of}
 use Rattle.store_shards.specs.Shards.{KeepsFiles}
 

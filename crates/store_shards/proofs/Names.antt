@@ -17,7 +17,8 @@ use Rattle.store_rules.specs.declared.names.NameReq.{NameReq}
 use Rattle.store_rules.specs.declared.names.NameReq.TheVariants as req
 use Rattle.store_rules.specs.Names.{Names, NameRule, key_in, set_dir, set_entry, dir_with_hold, bind_over}
 use Rattle.store_rules.specs.Names.{name_rule, name_answer, name_change, name_step}
-use Rattle.store_rules.specs.Outcomes.{Outcome, changes}
+use Rattle.store_rules.specs.declared.outcome.Outcome.{Outcome}
+use Rattle.store_rules.specs.Outcomes.{changes}
 use Rattle.store_rules.specs.Places.{dir_of}
 use Rattle.store_shards.specs.Shards.{KeepsNames}
 
