@@ -1,10 +1,10 @@
 -- The dump of a store is that of its layers; and what the shards in a row show of a layer is what the store shows that they are together.
 use Rattle.std.proofs.Common.{◌≡◌, ℕ, suc, ◌+◌, ◌<◌, Bool, true, false, T, cond, if◌then◌else◌, Option, Some, None, is_some}
-use Rattle.std.proofs.Common.{List, [], ◌∷◌, ◌++◌, map, length, get_or, refl, sym, ap, ◌∙◌, subst, arith}
+use Rattle.std.proofs.Common.{List, [], ◌∷◌, ◌++◌, map, length, get_or, append-nil, refl, sym, ap, ◌∙◌, subst, arith}
 use Rattle.std.specs.Prelude.{option_map}
 use Rattle.std.specs.List.{flat_map, AllByRecursion}
 use Rattle.std.specs.List.Sorted.{IsPermutation, IsSorted, IsSortedBy}
-use Rattle.std.proofs.lemmas.List.{append-nil, map-append}
+use Rattle.std.proofs.lemmas.List.{length-map, map-append}
 use Rattle.std.proofs.lemmas.List.Concat.{flat_map_single}
 use Rattle.std.proofs.lemmas.List.Folds.{flat_map-map}
 use Rattle.std.proofs.lemmas.List.Sorted.{IsPermutation-map}
@@ -147,7 +147,15 @@ module _ {K X : Type 0} {R : K → K → Ordering} (o : IsTotalOrder R) (same : 
       ∙ sym (map-append (λ (e : K × X). e.0) (entries (rows s)) (flat_map (λ s. entries (rows s)) row))
 
   made_sorted : (xs : List ℕ) → IsSorted nat_cmp xs → IsSorted R (map make xs)
-  made_sorted xs sorted = ?
+  made_sorted xs sorted = λ k d low high.
+      let n : ℕ = number d in
+      let at : (j : ℕ) → get_or (map make xs) j d ≡ make (get_or xs j n) =
+      λ j. ap (λ (x : K). get_or (map make xs) j x) (sym (back d)) ∙ get_or-map make xs j n in
+      let next = at (k + 1) in
+      let here = at k in
+      let lt : is_lt (R (get_or (map make xs) (k + 1) d) (get_or (map make xs) k d)) ≡
+      is_lt (R (make (get_or xs (k + 1) n)) (make (get_or xs k n))) = λ i. is_lt (R (next i) (here i)) in
+      lt ∙ order (get_or xs (k + 1) n) (get_or xs k n) ∙ sorted k n low (omega (arith, high, length-map xs make))
 
   ids_sorted : (row : List Store)
       → ((i : ℕ) (q : K) → i < length row → contains_key (rows (get_or row i no_store)) q ≡ true → home q ≡ i)
