@@ -13,10 +13,10 @@ nothing : {A : Type 0} (es : List A) → length es ≡ 0 → es ≡ []
 nothing [] none = refl
 nothing (x ∷ es) none = absurd (omega (arith, none))
 
-no_files : entries (empty {X = File} {R = file_cmp}) ≡ []
+pub no_files : entries (empty {X = File} {R = file_cmp}) ≡ []
 no_files = nothing _ (sym (len-entries (empty {X = File} {R = file_cmp})) ∙ len-empty file_cmp File)
 
-no_dirs : entries (empty {X = Directory} {R = dir_cmp}) ≡ []
+pub no_dirs : entries (empty {X = Directory} {R = dir_cmp}) ≡ []
 no_dirs = nothing _ (sym (len-entries (empty {X = Directory} {R = dir_cmp})) ∙ len-empty dir_cmp Directory)
 
 pub names_alone : (s : Names) → names_dump s ++ files_dump empty ≡ names_dump s

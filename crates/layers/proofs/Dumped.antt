@@ -1,9 +1,9 @@
 -- The dump of a store is that of its layers; and what the shards in a row show of a layer is what the store shows that they are together.
-use Rattle.std.proofs.Common.{◌≡◌, ℕ, suc, ◌+◌, ◌<◌, Bool, true, false, T, cond, if◌then◌else◌, Option, Some, None, is_some}
+use Rattle.std.proofs.Common.{◌≡◌, ℕ, ◌+◌, ◌<◌, Bool, true, false, T, cond, if◌then◌else◌, Option, Some, None, is_some}
 use Rattle.std.proofs.Common.{List, [], ◌∷◌, ◌++◌, map, length, get_or, append-nil, refl, sym, ap, ◌∙◌, subst, arith}
 use Rattle.std.specs.Prelude.{option_map}
 use Rattle.std.specs.List.{flat_map, AllByRecursion}
-use Rattle.std.specs.List.Sorted.{IsPermutation, IsSorted, IsSortedBy}
+use Rattle.std.specs.List.Sorted.{IsPermutation, IsSorted}
 use Rattle.std.proofs.lemmas.List.{length-map, map-append}
 use Rattle.std.proofs.lemmas.List.Concat.{flat_map_single}
 use Rattle.std.proofs.lemmas.List.Folds.{flat_map-map}
@@ -13,7 +13,7 @@ use Rattle.std.specs.declared.cmp.Ordering.{Ordering}
 use Rattle.std.specs.declared.cmp.Ordering.TheVariants.{Less, Equal, Greater}
 use Rattle.std.specs.Ordering.{is_lt, is_eq, nat_cmp, ordering_reverse}
 use Rattle.std.specs.Cmp.{IsTotalOrder, tied_itself}
-use Rattle.std.specs.FinMap.{FinMap, IsAntisymmetric, get, contains_key, keys, empty, entries, entries_sorted, find, from_entries, is_sorted, get-entries}
+use Rattle.std.specs.FinMap.{FinMap, IsAntisymmetric, get, contains_key, keys, entries, entries_sorted, find, from_entries, is_sorted, get-entries}
 use Rattle.std.specs.FinMap.Entries.{below_all}
 use Rattle.tect_ids.specs.declared.ids.Counts.{Counts}
 use Rattle.tect_ids.specs.declared.ids.DirId.{DirId}
@@ -30,15 +30,14 @@ use Rattle.store_rules.specs.declared.files.File.{File}
 use Rattle.store_rules.specs.declared.names.Directory.{Directory}
 use Rattle.store_rules.specs.Alone.{no_store}
 use Rattle.store_rules.specs.Names.{Names}
-use Rattle.store_rules.specs.Files.{Files}
 use Rattle.store_rules.specs.Dumps.{dir_lines, names_dump, file_line, files_dump, store_dump}
 use Rattle.store_rules.specs.Store.{Store}
-use Rattle.store_shards.specs.Rows.{AreShards, files_together, names_together, parts_of, together}
+use Rattle.store_shards.specs.Rows.{AreShards, files_together, names_together, together}
 use Rattle.store_shards.specs.Shards.{dir_place, file_place, place_eq}
 use Rattle.store_shards.proofs.Names.{same_within}
 use Rattle.store_shards.proofs.Rows.{chosen, place_own}
 use Rattle.name_shard.specs.DirDumps.{lines_of_dir, dir_dump}
-use Rattle.layers.specs.Dumps.{file_dump, ids_of, layer_dump, lines_of, maybe_line}
+use Rattle.layers.specs.Dumps.{ids_of, layer_dump, lines_of, maybe_line}
 use Rattle.layers.specs.declared.machine.TheConstants.{KEPT_LAYERS}
 use Rattle.layers.proofs.Sorted.{both, sorted_keys, distinct_keys}
 

@@ -1,3 +1,4 @@
 pub mod Alone
 pub mod Sorted
 pub mod Dumped
+pub mod Elsewhere

@@ -1,6 +1,7 @@
 ghost use Rattle.std.specs.Prelude.{◌≡◌, ◌++◌, map, OnOk};
 ghost use Rattle.std.specs.FinMap.{keys};
-ghost use Rattle.layers.specs.Dumps.{ids_of, lines_of};
+ghost use Rattle.name_shard.specs.DirDumps.{dir_dump};
+ghost use Rattle.layers.specs.Dumps.{file_dump, ids_of, lines_of};
 ghost use Rattle.layers.specs.Machines.{alone, lent_as};
 
 use file_shard::FileShard;
@@ -20,10 +21,15 @@ impl LentMachine<'_> {
     pub fn add_ids(&self, layer: Layer, ids: &mut Vec<u64>) -> Result<(), NoMemory>
         ensures { OnOk result (ids.new.items ≡ ids.old.items ++ ids_of layer (alone (lent_as self.now))) }
     {
-        match (self, layer) {
-            (LentMachine::Name(shard), Layer::Names) => add_dirs(shard, ids),
-            (LentMachine::File(shard), Layer::Files) => add_files(shard, ids),
-            _ => Ok(()),
+        match self {
+            LentMachine::Name(shard) => match layer {
+                Layer::Names => add_dirs(shard, ids),
+                _ => Ok(()),
+            },
+            LentMachine::File(shard) => match layer {
+                Layer::Files => add_files(shard, ids),
+                _ => Ok(()),
+            },
         }
     }
 
@@ -36,19 +42,16 @@ impl LentMachine<'_> {
     ) -> Result<(), NoMemory>
         ensures { OnOk result (lines.new.items ≡ lines.old.items ++ lines_of layer (alone (lent_as self.now)) id) }
     {
-        match (self, layer) {
-            (LentMachine::Name(shard), Layer::Names) => {
-                let mut own = shard.dump_one(DirId(id))?;
-                lines.append(&mut own)?;
-            }
-            (LentMachine::File(shard), Layer::Files) => {
-                if let Some(line) = shard.dump_one(FileId(id))? {
-                    lines.push(line)?;
-                }
-            }
-            _ => {}
+        match self {
+            LentMachine::Name(shard) => match layer {
+                Layer::Names => add_dir_lines(shard, DirId(id), lines),
+                _ => Ok(()),
+            },
+            LentMachine::File(shard) => match layer {
+                Layer::Files => add_file_line(shard, FileId(id), lines),
+                _ => Ok(()),
+            },
         }
-        Ok(())
     }
 }
 
@@ -70,4 +73,21 @@ fn add_files(shard: &FileShard, ids: &mut Vec<u64>) -> Result<(), NoMemory>
         ids.push(file.0)?;
     }
     Ok(())
+}
+
+fn add_dir_lines(shard: &NameShard, dir: DirId, lines: &mut Vec<DumpLine>) -> Result<(), NoMemory>
+    ensures { OnOk result (lines.new.items ≡ lines.old.items ++ dir_dump shard.now dir) }
+{
+    let mut own = shard.dump_one(dir)?;
+    lines.append(&mut own)?;
+    Ok(())
+}
+
+fn add_file_line(shard: &FileShard, file: FileId, lines: &mut Vec<DumpLine>) -> Result<(), NoMemory>
+    ensures { OnOk result (lines.new.items ≡ lines.old.items ++ file_dump shard.now file) }
+{
+    match shard.dump_one(file)? {
+        None => Ok(()),
+        Some(line) => Ok(lines.push(line)?),
+    }
 }
