@@ -1,4 +1,5 @@
 pub mod Counts
+pub mod Gathering
 pub mod Memory
 pub mod Prefixes
 pub mod Reading

@@ -9,7 +9,7 @@
 //! |---|---|
 //! | [`BytesSource`], [`BytesSink`] | memory, with a list of the calls that fail |
 //! | [`SureSource`], [`SureSink`] | memory, and no call fails |
-//! | [`StdSource`], [`StdSink`] | a reader and a writer of std, with their failures counted |
+//! | [`StdSource`], [`StdSink`] | a reader and a writer of std, with their failures counted; the sink gathers its pieces |
 //!
 //! A [`Gate`] is told of each commit of a race: [`OpenGate`] does nothing, and at [`MeetGate`] two workers are made to meet.
 //!
