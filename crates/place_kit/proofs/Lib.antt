@@ -2,3 +2,5 @@ pub mod Pushes
 pub mod Keeping
 pub mod Openings
 pub mod Committing
+pub mod AllKinds
+pub mod Answered

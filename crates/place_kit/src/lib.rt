@@ -2,6 +2,7 @@
 #![tactic(auto)]
 
 mod any;
+mod any_prepared;
 mod files;
 mod kept;
 mod machine;
@@ -10,6 +11,7 @@ mod opening;
 mod prepared;
 
 pub use any::AnyKept;
+pub use any_prepared::AnyPrepared;
 pub use kept::Kept;
 pub use machine::Machine;
 pub use prepared::Prepared;
