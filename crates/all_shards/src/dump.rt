@@ -1,15 +1,15 @@
-ghost use Rattle.std.specs.Prelude.{◌≡◌, IfOk, map, option_map};
-ghost use Rattle.std.specs.FinMap.{get, keys};
-ghost use Rattle.store_rules.specs.Dumps.{file_line, names_dump, files_dump, store_dump};
-ghost use Rattle.name_shard.specs.DirDumps.{dir_dump};
-ghost use Rattle.all_shards.specs.Whole.{AreShards, together};
+ghost use Rattle.std.specs.Prelude.{◌≡◌, ◌++◌, IfOk, OnOk, map, true};
+ghost use Rattle.tect_ids.specs.Places.{is_kept};
+ghost use Rattle.store_rules.specs.Dumps.{store_dump};
+ghost use Rattle.store_shards.specs.Rows.{together, AreShards};
+ghost use Rattle.layers.specs.Dumps.{ids_of, layer_dump, lines_of};
+ghost use Rattle.layers.specs.Machines.{alone, lent_as};
 
 use crate::shards::Shards;
-use file_shard::FileShard;
-use name_shard::NameShard;
+use layers::{AnyMachine, KEPT_LAYERS, LentMachine};
 use std::alloc::Global;
 use std::marker::Model;
-use tect_ids::{Counts, DirId, DumpLine, FileId, Layer, NoMemory, place_of};
+use tect_ids::{Counts, DumpLine, Layer, NoMemory, place_of};
 
 /// All shards of a store, lent by whoever keeps them, in the order of their places. Contracts see the whole store that they
 /// are together.
@@ -17,21 +17,22 @@ use tect_ids::{Counts, DirId, DumpLine, FileId, Layer, NoMemory, place_of};
 pub struct LentShards<'a> {
     alloc: Global,
     counts: Counts,
-    names: Vec<&'a NameShard>,
-    files: Vec<&'a FileShard>,
+    machines: Vec<LentMachine<'a>>,
 }
 
 impl<'a> Model for LentShards<'a> {
     ghost use Rattle.std.specs.Prelude.{map};
-    ghost use Rattle.all_shards.specs.Whole.{WholeStore, whole_code, together, AreShards};
+    ghost use Rattle.store_shards.specs.Rows.{together, AreShards};
+    ghost use Rattle.layers.specs.Machines.{alone, lent_as};
+    ghost use Rattle.all_shards.specs.Whole.{WholeStore, whole_code};
 
     ghost Value = { WholeStore };
 
     ghost coded = { whole_code };
 
-    ghost view = { λ s. record { counts = s.counts; store = together (map (λ r. r.now) s.names.items) (map (λ r. r.now) s.files.items) } };
+    ghost view = { λ s. record { counts = s.counts; store = together (map (λ m. alone (lent_as m)) s.machines.items) } };
 
-    ghost invariant = { λ s. AreShards s.counts (map (λ r. r.now) s.names.items) (map (λ r. r.now) s.files.items) };
+    ghost invariant = { λ s. AreShards s.counts (map (λ m. alone (lent_as m)) s.machines.items) };
 }
 
 impl Shards {
@@ -40,29 +41,32 @@ impl Shards {
     pub fn dump(&self) -> Result<Vec<DumpLine>, NoMemory>
         ensures { IfOk result (λ lines. lines.items ≡ store_dump self.now.store) }
     {
-        let names = self.names.iter().collect(self.alloc)?;
-        let files = self.files.iter().collect(self.alloc)?;
-        LentShards::new(self.alloc, self.counts, names, files).dump()
+        let machines = lend(self.alloc, self.machines.as_slice())?;
+        LentShards::new(self.alloc, self.counts, machines).dump()
     }
+}
+
+// The machines, lent, in the same order.
+fn lend(alloc: Global, machines: &[AnyMachine]) -> Result<Vec<LentMachine<'_>>, NoMemory>
+    ensures { IfOk result (λ lent. map (λ m. alone (lent_as m)) lent.items ≡ map alone machines.now) }
+{
+    let mut lent = Vec::new(alloc);
+    for machine in machines {
+        lent.push(machine.lend())?;
+    }
+    Ok(lent)
 }
 
 impl<'a> LentShards<'a> {
     /// The shards at all places of a store, where each row is in the shard of its place. It takes no memory.
-    pub fn new(
-        alloc: Global,
-        counts: Counts,
-        names: Vec<&'a NameShard>,
-        files: Vec<&'a FileShard>,
-    ) -> LentShards<'a>
-        requires { AreShards counts (map (λ r. r.now) names.items) (map (λ r. r.now) files.items) }
-        ensures { result ≡ record
-            { counts = counts; store = together (map (λ r. r.now) names.entry.items) (map (λ r. r.now) files.entry.items) } }
+    pub fn new(alloc: Global, counts: Counts, machines: Vec<LentMachine<'a>>) -> LentShards<'a>
+        requires { AreShards counts (map (λ m. alone (lent_as m)) machines.items) }
+        ensures { result ≡ record { counts = counts; store = together (map (λ m. alone (lent_as m)) machines.entry.items) } }
     {
         LentShards {
             alloc,
             counts,
-            names,
-            files,
+            machines,
         }
     }
 
@@ -71,78 +75,45 @@ impl<'a> LentShards<'a> {
     pub fn dump(&self) -> Result<Vec<DumpLine>, NoMemory>
         ensures { IfOk result (λ lines. lines.items ≡ store_dump self.now.store) }
     {
-        let mut lines = self.dump_names()?;
-        let mut files = self.dump_files()?;
-        lines.append(&mut files)?;
-        Ok(lines)
-    }
-
-    // The directories of all shards, in the order of their identifiers.
-    fn dirs(&self) -> Result<Vec<DirId>, NoMemory>
-        ensures { IfOk result (λ dirs. dirs.items ≡ keys self.now.store.names.dirs) }
-    {
-        let mut dirs = Vec::new(self.alloc);
-        for shard in &self.names {
-            let mut own = shard.dirs()?;
-            dirs.append(&mut own)?;
-        }
-        dirs.sort_unstable();
-        Ok(dirs)
-    }
-
-    // The lines of one directory, as the shard of its place has it.
-    fn dump_dir(&self, dir: DirId) -> Result<Vec<DumpLine>, NoMemory>
-        ensures { IfOk result (λ lines. lines.items ≡ dir_dump self.now.store.names dir) }
-    {
-        let place = place_of(Layer::Names, dir.0, &self.counts);
-        let shard = &self.names[place.0 as usize];
-        shard.dump_one(dir)
-    }
-
-    fn dump_names(&self) -> Result<Vec<DumpLine>, NoMemory>
-        ensures { IfOk result (λ lines. lines.items ≡ names_dump self.now.store.names) }
-    {
-        let dirs = self.dirs()?;
         let mut lines = Vec::new(self.alloc);
-        for dir in &dirs {
-            let mut own = self.dump_dir(*dir)?;
-            lines.append(&mut own)?;
+        for layer in &KEPT_LAYERS {
+            self.dump_layer(*layer, &mut lines)?;
         }
         Ok(lines)
     }
 
-    // The files of all shards, in the order of their identifiers.
-    fn files(&self) -> Result<Vec<FileId>, NoMemory>
-        ensures { IfOk result (λ files. files.items ≡ keys self.now.store.files) }
+    // Adds the lines of what the shards of a layer have, by identifier.
+    fn dump_layer(&self, layer: Layer, lines: &mut Vec<DumpLine>) -> Result<(), NoMemory>
+        requires { is_kept layer ≡ true }
+        ensures { OnOk result (lines.new.items ≡ lines.old.items ++ layer_dump self.now.store layer) }
     {
-        let mut files = Vec::new(self.alloc);
-        for shard in &self.files {
-            let mut own = shard.files()?;
-            files.append(&mut own)?;
+        let ids = self.ids(layer)?;
+        for id in &ids {
+            self.dump_one(layer, *id, lines)?;
         }
-        files.sort_unstable();
-        Ok(files)
+        Ok(())
     }
 
-    // The line of one file, as the shard of its place has it.
-    fn dump_file(&self, file: FileId) -> Result<Option<DumpLine>, NoMemory>
-        ensures { IfOk result (λ line. line ≡ option_map (λ row. file_line (file, row)) (get self.now.store.files file)) }
+    // The identifiers of what the shards of a layer have, rising.
+    fn ids(&self, layer: Layer) -> Result<Vec<u64>, NoMemory>
+        requires { is_kept layer ≡ true }
+        ensures { IfOk result (λ ids. ids.items ≡ ids_of layer self.now.store) }
     {
-        let place = place_of(Layer::Files, file.0, &self.counts);
-        let shard = &self.files[(place.0 - self.counts.names) as usize];
-        shard.dump_one(file)
+        let mut ids = Vec::new(self.alloc);
+        for machine in &self.machines {
+            machine.add_ids(layer, &mut ids)?;
+        }
+        ids.sort_unstable();
+        Ok(ids)
     }
 
-    fn dump_files(&self) -> Result<Vec<DumpLine>, NoMemory>
-        ensures { IfOk result (λ lines. lines.items ≡ files_dump self.now.store.files) }
+    // Adds the lines of what has that identifier in a layer, as the shard of its place has it.
+    fn dump_one(&self, layer: Layer, id: u64, lines: &mut Vec<DumpLine>) -> Result<(), NoMemory>
+        requires { is_kept layer ≡ true }
+        ensures { OnOk result (lines.new.items ≡ lines.old.items ++ lines_of layer self.now.store id) }
     {
-        let files = self.files()?;
-        let mut lines = Vec::new(self.alloc);
-        for file in &files {
-            if let Some(line) = self.dump_file(*file)? {
-                lines.push(line)?;
-            }
-        }
-        Ok(lines)
+        let place = place_of(layer, id, &self.counts);
+        let machine = &self.machines[place.0 as usize];
+        machine.add_lines(layer, id, lines)
     }
 }

@@ -2,7 +2,6 @@
 #![tactic(auto)]
 
 mod dump;
-mod opening;
 mod shards;
 
 pub use dump::LentShards;

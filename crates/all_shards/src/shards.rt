@@ -3,49 +3,54 @@ ghost use Rattle.tect_ids.specs.Places.{HasPlaces};
 ghost use Rattle.store_rules.specs.Places.{request_place};
 ghost use Rattle.store_rules.specs.Store.{opening_store, store_reply, store_step};
 
-use crate::opening::{file_shards, name_shards};
-use file_shard::FileShard;
-use name_shard::NameShard;
+use layers::AnyMachine;
 use std::alloc::Global;
 use std::marker::Model;
 use store_rules::{AnyReply, AnyReq};
 use tect_calls::{Asked, place};
-use tect_ids::{Counts, NoMemory, Place};
+use tect_ids::{Counts, Layer, NoMemory, Place, ROOT, kept_count, layer_at, place_of};
 
-/// All shards of the store. Contracts see how many there are of each layer, and the whole store that they are together.
+/// All shards of the store, in the order of their places. Contracts see how many there are of each layer, and the whole store that
+/// they are together.
 #[derive(Drop)]
 pub struct Shards {
     pub(crate) alloc: Global,
     pub(crate) counts: Counts,
-    pub(crate) names: Vec<NameShard>,
-    pub(crate) files: Vec<FileShard>,
+    pub(crate) machines: Vec<AnyMachine>,
 }
 
 impl Model for Shards {
-    ghost use Rattle.all_shards.specs.Whole.{WholeStore, whole_code, together, AreShards};
+    ghost use Rattle.std.specs.Prelude.{map};
+    ghost use Rattle.store_shards.specs.Rows.{together};
+    ghost use Rattle.layers.specs.Machines.{alone};
+    ghost use Rattle.all_shards.specs.Whole.{WholeStore, whole_code, AreAllShards};
 
     ghost Value = { WholeStore };
 
     ghost coded = { whole_code };
 
-    ghost view = { λ s. record { counts = s.counts; store = together s.names.items s.files.items } };
+    ghost view = { λ s. record { counts = s.counts; store = together (map alone s.machines.items) } };
 
-    ghost invariant = { λ s. AreShards s.counts s.names.items s.files.items };
+    ghost invariant = { λ s. AreAllShards s.counts s.machines.items };
 }
 
 impl Shards {
     /// The shards before anything was done: the root alone, in the shard of its place.
+    #[tactic(auto, using(tect_ids::proofs::Layers::is_kept_at))]
     pub fn start(alloc: Global, counts: Counts) -> Result<Shards, NoMemory>
         requires places { HasPlaces counts }
         ensures { IfOk result (λ shards. shards ≡ record { counts = counts; store = opening_store }) }
     {
-        let names = name_shards(alloc, &counts)?;
-        let files = file_shards(alloc, counts.files)?;
+        let root = place_of(Layer::Names, ROOT.0, &counts);
+        let mut machines = Vec::new(alloc);
+        for number in 0..kept_count(&counts) {
+            let layer = layer_at(&counts, Place(number));
+            machines.push(AnyMachine::opening(alloc, layer, number == root.0)?)?;
+        }
         Ok(Shards {
             alloc,
             counts,
-            names,
-            files,
+            machines,
         })
     }
 
@@ -61,16 +66,8 @@ impl Shards {
         ensures { IfOk result (λ reply. reply ≡ store_reply self.now.store req.now) }
     {
         let place = place(req, &self.counts);
-        match req {
-            AnyReq::Name(req) => {
-                let shard = &self.names[place.0 as usize];
-                Ok(AnyReply::Name(shard.reply(req)?))
-            }
-            AnyReq::File(req) => {
-                let shard = &self.files[(place.0 - self.counts.names) as usize];
-                Ok(AnyReply::File(shard.reply(req)?))
-            }
-        }
+        let machine = &self.machines[place.0 as usize];
+        machine.reply(req)
     }
 
     /// Does the request, whose needs were shown, at the shard of its place, as on the whole store, and replies. For want of
@@ -98,15 +95,7 @@ impl Shards {
         ensures err { OnErr result (self.new ≡ self.old) }
     {
         let place = place(req, &self.counts);
-        match req {
-            AnyReq::Name(req) => {
-                let shard = &mut self.names[place.0 as usize];
-                Ok(AnyReply::Name(shard.step(req)?))
-            }
-            AnyReq::File(req) => {
-                let shard = &mut self.files[(place.0 - self.counts.names) as usize];
-                Ok(AnyReply::File(shard.step(req)?))
-            }
-        }
+        let machine = &mut self.machines[place.0 as usize];
+        machine.step(req)
     }
 }
