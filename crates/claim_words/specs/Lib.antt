@@ -1,4 +1,3 @@
-pub mod Ways
 pub mod Sound
 pub mod Granted
 pub mod TreeSteps

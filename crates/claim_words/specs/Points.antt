@@ -1,29 +1,54 @@
--- The point of a command: the step of the small machine at which its answer is decided.
-use Rattle.std.specs.Prelude.{◌≡◌, ℕ, if◌then◌else◌, List, [], ◌∷◌, ◌++◌, ◌⊎◌}
+-- The paths of commands on names, and the point of a command: the step of the small machine at which its answer is decided.
+use Rattle.std.specs.Prelude.{◌≡◌, ℕ, if◌then◌else◌, List, [], ◌∷◌, ◌++◌, ◌⊎◌, max, length}
 use Rattle.tect_ids.specs.declared.ids.DirId.{DirId}
 use Rattle.tect_ids.specs.declared.ids.Node.{Node}
 use Rattle.tect_ids.specs.declared.ids.Node.TheVariants.{Dir, File}
 use Rattle.tect_ids.specs.declared.ids.OpId.{OpId}
 use Rattle.tect_ids.specs.declared.key.Key.{Key}
-use Rattle.tect_ids.specs.declared.values.Over.TheVariants as over
 use Rattle.tect_ids.specs.declared.values.Want.TheVariants.{AnyFile}
 use Rattle.tect_ids.specs.declared.command.Command.{Command}
-use Rattle.tect_ids.specs.declared.command.Command.TheVariants as commands
 use Rattle.tect_ids.specs.declared.answer.Answer.{Answer}
-use Rattle.tect_ids.specs.declared.answer.Answer.TheVariants as answers
 use Rattle.tect_ids.specs.Keys.{op_eq}
-use Rattle.tect_ids.specs.Paths.{last_name}
+use Rattle.tect_ids.specs.Paths.{last_name, but_last}
 use Rattle.tect_ids.specs.Numbers.{root}
 use Rattle.tect_ids.specs.Refusals.{refusal_answer}
+use Rattle.tect_ids.specs.declared.values.Over.TheVariants as over
+use Rattle.tect_ids.specs.declared.command.Command.TheVariants as commands
+use Rattle.tect_ids.specs.declared.answer.Answer.TheVariants as answers
 use Rattle.store_rules.specs.Names.{key_in}
 use Rattle.tree_model.specs.declared.step.TreeStep.{TreeStep}
-use Rattle.tree_model.specs.declared.step.TreeStep.TheVariants as step
-use Rattle.tree_model.specs.declared.step.StepValue.TheVariants as shown
 use Rattle.tree_model.specs.declared.step.TreeReply.{TreeReply}
 use Rattle.tree_model.specs.declared.step.TreeReply.TheVariants.{Ok, Refused}
 use Rattle.tree_model.specs.Tree.{tree_reply, opening_tree}
-use Rattle.claim_words.specs.Ways.{way}
+use Rattle.tree_model.specs.declared.step.TreeStep.TheVariants as step
+use Rattle.tree_model.specs.declared.step.StepValue.TheVariants as shown
 use Rattle.claim_words.specs.TreeSteps.{Told, tree_after}
+
+-- the names that a command walks; a listing, also the last
+abbrev pub way : Command → List (List ℕ)
+way (commands.Look p) = but_last p
+way (commands.List p) = p
+way (commands.Create p) = but_last p
+way (commands.Mkdir p) = but_last p
+way (commands.Delete p) = but_last p
+way (commands.Rename p to) = but_last p
+way _ = []
+
+-- the path that a command walks; of a rename the one of the old name
+abbrev pub first_path : Command → List (List ℕ)
+first_path (commands.Look p) = p
+first_path (commands.List p) = p
+first_path (commands.Create p) = p
+first_path (commands.Mkdir p) = p
+first_path (commands.Delete p) = p
+first_path (commands.Rename p to) = p
+first_path _ = []
+
+-- at most how many names a command looks up: each of its path, and one for a path without names
+abbrev pub most_looks : Command → ℕ
+most_looks c = max (length (first_path c)) 1
+
+-- ---- its point
 
 -- the steps of one op
 abbrev pub of_op : OpId → List Told → List Told

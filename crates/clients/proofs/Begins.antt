@@ -1,5 +1,6 @@
 -- a client begins a command, is refused, ends what was refused, and stops
-use Rattle.std.proofs.Common.{◌≡◌, ◌≢◌, ◌⊎◌, ℕ, ◌+◌, ◌<◌, ◌^◌, inl, inr, Bool, true, false, ◌||◌, Option, Some, None, IsSome, IsNone, List, []}
+use Rattle.std.proofs.Common.{◌≡◌, ◌≢◌, ◌⊎◌, ℕ, ◌+◌, ◌<◌, ◌^◌, inl, inr, Bool, true, false, ◌||◌, Option, Some, None, IsSome, IsNone, List}
+use Rattle.std.proofs.Common.{[]}
 use Rattle.std.proofs.Common.{◌∷◌, ◌++◌, refl, sym, ap, ◌∙◌, subst, arith}
 use Rattle.std.specs.Prelude.{vec_len, vec_capacity}
 use Rattle.std.specs.Option.{ForSome}
@@ -192,7 +193,8 @@ module _ {S : Type 0} (P : Programs S) where
   refused_answer c m es None runs was = absurd (grind (arith, runs))
 
   says_at : (a : ActorState S) (es : List Event) (op : OpId) (at : Standing S) → standing_refused es op at
-      → (let r : Running S = record { op = op; at = at } in let z : ActorState S = record a { state = record a.state { running = Some r } } in
+      → (let r : Running S = record { op = op; at = at } in let z : ActorState S =
+      record a { state = record a.state { running = Some r } } in
       says_now P z ≡ Some no_room)
   says_at a es op (Goes s) was = absurd was
   says_at a es op Left was = absurd was
@@ -255,7 +257,8 @@ module _ {S : Type 0} (P : Programs S) where
         own_op = λ y h. sym (some_op _ y h);
         idle = idle_by a.refused.items a.pass.running told.state.running is.going idle;
         full = full;
-        refused = refused-rest a.refused.items (Own (next_op_of told) (NotBegun c) ∷ []) (next_op_of told) (its_refusal (next_op_of told) c);
+        refused = refused-rest a.refused.items (Own (next_op_of told) (NotBegun c) ∷ []) (next_op_of told)
+            (its_refusal (next_op_of told) c);
         counted = zero_count ∙ sym (quiet P a.counts (events_in (life_of a)) (next_op_of told) is.run (omega arith))
             ∙ sym (count_other (events_in (life_of a)) (Own (next_op_of told) (NotBegun c)) (next_op_of told)
             (no_act (next_op_of told) (next_op_of told) (NotBegun c) refl));
@@ -281,7 +284,8 @@ module _ {S : Type 0} (P : Programs S) where
       let_go_is (inl same) = ap let_go same ∙ says_end P told no_room (says_by told a.refused.items told.state.running runs was.1)
       let_go_is (inr stray) = ap let_go stray ∙ looked_end P told
 
-      module _ (after : b.actor ≡ let_go a.actor) (silent : b.refused.items ≡ a.refused.items ++ Own (op_of told) (Ended no_room) ∷ []) where
+      module _ (after : b.actor ≡ let_go a.actor)
+          (silent : b.refused.items ≡ a.refused.items ++ Own (op_of told) (Ended no_room) ∷ []) where
         ended_is : b.actor ≡ ended_by P told
         ended_is = after ∙ let_go_is (stands_runs P told a.actor is.stands runs)
 

@@ -16,7 +16,8 @@ use Rattle.program_calls.specs.Keeping.{KeepsSerial}
 use Rattle.world_runs.specs.Actors.{Actor, Running, asked_in, answer_in, is_said, standing_does, running_does, program_ask, program_answer}
 use Rattle.world_runs.specs.Actors.{memory_after, memory_at_end, standing_heard, went_on, ended}
 use Rattle.clients.specs.ActorState.{ActorState, op_of}
-use Rattle.clients.specs.ActorCalls.{standing_looked, actor_looked, looked, standing_now, running_now, asks_now, says_now, standing_plain, IsPlainOf}
+use Rattle.clients.specs.ActorCalls.{standing_looked, actor_looked, looked, standing_now, running_now, asks_now, says_now, standing_plain}
+use Rattle.clients.specs.ActorCalls.{IsPlainOf}
 use Rattle.clients.specs.ActorCalls.{standing_on, memory_on, actor_on, gone_on, let_go}
 use Rattle.clients.specs.PassSteps.{ended_by}
 
@@ -100,17 +101,14 @@ module _ {S : Type 0} (P : Programs S) where
         running = Some record { op = r.op; at = heard_at m r.op r.at q x h i };
       }
 
-      end_of : (r : Option (Running S)) → (let e : Actor S = record (actor_looked P c (with r) r) { running = None } in e ≡ ended P c (with r) r)
+      end_of : (r : Option (Running S)) → (let e : Actor S =
+          record (actor_looked P c (with r) r) { running = None } in e ≡ ended P c (with r) r)
       end_of None = refl
       end_of (Some r) = refl
 
       number_of : (r : Option (Running S)) → (actor_looked P c (with r) r).number ≡ n
       number_of None = refl
       number_of (Some r) = refl
-
-      number_on : (r : Option (Running S)) (q : AnyReq) (x : AnyReply) (h : Heard) → (actor_on P c (with r) r q x h).number ≡ n
-      number_on None q x h = refl
-      number_on (Some r) q x h = refl
 
       plain_of : (r : Option (Running S)) (x : Option Answer) → IsPlainOf (actor_looked P c (with r) r).running x → IsPlainOf r x
       plain_of None x plain = plain
@@ -177,10 +175,6 @@ module _ {S : Type 0} (P : Programs S) where
   pub looked_op : (a : ActorState S) → op_of (looked P a) ≡ op_of a
   looked_op a i = record
       { actor = a.actor; number = number_of a.counts a.state.number a.state.memory a.state.stopped a.state.running i }
-
-  pub gone_op : (a : ActorState S) (q : AnyReq) (x : AnyReply) (h : Heard) → op_of (gone_on P a q x h) ≡ op_of a
-  gone_op a q x h i = record
-      { actor = a.actor; number = number_on a.counts a.state.number a.state.memory a.state.stopped a.state.running q x h i }
 
   -- where it has its answer, its end is all that is left
   pub says_end : (a : ActorState S) (y : Answer) → says_now P a ≡ Some y → let_go a ≡ ended_by P a

@@ -33,12 +33,13 @@ use Rattle.clients.specs.Lives.{ClientLife, events_in, state_in, op_in, IsLife, 
 use Rattle.clients.specs.Refused.{IsGoing}
 use Rattle.clients.specs.ClientInside.{life_of, told_actor, StandsAs, IsClient}
 use Rattle.clients.specs.Steps.{Tried, Unasked, Did, Denied, OwnStep, WentAstray}
-use Rattle.clients.specs.PassSteps.{Finishes, StepEnds, TookStep, LostStep, after_try}
+use Rattle.clients.specs.PassSteps.{Finishes, StepEnds, TookStep, after_try}
 use Rattle.clients.proofs.Prompts.{prompt_push, prompt_step}
 use Rattle.clients.proofs.Stages.{own_events, Stage, ended_none, runs_op}
 use Rattle.clients.proofs.OwnSteps.{life_at, step_stage, own_step}
-use Rattle.clients.proofs.Stands.{stands_runs, stands_idle, stands_stop, stands_some, stands_op, stands_counts, stands_stopped, stands_serial}
-use Rattle.clients.proofs.Stands.{seen_step, seen_lost}
+use Rattle.clients.proofs.Stands.{stands_runs, stands_idle, stands_stop, stands_some, stands_op, stands_counts, stands_stopped}
+use Rattle.clients.proofs.Stands.{stands_serial}
+use Rattle.clients.proofs.Stands.{seen_step}
 use Rattle.clients.proofs.Lives.{is_life, life_noted, events_noted, goes_noted, stage_of, client_of, serial_few}
 use Rattle.clients.proofs.Begins.{none_of, refuses, is_full, all_noted, begun_stage, begun_events, stopped_stage, stopped_events}
 
@@ -125,29 +126,6 @@ module _ {S : Type 0} (P : Programs S) where
     pub actor_idle : IsNone (state_in P l).running → (state_in P l).stopped ≡ false → a.actor ≡ told_actor P a
     actor_idle idle goes = stands_idle P (told_actor P a) a.actor is.stands (idle_here idle) (goes_here goes)
 
-    pub actor_op : op_of a.actor ≡ op_in P l
-    actor_op = stands_op P (told_actor P a) a.actor is.stands ∙ ap (op_in P) view
-
-    pub actor_some : is_some a.actor.state.running ≡ is_some (state_in P l).running
-    actor_some = stands_some P (told_actor P a) a.actor is.stands ∙ sym (ap (λ (s : Actor S). is_some s.running) seen)
-
-    pub actor_stopped : a.actor.state.stopped ≡ (state_in P l).stopped
-    actor_stopped = stands_stopped P (told_actor P a) a.actor is.stands ∙ sym (ap (λ (s : Actor S). s.stopped) seen)
-
-    pub actor_number : a.actor.state.number ≡ (state_in P l).number
-    actor_number = ap (λ (o : OpId). o.number) actor_op
-
-    pub actor_counts : a.actor.counts ≡ a.counts
-    actor_counts = stands_counts P (told_actor P a) a.actor is.stands
-
-    pub actor_runs : IsSome (state_in P l).running → IsSome a.actor.state.running
-    actor_runs runs = actor_some ∙ runs
-
-    pub pass_runs : l.silent ≡ [] → IsSome (state_in P l).running → a.pass.running ≡ Some (op_of a.actor)
-    pass_runs noted runs =
-        runs_op P (told_actor P a) a.pass a.transactions (stage_of P a (silent_here noted) is) (runs_here runs)
-        ∙ ap Some (sym (stands_op P (told_actor P a) a.actor is.stands))
-
     pub actor_few : KeepsSerial P → l.silent ≡ [] → IsSome (state_in P l).running → a.actor.state.memory.serial + 1 < 2 ^ 32
     actor_few keeps noted runs =
         omega (
@@ -208,8 +186,13 @@ module _ {S : Type 0} (P : Programs S) where
           (goes_noted P a noted_before is) step seen_took
 
       life_after : life_at b.actor b.pass ≡ life_of b
-      life_after i = record
-          { counts = after_counts i; actor = b.actor.actor; clock = b.pass.clock; moments = b.pass.moments.items; silent = sym noted_after i }
+      life_after i = record {
+        counts = after_counts i;
+        actor = b.actor.actor;
+        clock = b.pass.clock;
+        moments = b.pass.moments.items;
+        silent = sym noted_after i;
+      }
 
       from_here : OwnStep P done w v (life_of a) (life_of b) (turned_by step.answer)
       from_here =
@@ -231,59 +214,6 @@ module _ {S : Type 0} (P : Programs S) where
           client_of P b noted_after b.actor refl after_counts (rw count stage) (rw counts is.places) (rw after_actor is.is_actor) (inl refl)
           (finished_goes (after_try P told seen_took.tried) b.actor seen_took.middle b.pass seen_took.tried step.answer seen_took.ends
           seen_took.finishes) prompt_after
-
-    -- where it went astray
-    module _ (e : Refused) (lost : LostStep P done w v a.actor b.actor a.pass b.pass e) where
-      lost_seen : LostStep P done w v told b.actor a.pass b.pass e
-      lost_seen = seen_lost P done w v told b.actor a.pass b.pass (record { transactions = 0; answer = None }) a.actor e stands lost
-
-      lost_same : IsClient P (record a { actor = left_behind (looked P told) })
-      lost_same = record {
-        places = is.places;
-        is_actor = is.is_actor;
-        same = is.same;
-        stands = inr (inl refl);
-        run = is.run;
-        prompt = is.prompt;
-        limits = is.limits;
-        own = is.own;
-        placed = is.placed;
-        silent = is.silent;
-        own_op = is.own_op;
-        going = is.going;
-        full = is.full;
-        counted = is.counted;
-        room = is.room;
-      }
-
-      lost_is : b.transactions ≡ a.transactions → (let c : Inside S = record a { actor = left_behind (looked P told) } in c ≡ b)
-      lost_is count i = record {
-        counts = sym counts i;
-        actor = sym lost_seen.actor i;
-        pass = sym lost_seen.pass i;
-        refused = sym refused i;
-        transactions = sym count i;
-      }
-
-      pub lost_client : b.transactions ≡ a.transactions → IsClient P b
-      lost_client count = subst (IsClient P) (lost_is count) lost_same
-
-      lost_life : life_of b ≡ l
-      lost_life = (λ i. record {
-        counts = counts i;
-        actor = (lost_seen.actor i).actor;
-        clock = (lost_seen.pass i).clock;
-        moments = (lost_seen.pass i).moments.items;
-        silent = (refused i).items;
-      }) ∙ view
-
-      pub lost_step : WentAstray P done w v l (life_of b) e
-      lost_step = subst (λ (x : ClientLife). WentAstray P done w v x (life_of b) e) view (record {
-        req = lost_seen.req;
-        asks = lost_seen.asks;
-        there = lost_seen.there;
-        life = lost_life ∙ sym view;
-      })
 
   -- ---- passes that differ in room alone
 

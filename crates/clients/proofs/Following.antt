@@ -20,8 +20,8 @@ use Rattle.world_runs.specs.Actors.{Actor, Running, idle_actor, went_on, ended}
 use Rattle.world_runs.specs.Events.{end_event}
 use Rattle.world_runs.specs.OwnRuns.{own_state, own_next}
 use Rattle.world_runs.proofs.Actors.{own_state-append}
-use Rattle.clients.specs.declared.turned.Turned.{Turned}
-use Rattle.clients.specs.declared.turned.Turned.TheVariants.{Going}
+use Rattle.program_calls.specs.declared.turned.Turned.{Turned}
+use Rattle.program_calls.specs.declared.turned.Turned.TheVariants.{Going}
 use Rattle.clients.specs.Turns.{turned_by}
 use Rattle.passes.specs.declared.commits.Astray.{Astray}
 use Rattle.clients.specs.Lives.{ClientLife, events_in, state_in, op_in, Begins, left_in, IsLife}
@@ -65,7 +65,8 @@ module _ {S : Type 0} (P : Programs S) (counts : Counts) where
   ended_same s None = refl
   ended_same s (Some r) = refl
 
-  went_same : (s : Actor S) (o : Option (Running S)) (q : AnyReq) (x : AnyReply) (h : Heard) → (went_on P counts s o q x h).number ≡ s.number
+  went_same : (s : Actor S) (o : Option (Running S)) (q : AnyReq) (x : AnyReply) (h : Heard)
+      → (went_on P counts s o q x h).number ≡ s.number
   went_same s None q x h = refl
   went_same s (Some r) q x h = refl
 
@@ -108,7 +109,8 @@ module _ {S W : Type 0} (P : Programs S) (done : W → W → ℕ → AnyReq → 
   pub step_op : op_in P new ≡ op_in P old
   step_op =
       let number : (state_in P new).number ≡ (state_in P old).number =
-      ap (λ (s : Actor S). s.number) step_state ∙ step_number P old.counts (state_in P old) old.silent (op_in P old) step.tried step.answer in
+      ap (λ (s : Actor S). s.number) step_state
+      ∙ step_number P old.counts (state_in P old) old.silent (op_in P old) step.tried step.answer in
       λ i. record { actor = step_actor i; number = number i }
 
 -- the same of what a step answers
@@ -120,11 +122,13 @@ same_op P done w v old new (Ok turned) step = (step_counts P done w v old new tu
 same_op P done w v old new (Err e) astray = (ap (λ (l : ClientLife). l.counts) astray.life, ap (op_in P) astray.life)
 
 -- a begin
-begins_same : {S : Type 0} (P : Programs S) (old new : ClientLife) (c : Command) → Begins P old new c → (new.counts ≡ old.counts) × (new.actor ≡ old.actor)
+begins_same : {S : Type 0} (P : Programs S) (old new : ClientLife) (c : Command) → Begins P old new c
+    → (new.counts ≡ old.counts) × (new.actor ≡ old.actor)
 begins_same P old new c (inl (room, is)) = (ap (λ (l : ClientLife). l.counts) is, ap (λ (l : ClientLife). l.actor) is)
 begins_same P old new c (inr (full, is)) = (ap (λ (l : ClientLife). l.counts) is, ap (λ (l : ClientLife). l.actor) is)
 
-pub begin_same : {S T E : Type 0} (P : Programs S) (old new : ClientLife) (c : Command) (r : Result T E) → OnOk r (Begins P old new c) → OnErr r (new ≡ old)
+pub begin_same : {S T E : Type 0} (P : Programs S) (old new : ClientLife) (c : Command) (r : Result T E) → OnOk r (Begins P old new c)
+    → OnErr r (new ≡ old)
     → (new.counts ≡ old.counts) × (new.actor ≡ old.actor)
 begin_same P old new c (Ok x) ok err = begins_same P old new c ok
 begin_same P old new c (Err e) ok err = (ap (λ (l : ClientLife). l.counts) err, ap (λ (l : ClientLife). l.actor) err)
@@ -135,18 +139,21 @@ not_done : (answer : Option Answer) → Going ≡ turned_by answer → answer �
 not_done None is = refl
 not_done (Some a) is = absurd cc
 
-did_adds : {S : Type 0} (P : Programs S) (l : ClientLife) (st : Actor S) (stamp : ℕ) (op : OpId) (tried : Tried) → EndsSo P l.counts st tried None
+did_adds : {S : Type 0} (P : Programs S) (l : ClientLife) (st : Actor S) (stamp : ℕ) (op : OpId) (tried : Tried)
+    → EndsSo P l.counts st tried None
     → length (ended_life (tried_life P l stamp tried) op None).moments ≡ length l.moments + 1
 did_adds P l st stamp op (Did q x h) ends = length-append l.moments (Act (entry_in P l stamp q x) h ∷ [])
 did_adds P l st stamp op Unasked ends = absurd ends
 did_adds P l st stamp op (Denied q e) ends = absurd ends
 
 -- its pass has one moment more, and so there is room for fewer
-pub step_nearer : {S W : Type 0} (P : Programs S) (done : W → W → ℕ → AnyReq → Result Entry Refused → Type 0) (w v : W) (old new : ClientLife) → IsLife P new
+pub step_nearer : {S W : Type 0} (P : Programs S) (done : W → W → ℕ → AnyReq → Result Entry Refused → Type 0) (w v : W)
+    (old new : ClientLife) → IsLife P new
     → OwnStep P done w v old new Going → left_in new < left_in old
 step_nearer P done w v old new is step =
     let none : step.answer ≡ None = not_done step.answer step.told in
-    let adds = did_adds P old (state_after P old.counts (state_in P old) step.tried) step.stamp (op_in P old) step.tried (rw none at step.ends) in
+    let adds = did_adds P old (state_after P old.counts (state_in P old) step.tried) step.stamp (op_in P old) step.tried
+    (rw none at step.ends) in
     let life : new ≡ ended_life (tried_life P old step.stamp step.tried) (op_in P old) None = step.life ∙ ap
     (ended_life (tried_life P old step.stamp step.tried) (op_in P old)) none in
     omega (arith, is.few, adds, ap (λ (l : ClientLife). length l.moments) life)

@@ -121,8 +121,3 @@ module _ {S : Type 0} (P : Programs S) where
         let serial : (state_in P (life_of a)).memory.serial ≡ (own_state P a.counts idle_actor (own_events a.pass)).memory.serial
         = ap (λ (s : Actor S). s.memory.serial) stage.state in
         omega (arith, few, serial, a.pass.known.few, length_of a.pass)
-
-    pub count_few : IsClient P a → a.transactions + 1 < 2 ^ 64
-    count_few is =
-        let stage = stage_of is in
-        omega (arith, transactions-few (own_events a.pass) (op_of (told_actor P a)), stage.counted, a.pass.known.few, length_of a.pass)

@@ -211,7 +211,8 @@ module _ {S W : Type 0} (P : Programs S) (done : W → W → ℕ → AnyReq → 
 
   step_life : life_at b r ≡ ended_life (tried_life P (life_at a p) took.middle.clock took.tried) (op_in P (life_at a p)) step.answer
   step_life =
-      finished_life P (after_try P a took.tried) took.middle (t + act_count took.tried) middle_stage middle_runs b r step.answer took.finishes
+      finished_life P (after_try P a took.tried) took.middle (t + act_count took.tried) middle_stage middle_runs b r step.answer
+      took.finishes
       ∙ ap (λ (l : ClientLife). ended_life l (op_of (after_try P a took.tried)) step.answer)
       (tried_life_is P a p t stage runs took.middle took.tried took.tries)
       ∙ ap (λ (o : OpId). ended_life (tried_life P (life_at a p) took.middle.clock took.tried) o step.answer)

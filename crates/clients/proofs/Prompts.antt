@@ -21,7 +21,7 @@ use Rattle.world_runs.specs.Follows.{IsEndOf}
 use Rattle.world_runs.specs.OwnRuns.{own_next, own_state}
 use Rattle.world_runs.specs.Smooth.{EndIsNext, OwnEndsAtOnce, IsPromptFrom}
 use Rattle.world_runs.proofs.Prompt.{ends_at_once-append}
-use Rattle.clients.specs.declared.turned.Turned.{Turned}
+use Rattle.program_calls.specs.declared.turned.Turned.{Turned}
 use Rattle.clients.specs.Lives.{ClientLife, events_in, state_in, op_in}
 use Rattle.clients.specs.Steps.{Tried, Unasked, Did, Denied, EndsSo, state_after, tried_events, end_events, OwnStep}
 use Rattle.clients.proofs.Growing.{program_own, went_own}
@@ -64,7 +64,8 @@ module _ {S : Type 0} (P : Programs S) (c : Counts) where
         (act_prompt silent q x h answer ends, prompt_ends (own_next P c s (Own op (Acted q x h))) silent op answer)
     prompt_events silent (Denied q e) answer ends = prompt_ends s silent op answer
 
-pub prompt_step : {S W : Type 0} (P : Programs S) (done : W → W → ℕ → AnyReq → Result Entry Refused → Type 0) (w v : W) (old new : ClientLife)
+pub prompt_step : {S W : Type 0} (P : Programs S) (done : W → W → ℕ → AnyReq → Result Entry Refused → Type 0) (w v : W)
+    (old new : ClientLife)
     (turned : Turned) → OwnStep P done w v old new turned → ForSome (state_in P old).running (λ r. r.op ≡ op_in P old)
     → OwnEndsAtOnce P old.counts idle_actor (events_in old) → OwnEndsAtOnce P old.counts idle_actor (events_in new)
 prompt_step P done w v old new turned step its prompt =
@@ -75,4 +76,5 @@ prompt_step P done w v old new turned step its prompt =
 -- an event that is no transaction changes nothing of that
 pub prompt_push : {S : Type 0} (P : Programs S) (c : Counts) (es : List Event) (e : Event)
     → ((s : Actor S) → IsPromptFrom P c s e []) → OwnEndsAtOnce P c idle_actor es → OwnEndsAtOnce P c idle_actor (es ++ e ∷ [])
-prompt_push P c es e quiet prompt = ends_at_once-append P c idle_actor es (e ∷ []) prompt (quiet (own_next P c (own_state P c idle_actor es) e), tt)
+prompt_push P c es e quiet prompt = ends_at_once-append P c idle_actor es (e ∷ []) prompt
+    (quiet (own_next P c (own_state P c idle_actor es) e), tt)

@@ -11,7 +11,7 @@ use Rattle.world_runs.specs.declared.event.Event.{Event}
 use Rattle.world_runs.specs.declared.event.Event.TheVariants.{Own}
 use Rattle.world_runs.specs.declared.event.Happening.TheVariants.{Ended, Stopped}
 use Rattle.world_runs.specs.Events.{events_of}
-use Rattle.clients.specs.declared.turned.Turned.TheVariants as turns
+use Rattle.program_calls.specs.declared.turned.Turned.TheVariants as turns
 use Rattle.clients.specs.Lives.{ClientLife, events_in, state_in, op_in, IsLife, stopped_with}
 use Rattle.clients.specs.Steps.{Unasked, OwnStep, ended_with, end_events}
 use Rattle.clients.proofs.Begins.{refused_by, refused_answer}
@@ -27,11 +27,6 @@ module _ {S : Type 0} (P : Programs S) (old : ClientLife) (some : old.silent ≢
   end_is : (es : List Event) → es ≢ [] → Own (op_in P old) (Ended no_room) ∷ [] ≡ end_events es (op_in P old) (Some no_room)
   end_is [] other = absurd (other refl)
   end_is (e ∷ es) other = refl
-
-  pub stops_with : (es : List Event) → es ≢ []
-      → (let l : ClientLife = record old { silent = old.silent ++ Own (op_in P old) Stopped ∷ [] } in l ≡ stopped_with P old es)
-  stops_with [] other = absurd (other refl)
-  stops_with (e ∷ es) other = refl
 
   module _ {W : Type 0} (done : W → W → ℕ → AnyReq → Result Entry Refused → Type 0) (w : W) (new : ClientLife) (is : IsLife P old)
       (runs : IsSome (state_in P old).running)

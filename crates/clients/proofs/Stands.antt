@@ -1,5 +1,6 @@
 -- an actor stands as its events tell, but for a request that went astray
-use Rattle.std.proofs.Common.{◌≡◌, ◌⊎◌, inl, inr, ℕ, Bool, true, false, Option, Some, None, IsSome, is_some, refl, sym, ap, ◌∙◌, subst, arith}
+use Rattle.std.proofs.Common.{◌≡◌, ◌⊎◌, inl, inr, ℕ, Bool, true, false, Option, Some, None, IsSome, is_some, refl, sym, ap, ◌∙◌, subst}
+use Rattle.std.proofs.Common.{arith}
 use Rattle.std.specs.Prelude.{Result}
 use Rattle.tect_ids.specs.declared.ids.Counts.{Counts}
 use Rattle.tect_ids.specs.declared.ids.OpId.{OpId}
@@ -19,7 +20,7 @@ use Rattle.clients.specs.ActorCalls.{actor_looked, looked, at_left, left_behind}
 use Rattle.clients.specs.declared.steps.Step.{Step}
 use Rattle.clients.specs.ClientInside.{StandsAs}
 use Rattle.clients.specs.Steps.{Tried, Unasked, Did, Denied}
-use Rattle.clients.specs.PassSteps.{Finishes, StepEnds, TookStep, LostStep, ended_by}
+use Rattle.clients.specs.PassSteps.{Finishes, StepEnds, TookStep, ended_by}
 use Rattle.clients.proofs.Calls.{looked_serial}
 
 module _ {S : Type 0} (P : Programs S) where
@@ -139,7 +140,8 @@ module _ {S : Type 0} (P : Programs S) where
               running = None;
             };
           })
-          ∙ ap (λ (m : Memory). let u : ActorState S = record t { state = record t.state { memory = m; stopped = true; running = None } } in u)
+          ∙ ap (λ (m : Memory). let u : ActorState S =
+          record t { state = record t.state { memory = m; stopped = true; running = None } } in u)
           (sym (ap (λ (z : ActorState S). z.state.memory) is)),
     ))
     stands_stop (inr (inr (stopped, none, is))) = inr (inr (
@@ -187,10 +189,3 @@ module _ {S W : Type 0} (P : Programs S) (done : W → W → ℕ → AnyReq → 
   seen_step a (inl is) took = subst (λ (z : ActorState S). TookStep P done w v z b p r step) is took
   seen_step a (inr is) took =
       let stray = subst (λ (z : ActorState S). TookStep P done w v z b p r step) is took in stray_took stray stray.tried refl
-
-  pub seen_lost : (a : ActorState S) (e : Refused) → (a ≡ t) ⊎ (a ≡ left_behind (looked P t)) → LostStep P done w v a b p r e
-      → LostStep P done w v t b p r e
-  seen_lost a e (inl is) lost = subst (λ (z : ActorState S). LostStep P done w v z b p r e) is lost
-  seen_lost a e (inr is) lost =
-      let stray = subst (λ (z : ActorState S). LostStep P done w v z b p r e) is lost in
-      absurd (left_asks P t.counts (looked P t).state.memory (looked P t).state.running stray.req stray.asks)

@@ -1,5 +1,6 @@
 -- the steps that the code takes
-use Rattle.std.proofs.Common.{ℕ, ◌≡◌, ◌+◌, ◌<◌, ◌^◌, ◌⊎◌, inl, inr, false, arith, Option, Some, None, [], ◌∷◌, ◌++◌, refl, sym, ap, ◌∙◌, subst}
+use Rattle.std.proofs.Common.{ℕ, ◌≡◌, ◌+◌, ◌<◌, ◌^◌, ◌⊎◌, inl, inr, false, arith, Option, Some, None, [], ◌∷◌, ◌++◌, refl, sym, ap, ◌∙◌}
+use Rattle.std.proofs.Common.{subst}
 use Rattle.std.specs.Prelude.{Result, Ok, Err}
 use Rattle.tect_ids.specs.declared.ids.Counts.{Counts}
 use Rattle.tect_ids.specs.declared.ids.OpId.{OpId}
@@ -25,7 +26,7 @@ use Rattle.passes.specs.Commits.{IsFull}
 use Rattle.passes.specs.Adding.{entry_at, Committed, NotedEnd}
 use Rattle.passes.proofs.Hearing.{heard_last-act}
 use Rattle.world_runs.specs.Actors.{Actor, Running, has_ended, ended}
-use Rattle.clients.specs.declared.turned.Turned.TheVariants.{Going, Done}
+use Rattle.program_calls.specs.declared.turned.Turned.TheVariants.{Going, Done}
 use Rattle.clients.specs.ActorState.{ActorState, op_of}
 use Rattle.clients.specs.ActorCalls.{looked, asks_now, says_now, actor_on, gone_on, let_go, Advances}
 use Rattle.clients.specs.declared.steps.Step.{Step}
@@ -33,7 +34,8 @@ use Rattle.clients.specs.Steps.{Unasked, Did, Denied, EndsSo}
 use Rattle.clients.specs.PassSteps.{ended_by, Entered, Finishes, Tries, MarkedLeft, Marks, SettlesSo, EndsHere, HearsSo, StepEnds}
 use Rattle.clients.specs.PassSteps.{after_try, TookStep}
 use Rattle.program_calls.specs.Keeping.{KeepsSerial}
-use Rattle.clients.proofs.Calls.{heard_by, looked_serial, looked_asks, looked_says, looked_plain, looked_on, looked_end, looked_op, says_end, says_answers}
+use Rattle.clients.proofs.Calls.{heard_by, looked_serial, looked_asks, looked_says, looked_plain, looked_on, looked_end, looked_op}
+use Rattle.clients.proofs.Calls.{says_end, says_answers}
 
 module _ {S : Type 0} (P : Programs S) where
   -- ---- how the command goes on at the reply

@@ -16,8 +16,8 @@ use Rattle.program_forms.specs.Memories.{Memory, kept_of, learnt, always}
 use Rattle.program_forms.specs.Kinds.{Does, Says, Programs, turned}
 use Rattle.program_calls.specs.Hearing.{IsPlain}
 use Rattle.world_runs.specs.Actors.{Actor, Running, asked_in, answer_in, has_ended, memory_at_end}
-use Rattle.clients.specs.declared.turned.Turned.{Turned}
-use Rattle.clients.specs.declared.turned.Turned.TheVariants.{Going, Done}
+use Rattle.program_calls.specs.declared.turned.Turned.{Turned}
+use Rattle.program_calls.specs.declared.turned.Turned.TheVariants.{Going, Done}
 use Rattle.clients.specs.ActorState.{ActorState}
 
 -- ---- its look-ups

@@ -21,7 +21,7 @@ use Rattle.world_runs.specs.declared.event.Event.TheVariants.{Own}
 use Rattle.world_runs.specs.declared.event.Happening.TheVariants.{Acted, Ended}
 use Rattle.world_runs.specs.Actors.{Actor, program_ask, program_answer, has_ended, went_on}
 use Rattle.world_runs.specs.Events.{end_event}
-use Rattle.clients.specs.declared.turned.Turned.{Turned}
+use Rattle.program_calls.specs.declared.turned.Turned.{Turned}
 use Rattle.clients.specs.Turns.{turned_by}
 use Rattle.clients.specs.Lives.{ClientLife, events_in, state_in, op_in}
 

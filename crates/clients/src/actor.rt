@@ -7,8 +7,7 @@ ghost use Rattle.world_runs.specs.Actors.{idle_actor, begun, not_begun, program_
 ghost use Rattle.clients.specs.ActorState.{op_of, next_op_of};
 ghost use Rattle.clients.specs.ActorCalls.{looked, asks_now, says_now, IsPlainOf, Advances, let_go, left_behind};
 
-use crate::turned::Turned;
-use program_calls::Programs;
+use program_calls::{Programs, Turned};
 use program_forms::Standing;
 use std::alloc::Global;
 use std::marker::Model;

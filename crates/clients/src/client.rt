@@ -14,10 +14,9 @@ ghost use Rattle.clients.specs.Steps.{OwnStep, WentAstray};
 
 use crate::actor::Actor;
 use crate::steps::take_step;
-use crate::turned::Turned;
 use entry_words::Note;
 use passes::{Astray, Commits, Pass};
-use program_calls::Programs;
+use program_calls::{Programs, Turned};
 use std::alloc::Global;
 use std::marker::Model;
 use tect_ids::{Answer, Command, Counts, NoMemory, OpId, Place};

@@ -5,8 +5,6 @@
 mod actor;
 mod client;
 mod steps;
-mod turned;
 
 pub use actor::Actor;
 pub use client::Client;
-pub use turned::Turned;

@@ -10,10 +10,9 @@ ghost use Rattle.clients.specs.ActorCalls.{asks_now, let_go, looked};
 ghost use Rattle.clients.specs.PassSteps.{TookStep, LostStep, HearsSo, SettlesSo};
 
 use crate::actor::Actor;
-use crate::turned::Turned;
 use entry_words::{Note, Refused};
 use passes::{Astray, Commits, Pass};
-use program_calls::Programs;
+use program_calls::{Programs, Turned};
 use program_forms::Heard;
 use store_rules::AnyReply;
 use tect_calls::Asked;

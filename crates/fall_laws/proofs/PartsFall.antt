@@ -140,7 +140,8 @@ module _ {O S : Type 0} (begins : O → DirId → S) (left : S → Many) (most :
       (plus record { looks = 1 + length ns + (most o).looks; others = (most o).others } more)
   walked_takes place k ns o x more None = record { looks = omega arith; others = omega arith }
   walked_takes place k ns o x more (Some (nodes.Dir d)) =
-      let on : AtMost (walk_left most left (walk_on begins d ns o)) record { looks = length ns + (most o).looks; others = (most o).others } =
+      let on
+      : AtMost (walk_left most left (walk_on begins d ns o)) record { looks = length ns + (most o).looks; others = (most o).others } =
       walk_on_left d ns o in
       record { looks = omega (arith, on.looks); others = omega (arith, on.others) }
   walked_takes place k ns o x more (Some (nodes.File f)) = record { looks = omega arith; others = omega arith }
@@ -176,8 +177,3 @@ release_falls = part_falls (λ r. waits_fall releasing release_left r record {
   looks = λ c m op. refl;
   hears = λ c m op x. then_release_left _ r.second r.answer (release_no_look (r.first).node (r.first).hold);
 })
-
--- what is left once holds may be released
-pub then_left : (f : Option Freed) (a : Answer) → AtMost (next_left release_left (then_release f a)) record { looks = 0; others = 2 }
-then_left None a = record { looks = omega arith; others = omega arith }
-then_left (Some f) a = record { looks = omega arith; others = omega arith }

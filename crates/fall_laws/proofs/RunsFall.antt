@@ -21,12 +21,12 @@ use Rattle.world_runs.specs.declared.event.Happening.{Happening}
 use Rattle.world_runs.specs.declared.event.Happening.TheVariants.{Began, NotBegun, Acted, Ended, Stopped, Failed}
 use Rattle.world_runs.specs.Actors.{Actor, Running, OwnMay, own_after, standing_heard, went_on, ended}
 use Rattle.world_runs.specs.Moments.{WorldState, opening, May, after, RunFrom, IsWorldRun}
-use Rattle.world_runs.proofs.Actors.{changed, changed_there, after_counts}
+use Rattle.whole_runs.proofs.Actors.{changed, changed_there, after_counts}
 use Rattle.claim_words.specs.Headline.{begun_by, or_later, command_of}
 use Rattle.fall_laws.specs.Counting.{is_look, is_no_look, takes, taken}
 use Rattle.fall_laws.specs.Bounding.{Bounding, one_if, FallLaws, standing_grows, running_grows, act_grows, event_grows}
 use Rattle.fall_laws.specs.Bounding.{history_grows, RunsAreShort}
-use Rattle.world_runs.proofs.Standings.{runs_at, Asking, asks_of, Saying, says_of, numbers_grow}
+use Rattle.whole_runs.proofs.Standings.{runs_at, Asking, asks_of, Saying, says_of, numbers_grow}
 
 -- one event more
 pub taken_more : (test : AnyReq → Bool) (op : OpId) (e : Event) (es : List Event)

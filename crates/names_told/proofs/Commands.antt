@@ -7,7 +7,7 @@ use Rattle.program_rules.specs.declared.states.NewNode.TheVariants as new
 use Rattle.program_rules.specs.declared.operation.Operation.{Operation}
 use Rattle.program_rules.specs.declared.operation.Operation.TheVariants as operation
 use Rattle.program_rules.specs.Served.{Begun, Walks, LacksName, begun, is_served}
-use Rattle.claim_words.specs.Ways.{way}
+use Rattle.claim_words.specs.Points.{way}
 use Rattle.claim_words.specs.Points as points
 use Rattle.names_told.specs.NamesTelling.{Fits}
 

@@ -7,5 +7,3 @@ pub mod Delete
 pub mod Rename
 pub mod Operations
 pub mod NamesTell
-pub mod OperationsFall
-pub mod NamesFall

@@ -10,9 +10,8 @@ use Rattle.world_runs.specs.declared.event.Event.{Event}
 use Rattle.world_runs.specs.declared.event.Event.TheVariants.{Own}
 use Rattle.world_runs.specs.declared.event.Happening.TheVariants.{Began}
 use Rattle.part_laws.specs.Walks.{walk_deciding}
-use Rattle.claim_words.specs.Ways.{way}
+use Rattle.claim_words.specs.Points.{way, of_op}
 use Rattle.claim_words.specs.TreeSteps.{tree_steps}
-use Rattle.claim_words.specs.Points.{of_op}
 use Rattle.telling_laws.specs.Telling.{TellingLaws}
 use Rattle.telling_laws.specs.Parts.{NextTells, walk_telling}
 use Rattle.telling_laws.proofs.Histories.{steps_more}

@@ -1,2 +1,1 @@
 pub mod NamesTelling
-pub mod NamesBounding

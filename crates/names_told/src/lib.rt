@@ -7,8 +7,7 @@ ghost use Rattle.program_rules.specs.Served.{programs};
 ghost use Rattle.names_laws.specs.Known.{names_deciding};
 ghost use Rattle.telling_laws.specs.Telling.{TellingLaws};
 ghost use Rattle.fall_laws.specs.Bounding.{FallLaws};
-ghost use Rattle.names_told.specs.NamesTelling.{names_telling};
-ghost use Rattle.names_told.specs.NamesBounding.{names_bounding};
+ghost use Rattle.names_told.specs.NamesTelling.{names_telling, names_bounding};
 
 /// Before a command's answer is decided, the history tells how its walk went and what it saw; where the answer is decided, the history
 /// explains it, and it stays so.

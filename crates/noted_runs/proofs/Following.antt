@@ -8,7 +8,7 @@ use Rattle.tect_ids.specs.declared.script.Line.TheVariants as lines
 use Rattle.world_runs.specs.declared.event.Event.{Event}
 use Rattle.world_runs.specs.Follows.{Busy, DoesLine, FollowsFrom, none_busy, with_busy}
 use Rattle.world_runs.specs.Races.{concerns, line_concerns}
-use Rattle.world_runs.specs.ClientLines.{DoesLines}
+use Rattle.whole_runs.specs.ClientLines.{DoesLines}
 use Rattle.noted_runs.specs.Laws.{ClientsFollow}
 use Rattle.world_runs.proofs.Actors.{same_number}
 

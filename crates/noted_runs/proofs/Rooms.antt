@@ -18,7 +18,7 @@ use Rattle.world_runs.specs.declared.event.Happening.TheVariants.{Began, NotBegu
 use Rattle.world_runs.specs.Races.{concerns, is_own}
 use Rattle.world_runs.specs.Events.{end_event, event_of, events_of, own}
 use Rattle.world_runs.specs.Events.{IsOwnNote}
-use Rattle.world_runs.proofs.Refusals.{AreQuiet, IsQuiet}
+use Rattle.whole_runs.proofs.Refusals.{AreQuiet, IsQuiet}
 use Rattle.world_runs.specs.Limits.{event_bytes, event_cost, kept_bytes, used}
 use Rattle.world_runs.proofs.Actors.{one_number}
 

@@ -18,13 +18,14 @@ use Rattle.world_runs.specs.declared.event.Event.TheVariants.{Own, Dumped}
 use Rattle.world_runs.specs.Races.{concerns, is_own, own_lines, lines_from, part_lines, race_report_after}
 use Rattle.world_runs.specs.Events.{end_event, event_of, events_of, own}
 use Rattle.world_runs.specs.Events.{IsOwnNote}
-use Rattle.world_runs.proofs.Refusals.{AreQuiet, IsQuiet}
+use Rattle.whole_runs.proofs.Refusals.{AreQuiet, IsQuiet}
 use Rattle.noted_runs.specs.Laws.{WovenReports}
 use Rattle.world_runs.specs.OwnRuns.{stored_after}
-use Rattle.world_runs.specs.PartReports.{by_client, own_part, part_report, parts_report}
-use Rattle.world_runs.specs.Woven.{Cut, is_early, is_late, woven}
-use Rattle.world_runs.proofs.Actors.{own-append, stored_after-append}
-use Rattle.world_runs.proofs.OwnLines.{own_lines_own}
+use Rattle.whole_runs.specs.PartReports.{by_client, own_part, part_report, parts_report}
+use Rattle.whole_runs.specs.Woven.{Cut, is_early, is_late, woven}
+use Rattle.world_runs.proofs.Actors.{own-append}
+use Rattle.whole_runs.proofs.Actors.{stored_after-append}
+use Rattle.whole_runs.proofs.OwnLines.{own_lines_own}
 use Rattle.noted_runs.proofs.Weaving.{AreSilentCuts, filter_agree_where, keeps, part_concerns, silent_cuts, silent_replies}
 
 -- ---- by client

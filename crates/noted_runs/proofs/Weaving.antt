@@ -19,12 +19,12 @@ use Rattle.world_runs.specs.declared.event.Happening.TheVariants.{Began, NotBegu
 use Rattle.world_runs.specs.Races.{concerns, is_own}
 use Rattle.world_runs.specs.Events.{end_event, event_of, events_of, own}
 use Rattle.world_runs.specs.Events.{IsOwnNote, StampsRise}
-use Rattle.world_runs.specs.Woven.{AreSilent, AreSilentAfter}
+use Rattle.whole_runs.specs.Woven.{AreSilent, AreSilentAfter}
 use Rattle.noted_runs.specs.Laws.{WovenConcerns, WovenReplies}
 use Rattle.world_runs.specs.OwnRuns.{RepliesAre, ReplyIs, stored_after, stored_next}
-use Rattle.world_runs.specs.Woven.{Cut, is_early, is_late, own_cuts, woven}
-use Rattle.world_runs.proofs.Refusals.{AreQuiet, IsQuiet, all_quiet_of_refused}
-use Rattle.world_runs.proofs.Actors.{replies-append, replies-front, replies-rest, stored_after-append}
+use Rattle.whole_runs.specs.Woven.{Cut, is_early, is_late, own_cuts, woven}
+use Rattle.whole_runs.proofs.Refusals.{AreQuiet, IsQuiet, all_quiet_of_refused}
+use Rattle.whole_runs.proofs.Actors.{replies-append, replies-front, replies-rest, stored_after-append}
 
 -- ---- what a list keeps
 

@@ -16,9 +16,9 @@ use Rattle.world_runs.specs.Events.{IsOwnNote, StampsRise, events_of, own}
 use Rattle.world_runs.specs.OwnRuns.{OwnRun, own_state, RepliesAre, stored_after}
 use Rattle.world_runs.specs.Limits.{KeepsLimits, OwnLimits}
 use Rattle.world_runs.specs.Smooth.{EndsAtOnce, OwnEndsAtOnce}
-use Rattle.world_runs.specs.Woven.{AreSilent, Cut, woven, own_cuts}
-use Rattle.world_runs.specs.ClientLines.{DoesLines}
-use Rattle.world_runs.specs.PartReports.{parts_report}
+use Rattle.whole_runs.specs.Woven.{AreSilent, Cut, woven, own_cuts}
+use Rattle.whole_runs.specs.ClientLines.{DoesLines}
+use Rattle.whole_runs.specs.PartReports.{parts_report}
 
 abbrev pub OwnRunsMakeRun : {S : Type 0} → Programs S → Type 0
 OwnRunsMakeRun P =

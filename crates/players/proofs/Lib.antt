@@ -1,9 +1,5 @@
 pub mod Results
-pub mod Growths
 pub mod Transactions
 pub mod Running
-pub mod OneStep
-pub mod Begun
-pub mod ClientLaws
+pub mod Starts
 pub mod Playing
-pub mod Racing

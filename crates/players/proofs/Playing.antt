@@ -18,14 +18,14 @@ use Rattle.world_runs.specs.Follows.{DoesLine, EndsAfter, RunsToEnd, EndsWithin,
 use Rattle.world_runs.specs.OwnRuns.{own_next}
 use Rattle.world_runs.specs.Races.{own_lines}
 use Rattle.world_runs.specs.Report.{answer_line}
-use Rattle.world_runs.specs.Standing.{IsInState}
-use Rattle.world_runs.specs.ClientStates.{state_left_at}
-use Rattle.world_runs.proofs.OwnLines.{own_lines-append}
-use Rattle.clients.specs.declared.turned.Turned.TheVariants.{Going, Done}
+use Rattle.whole_runs.specs.Standing.{IsInState}
+use Rattle.whole_runs.specs.ClientStates.{state_left_at}
+use Rattle.whole_runs.proofs.OwnLines.{own_lines-append}
+use Rattle.program_calls.specs.declared.turned.Turned.TheVariants.{Going, Done}
 use Rattle.players.specs.Players.{op_at, next_at, HasBegun, GoesOn, ComesToEnd, EndsIn, StepsUpTo, StepsOnce, IsPlayer, Played}
 use Rattle.players.proofs.Transactions.{Keeps, Rests, acts-append, acts_keep, acts_then_rests, is_end, acts_show_nothing, acts_then_show}
 use Rattle.players.proofs.Transactions.{stop_shows}
-use Rattle.players.proofs.Begun.{Starts, begin_starts, begin_shows}
+use Rattle.players.proofs.Starts.{Starts, begin_starts, begin_shows}
 
 -- it did so many transactions of its command, which goes on
 pub record HasStepped {S L A : Type 0} (counts : A → Counts) (fits : L → A → Type 0) (actor : L → ℕ) (state : L → A → Actor S)

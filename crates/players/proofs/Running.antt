@@ -1,5 +1,5 @@
--- The op that a client's own run is busy with is that of its last command.
-use Rattle.std.proofs.Common.{◌≡◌, ℕ, Bool, true, false, eqb, if◌then◌else◌, Option, Some, None, IsSome, List, [], ◌∷◌, length, ◌≤◌, refl}
+-- In an actor's own run what runs is its last op.
+use Rattle.std.proofs.Common.{◌≡◌, ℕ, Bool, true, false, eqb, if◌then◌else◌, Option, Some, None, List, [], ◌∷◌, length, ◌≤◌, refl}
 use Rattle.std.proofs.Common.{sym, ap, ◌∙◌, arith}
 use Rattle.std.specs.List.{filter}
 use Rattle.std.specs.Option.{ForSome}
@@ -15,13 +15,11 @@ use Rattle.world_runs.specs.declared.event.Event.{Event}
 use Rattle.world_runs.specs.declared.event.Event.TheVariants.{Own, Dumped}
 use Rattle.world_runs.specs.declared.event.Happening.{Happening}
 use Rattle.world_runs.specs.declared.event.Happening.TheVariants.{Began, NotBegun, Acted, Ended, Stopped, Failed}
-use Rattle.world_runs.specs.Actors.{Actor, Running, idle_actor, running_op, went_on, ended}
+use Rattle.world_runs.specs.Actors.{Actor, Running, went_on, ended}
 use Rattle.world_runs.specs.Races.{is_own}
 use Rattle.world_runs.specs.Events.{own}
 use Rattle.world_runs.specs.OwnRuns.{own_next, own_state}
 use Rattle.world_runs.proofs.Actors.{one_number}
-use Rattle.clients.specs.Lives.{ClientLife, events_in, state_in, op_in, IsLife}
-use Rattle.players.specs.Lives.{busy_in}
 
 -- each event of these is the actor's own
 abbrev pub AllOwn : ℕ → List Event → Type 0
@@ -44,7 +42,7 @@ all_own a [] is = tt
 all_own a (e ∷ es) is = (let k = kept_all (is_own a) e es (is_own a e) refl is in (k.0, all_own a es k.1))
 
 -- what runs is the actor's last op
-abbrev RunsLast : {S : Type 0} → ℕ → Actor S → Type 0
+abbrev pub RunsLast : {S : Type 0} → ℕ → Actor S → Type 0
 RunsLast a s = ForSome s.running (λ r. (r.op.actor ≡ a) × (r.op.number ≡ s.number))
 
 some_running : {S : Type 0} (p r : Running S) → Some p ≡ Some r → p ≡ r
@@ -83,23 +81,7 @@ event_last : {S : Type 0} (P : Programs S) (counts : Counts) (a : ℕ) (s : Acto
 event_last P counts a s (Own op h) mine last = happens_last P counts a s op h mine last
 event_last P counts a s Dumped mine last = last
 
-runs_last : {S : Type 0} (P : Programs S) (counts : Counts) (a : ℕ) (s : Actor S) (es : List Event) → AllOwn a es → RunsLast a s
+pub runs_last : {S : Type 0} (P : Programs S) (counts : Counts) (a : ℕ) (s : Actor S) (es : List Event) → AllOwn a es → RunsLast a s
     → RunsLast a (own_state P counts s es)
 runs_last P counts a s [] mine last = last
 runs_last P counts a s (e ∷ es) mine last = runs_last P counts a (own_next P counts s e) es mine.1 (event_last P counts a s e mine.0 last)
-
--- ---- of a client
-
-busy_by : {S : Type 0} (a n : ℕ) (o : Option (Running S)) → IsSome o → ForSome o (λ r. (r.op.actor ≡ a) × (r.op.number ≡ n))
-    → running_op o ≡ Some (record { actor = a; number = n })
-busy_by a n None is last = absurd cc
-busy_by a n (Some r) is last =
-    let own = last r refl in
-    let same : r.op ≡ record { actor = a; number = n } = λ i. record { actor = own.0 i; number = own.1 i } in
-    ap Some same
-
-pub busy_some : {S : Type 0} (P : Programs S) (life : ClientLife) → IsLife P life → IsSome (state_in P life).running
-    → busy_in P life ≡ Some (op_in P life)
-busy_some P life is runs =
-    busy_by life.actor (state_in P life).number (state_in P life).running runs
-    (runs_last P life.counts life.actor idle_actor (events_in life) (all_own life.actor (events_in life) is.own) (λ p none. absurd cc))

@@ -24,7 +24,7 @@ use Rattle.world_runs.specs.Report.{answer_line, client_name, happening_lines, i
 use Rattle.world_runs.specs.Events.{end_event}
 use Rattle.world_runs.specs.OwnRuns.{own_next, own_state}
 use Rattle.world_runs.proofs.Actors.{same_number, own_state-append}
-use Rattle.world_runs.proofs.OwnLines.{own_lines-append, transactions-append}
+use Rattle.whole_runs.proofs.OwnLines.{own_lines-append, transactions-append}
 use Rattle.players.specs.Players.{EndsAs, EndsWith}
 
 -- ---- transactions one after another

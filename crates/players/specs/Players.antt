@@ -16,10 +16,10 @@ use Rattle.world_runs.specs.Actors.{Actor, running_op}
 use Rattle.world_runs.specs.Follows.{Acts, DoesLine, IsBeginOf, tries}
 use Rattle.world_runs.specs.OwnRuns.{own_state}
 use Rattle.world_runs.specs.Races.{own_lines}
-use Rattle.world_runs.specs.Standing.{IsInState}
-use Rattle.world_runs.specs.ClientStates.{state_left_at}
-use Rattle.clients.specs.declared.turned.Turned.{Turned}
-use Rattle.clients.specs.declared.turned.Turned.TheVariants.{Going, Done}
+use Rattle.whole_runs.specs.Standing.{IsInState}
+use Rattle.whole_runs.specs.ClientStates.{state_left_at}
+use Rattle.program_calls.specs.declared.turned.Turned.{Turned}
+use Rattle.program_calls.specs.declared.turned.Turned.TheVariants.{Going, Done}
 use Rattle.players.specs.declared.fault.RacerFault.{RacerFault}
 use Rattle.players.specs.declared.fault.RacerFault.TheVariants as faults
 

@@ -1,7 +1,7 @@
 ghost use Rattle.std.specs.Prelude.{◌≡◌, ℕ, ◌+◌, ◌<◌, ◌≤◌, ◌^◌, List, None, Some, true, false, IsNone, IfOk, IfErr, OnOk, length};
 ghost use Rattle.world_runs.specs.Report.{answer_line as line_of};
-ghost use Rattle.world_runs.specs.ClientStates.{ClientState, TakesAct};
-ghost use Rattle.world_runs.specs.Standing.{IsInState};
+ghost use Rattle.whole_runs.specs.ClientStates.{ClientState, TakesAct};
+ghost use Rattle.whole_runs.specs.Standing.{IsInState};
 ghost use Rattle.players.specs.Players.{op_at, next_at, HasBegun, IsFault, Played};
 
 use crate::fault::RacerFault;

@@ -6,12 +6,11 @@ ghost use Rattle.world_runs.specs.declared.event.Event.TheVariants as events;
 ghost use Rattle.world_runs.specs.declared.event.Happening.TheVariants as happenings;
 ghost use Rattle.world_runs.specs.Actors.{Actor};
 ghost use Rattle.world_runs.specs.Report.{transactions};
-ghost use Rattle.clients.specs.declared.turned.Turned.TheVariants.{Going};
+ghost use Rattle.program_calls.specs.declared.turned.Turned.TheVariants.{Going};
 ghost use Rattle.players.specs.Players.{op_at, next_at, HasBegun, IsFault, IsPlayer, StepsOnce};
 
 use crate::fault::RacerFault;
-use clients::Turned;
-use program_calls::Programs;
+use program_calls::{Programs, Turned};
 use tect_ids::{Command, NoMemory};
 
 /// Whoever does the lines of one client at a place of type `At`: it begins commands of one actor, and goes on with each of

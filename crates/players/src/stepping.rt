@@ -3,8 +3,7 @@ ghost use Rattle.players.specs.Players.{op_at, ComesToEnd, IsFault, StepsUpTo};
 
 use crate::fault::RacerFault;
 use crate::player::Player;
-use clients::Turned;
-use program_calls::Programs;
+use program_calls::{Programs, Turned};
 use tect_ids::Answer;
 
 /// At most that many transactions of the player's command.

@@ -2,5 +2,7 @@
 #![tactic(auto)]
 
 mod programs;
+mod turned;
 
 pub use programs::Programs;
+pub use turned::Turned;

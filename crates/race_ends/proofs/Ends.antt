@@ -8,7 +8,7 @@ use Rattle.entry_words.specs.declared.entry.Moment.{Moment}
 use Rattle.passes.specs.declared.pass.Pass.{Pass}
 use Rattle.place_kit.specs.Started.{AreStarted}
 use Rattle.world_runs.specs.declared.event.Event.{Event}
-use Rattle.world_runs.specs.Woven.{AreSilent}
+use Rattle.whole_runs.specs.Woven.{AreSilent}
 use Rattle.race_runs.specs.Gathered.{AreGathered, IsRaceRun, cuts_of, history_of_race, silent_last, told}
 use Rattle.race_runs.proofs.Gathered.{gathered_stories_are_run}
 use Rattle.race_ends.specs.declared.ended.EndedPart.{EndedPart}

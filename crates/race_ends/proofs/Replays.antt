@@ -17,8 +17,8 @@ use Rattle.world_runs.specs.declared.event.Event.{Event}
 use Rattle.world_runs.specs.Events.{event_of, events_of, end_event}
 use Rattle.world_runs.specs.Events.{StampsRise}
 use Rattle.world_runs.specs.OwnRuns.{stored_after}
-use Rattle.world_runs.specs.Woven.{is_early, is_late}
-use Rattle.world_runs.proofs.Actors.{stored_after-append}
+use Rattle.whole_runs.specs.Woven.{is_early, is_late}
+use Rattle.whole_runs.proofs.Actors.{stored_after-append}
 use Rattle.race_runs.specs.Gathered.{store_at}
 use Rattle.race_runs.proofs.Lists.{every-append, every_weaker, filter_all, filter_none}
 use Rattle.race_runs.proofs.Stores.{all_moments_stay, next_up_to, past_up_to}

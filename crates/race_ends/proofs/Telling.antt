@@ -5,7 +5,7 @@ use Rattle.tect_ids.specs.declared.script.ReportLine.{ReportLine}
 use Rattle.store_rules.specs.Store.{Store, opening_store}
 use Rattle.entry_words.specs.declared.entry.Moment.{Moment}
 use Rattle.world_runs.specs.Events.{StampsRise}
-use Rattle.world_runs.specs.Woven.{is_late}
+use Rattle.whole_runs.specs.Woven.{is_late}
 use Rattle.race_ends.specs.declared.ended.EndedPart.{EndedPart}
 use Rattle.race_ends.specs.Told.{DumpsRise, shown, stored_up_to, told_by}
 use Rattle.race_ends.proofs.Replays.{Replayed, none_replayed, later_rise, next_replayed, next_store}

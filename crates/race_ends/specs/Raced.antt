@@ -14,7 +14,7 @@ use Rattle.world_runs.specs.Limits.{KeepsLimits}
 use Rattle.world_runs.specs.Moments.{IsWorldRun}
 use Rattle.world_runs.specs.Races.{FollowsByClient, concerns, race_report}
 use Rattle.world_runs.specs.Smooth.{OwnEndsAtOnce}
-use Rattle.world_runs.specs.Woven.{AreSilent, Cut, woven}
+use Rattle.whole_runs.specs.Woven.{AreSilent, Cut, woven}
 use Rattle.merge_runs.specs.Merged.{HaveDifferentActors, IsInOrder, RestrictsToTrails, RestrictsToHistories, moments_of}
 
 -- it is the one list of all moments of these passes, in order, and has the history of each of these places

@@ -10,7 +10,7 @@ use Rattle.entry_words.specs.declared.entry.Moment.TheVariants.{Act, Local}
 use Rattle.entry_words.specs.Moments.{stamp_of}
 use Rattle.world_runs.specs.Events.{events_of}
 use Rattle.world_runs.specs.OwnRuns.{stored_after}
-use Rattle.world_runs.specs.Woven.{is_early}
+use Rattle.whole_runs.specs.Woven.{is_early}
 use Rattle.race_runs.specs.Gathered.{store_at}
 use Rattle.race_ends.specs.declared.ended.EndedPart.{EndedPart}
 

@@ -2,7 +2,7 @@ ghost use Rattle.std.specs.Prelude.{◌≡◌, ◌≤◌, IfOk, OnOk, drop, filt
 ghost use Rattle.entry_words.specs.Moments.{stamp_of};
 ghost use Rattle.world_runs.specs.Events.{event_of};
 ghost use Rattle.world_runs.specs.Events.{StampsRise};
-ghost use Rattle.world_runs.specs.Woven.{is_late};
+ghost use Rattle.whole_runs.specs.Woven.{is_late};
 ghost use Rattle.race_ends.specs.Told.{after_moment, stored_up_to};
 
 use all_shards::Shards;

@@ -14,8 +14,9 @@ use Rattle.world_runs.specs.declared.event.Event.TheVariants.{Own, Dumped}
 use Rattle.world_runs.specs.declared.event.Happening.TheVariants.{Stopped}
 use Rattle.world_runs.specs.Races.{concerns, line_concerns}
 use Rattle.world_runs.specs.Follows.{Acts, IsEndOf, RunsToEnd, IsBeginOf, DoesLine}
-use Rattle.world_runs.specs.ClientLines.{DoesLines}
-use Rattle.world_runs.proofs.Actors.{same_number, other_number}
+use Rattle.whole_runs.specs.ClientLines.{DoesLines}
+use Rattle.world_runs.proofs.Actors.{same_number}
+use Rattle.whole_runs.proofs.Actors.{other_number}
 use Rattle.race_runs.specs.Gathered.{IsLineOf, is_dump}
 use Rattle.race_runs.proofs.Lists.{every-append}
 use Rattle.race_runs.proofs.Owned.{AllConcern}

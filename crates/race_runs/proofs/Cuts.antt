@@ -11,8 +11,8 @@ use Rattle.world_runs.specs.declared.event.Event.TheVariants.{Dumped}
 use Rattle.world_runs.specs.Races.{concerns}
 use Rattle.world_runs.specs.Events.{events_of, own}
 use Rattle.world_runs.specs.Events.{IsOwnNote}
-use Rattle.world_runs.proofs.Refusals.{AreQuiet, IsQuiet}
-use Rattle.world_runs.specs.Woven.{is_early, is_late, woven}
+use Rattle.whole_runs.proofs.Refusals.{AreQuiet, IsQuiet}
+use Rattle.whole_runs.specs.Woven.{is_early, is_late, woven}
 use Rattle.world_runs.proofs.Actors.{own-append}
 use Rattle.noted_runs.proofs.Shown.{IsNoDump, silent_no_dump}
 use Rattle.race_runs.specs.Stories.{Part, Story, part_events, all_moments, with_dumps}

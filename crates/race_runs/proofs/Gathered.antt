@@ -16,18 +16,18 @@ use Rattle.world_runs.specs.declared.event.Event.{Event}
 use Rattle.program_forms.specs.Kinds.{Programs}
 use Rattle.world_runs.specs.Actors.{idle_actor}
 use Rattle.world_runs.specs.Smooth.{OwnEndsAtOnce}
-use Rattle.world_runs.proofs.Refusals.{AreQuiet}
+use Rattle.whole_runs.proofs.Refusals.{AreQuiet}
 use Rattle.race_runs.proofs.Silent.{quiet_parts, silent_cuts}
 use Rattle.world_runs.specs.Races.{concerns, line_concerns}
-use Rattle.world_runs.specs.ClientLines.{DoesLines}
+use Rattle.whole_runs.specs.ClientLines.{DoesLines}
 use Rattle.world_runs.specs.Events.{own}
 use Rattle.world_runs.specs.Events.{IsOwnNote, IsPlaced}
-use Rattle.world_runs.specs.Woven.{AreSilent}
+use Rattle.whole_runs.specs.Woven.{AreSilent}
 use Rattle.world_runs.specs.Limits.{OwnLimits}
 use Rattle.world_runs.specs.OwnRuns.{OwnRun, RepliesAre}
-use Rattle.world_runs.proofs.Actors.{other_number}
-use Rattle.world_runs.proofs.Owns.{own_runs_make_run}
-use Rattle.world_runs.proofs.Limits.{own_limits_make_limits}
+use Rattle.whole_runs.proofs.Actors.{other_number}
+use Rattle.whole_runs.proofs.Owns.{own_runs_make_run}
+use Rattle.whole_runs.proofs.Limits.{own_limits_make_limits}
 use Rattle.race_runs.proofs.Replies.{places_reply}
 use Rattle.noted_runs.proofs.Weaving.{woven_replies}
 use Rattle.noted_runs.proofs.Following.{clients_follow}

@@ -15,7 +15,7 @@ use Rattle.world_runs.specs.Refusals.{AreOfRefused}
 use Rattle.world_runs.specs.Smooth.{OwnEndsAtOnce}
 use Rattle.world_runs.proofs.Actors.{own_state-append}
 use Rattle.world_runs.proofs.Prompt.{ends_at_once-append}
-use Rattle.world_runs.proofs.Refusals.{of_refused-front, of_refused-rest}
+use Rattle.whole_runs.proofs.Refusals.{of_refused-front, of_refused-rest}
 use Rattle.race_runs.specs.Stories.{Part, Story, SilentAfter, Timely, Answers, part_events, all_moments, all_events, with_dumps}
 
 abbrev pub no_part : Part

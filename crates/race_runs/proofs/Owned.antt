@@ -12,7 +12,7 @@ use Rattle.world_runs.specs.declared.event.Event.{Event}
 use Rattle.world_runs.specs.Races.{is_own, concerns}
 use Rattle.world_runs.specs.Events.{end_event, event_of, events_of, own}
 use Rattle.world_runs.specs.Events.{IsOwnNote}
-use Rattle.world_runs.proofs.Actors.{actor_of_own}
+use Rattle.whole_runs.proofs.Actors.{actor_of_own}
 use Rattle.noted_runs.proofs.Shown.{IsNoDump, moment_no_dump, no_dump_own}
 use Rattle.noted_runs.proofs.Weaving.{filter_agree_where}
 use Rattle.race_runs.proofs.Lists.{filter_all, filter_none, every_weaker}

@@ -8,8 +8,8 @@ use Rattle.world_runs.specs.declared.event.Event.{Event}
 use Rattle.world_runs.specs.declared.event.Event.TheVariants.{Dumped}
 use Rattle.world_runs.specs.Races.{is_own, concerns}
 use Rattle.world_runs.specs.Events.{events_of, own}
-use Rattle.world_runs.proofs.Refusals.{AreQuiet, IsQuiet}
-use Rattle.world_runs.specs.Woven.{is_early, is_late}
+use Rattle.whole_runs.proofs.Refusals.{AreQuiet, IsQuiet}
+use Rattle.whole_runs.specs.Woven.{is_early, is_late}
 use Rattle.world_runs.proofs.Actors.{own-append}
 use Rattle.noted_runs.proofs.Shown.{IsNoDump, silent_no_dump}
 use Rattle.noted_runs.proofs.Weaving.{filter-swap}

@@ -43,7 +43,8 @@ use Rattle.world_runs.specs.Events.{end_event, event_of, events_of}
 use Rattle.world_runs.specs.Events.{IsPlaced}
 use Rattle.race_runs.specs.PlacesReply.{PlacesReply}
 use Rattle.world_runs.specs.OwnRuns.{RepliesAre}
-use Rattle.world_runs.proofs.Actors.{flipped, one_number, other_number, same_number}
+use Rattle.world_runs.proofs.Actors.{one_number, same_number}
+use Rattle.whole_runs.proofs.Actors.{flipped, other_number}
 
 -- ---- what a shard does, as a store in which nothing else stands
 

@@ -3,9 +3,11 @@ use Rattle.std.proofs.Common.{◌≡◌, inl, inr, ℕ, zero, suc, Some, List, [
 use Rattle.std.specs.List.{flat_map, slice_get}
 use Rattle.world_runs.specs.declared.event.Event.{Event}
 use Rattle.world_runs.specs.Refusals.{AreOfRefused}
-use Rattle.world_runs.specs.Woven.{AreSilentAfter}
-use Rattle.world_runs.proofs.Refusals.{AreQuiet, AreRefusedIn, all_quiet_of_refused, of_refused-append, of_refused-wider, of_refused_behind}
-use Rattle.world_runs.proofs.Refusals.{refused-cases, refused-front, refused-rest}
+use Rattle.whole_runs.specs.Woven.{AreSilentAfter}
+use Rattle.world_runs.proofs.Refusals.{AreRefusedIn, of_refused-append}
+use Rattle.whole_runs.proofs.Refusals.{AreQuiet, all_quiet_of_refused, of_refused-wider, of_refused_behind}
+use Rattle.world_runs.proofs.Refusals.{refused-rest}
+use Rattle.whole_runs.proofs.Refusals.{refused-cases, refused-front}
 use Rattle.race_runs.specs.Stories.{Part, Story, SilentAfter, Timely}
 use Rattle.race_runs.specs.Gathered.{part_of, rest_of, silent_now, silent_last, cuts_of}
 use Rattle.race_runs.proofs.Cuts.{last_stays}

@@ -10,10 +10,10 @@ use Rattle.world_runs.specs.declared.event.Event.{Event}
 use Rattle.world_runs.specs.declared.event.Event.TheVariants.{Dumped}
 use Rattle.world_runs.specs.Events.{event_of, events_of}
 use Rattle.world_runs.specs.Events.{StampsRise}
-use Rattle.world_runs.proofs.Refusals.{AreQuiet}
+use Rattle.whole_runs.proofs.Refusals.{AreQuiet}
 use Rattle.world_runs.specs.OwnRuns.{stored_after}
-use Rattle.world_runs.specs.Woven.{is_early, is_late}
-use Rattle.world_runs.proofs.Actors.{stored_after-append}
+use Rattle.whole_runs.specs.Woven.{is_early, is_late}
+use Rattle.whole_runs.proofs.Actors.{stored_after-append}
 use Rattle.noted_runs.proofs.Weaving.{silent_replies, stamps_split}
 use Rattle.race_runs.specs.Gathered.{store_at}
 use Rattle.race_runs.specs.Stories.{Part, Timely}

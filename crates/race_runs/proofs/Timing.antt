@@ -5,7 +5,7 @@ use Rattle.std.proofs.lemmas.List.{append-nil}
 use Rattle.std.specs.List.{AllByRecursion, filter}
 use Rattle.entry_words.specs.declared.entry.Moment.{Moment}
 use Rattle.entry_words.specs.Moments.{stamp_of}
-use Rattle.world_runs.specs.Woven.{is_early, is_late}
+use Rattle.whole_runs.specs.Woven.{is_early, is_late}
 use Rattle.race_runs.specs.Stories.{Part, Timely, all_moments}
 use Rattle.race_runs.proofs.Lists.{every-append, every_weaker, filter_all, filter_none, passes}
 

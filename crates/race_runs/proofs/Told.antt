@@ -9,10 +9,10 @@ use Rattle.world_runs.specs.declared.event.Event.TheVariants.{Dumped}
 use Rattle.world_runs.specs.Races.{own_lines, part_lines, race_report_after}
 use Rattle.world_runs.specs.Events.{events_of, own}
 use Rattle.world_runs.specs.Events.{IsOwnNote, StampsRise}
-use Rattle.world_runs.proofs.Refusals.{AreQuiet}
+use Rattle.whole_runs.proofs.Refusals.{AreQuiet}
 use Rattle.world_runs.specs.OwnRuns.{stored_after}
-use Rattle.world_runs.specs.Woven.{is_early, is_late}
-use Rattle.world_runs.proofs.OwnLines.{own_lines_own}
+use Rattle.whole_runs.specs.Woven.{is_early, is_late}
+use Rattle.whole_runs.proofs.OwnLines.{own_lines_own}
 use Rattle.noted_runs.proofs.Weaving.{stamps_rise-filter}
 use Rattle.race_runs.specs.Stories.{Part, Story, Answers, part_events}
 use Rattle.race_runs.specs.Gathered.{part_of, rest_of, silent_now, answers_now, answers_last, history_of_race, store_at, told}

@@ -24,7 +24,7 @@ use Rattle.world_runs.specs.OwnRuns.{stored_after}
 use Rattle.world_runs.specs.Limits.{KeepsLimits}
 use Rattle.world_runs.specs.Events.{StampsRise}
 use Rattle.world_runs.specs.Smooth.{OwnEndsAtOnce}
-use Rattle.world_runs.specs.Woven.{AreSilent, Cut, is_early, woven}
+use Rattle.whole_runs.specs.Woven.{AreSilent, Cut, is_early, woven}
 use Rattle.race_runs.specs.Stories.{Part, Story, IsStory, all_moments}
 
 -- the part of each story before the next dump, and the stories from then on

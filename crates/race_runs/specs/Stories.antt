@@ -15,7 +15,7 @@ use Rattle.world_runs.specs.Races.{line_concerns, own_lines}
 use Rattle.world_runs.specs.Events.{events_of}
 use Rattle.world_runs.specs.OwnRuns.{OwnRun}
 use Rattle.world_runs.specs.Limits.{OwnLimits}
-use Rattle.world_runs.specs.ClientLines.{DoesLines}
+use Rattle.whole_runs.specs.ClientLines.{DoesLines}
 use Rattle.world_runs.specs.Events.{IsPlaced, IsOwnNote}
 use Rattle.world_runs.specs.Refusals.{AreOfRefused}
 use Rattle.world_runs.specs.Smooth.{OwnEndsAtOnce}

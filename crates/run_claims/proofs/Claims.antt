@@ -11,11 +11,11 @@ use Rattle.world_runs.specs.declared.event.Event.{Event}
 use Rattle.world_runs.specs.declared.event.Event.TheVariants.{Own}
 use Rattle.world_runs.specs.declared.event.Happening.TheVariants.{Ended}
 use Rattle.world_runs.specs.Moments.{WorldState, May, IsWorldRun, moment, opening}
-use Rattle.world_runs.proofs.Fronts.{front_runs, may_at}
+use Rattle.whole_runs.proofs.Fronts.{front_runs, may_at}
 use Rattle.claim_words.specs.Sound.{AfterEachFront}
 use Rattle.telling_laws.specs.View.{Shows}
 use Rattle.telling_laws.specs.Telling.{tree_of}
-use Rattle.world_runs.proofs.Owns.{store_is_after}
+use Rattle.whole_runs.proofs.Owns.{store_is_after}
 use Rattle.store_rules.specs.Store.{Store}
 use Rattle.tree_runs.proofs.Headlines.{shown_so, run_headline}
 use Rattle.run_claims.proofs.RunsKeep.{no_run_answers_odd, sound_at_each_moment, granted_at_each_moment}

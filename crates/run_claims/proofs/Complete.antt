@@ -34,10 +34,9 @@ use Rattle.world_runs.specs.Actors.{Actor}
 use Rattle.world_runs.specs.Limits.{IsFull, EndsFull, KeepsRoom, actor_in, KeepsLimitsAfter, KeepsLimits}
 use Rattle.world_runs.specs.Moments.{WorldState, May, IsWorldRun, moment, opening}
 use Rattle.world_runs.specs.Refusals.{was_refused}
-use Rattle.world_runs.proofs.Fronts.{may_at}
-use Rattle.claim_words.specs.Ways.{way}
+use Rattle.whole_runs.proofs.Fronts.{may_at}
+use Rattle.claim_words.specs.Points.{way, of_op, Walked, StopsWalk, Finds, Lists, LookDecides, ListDecides, CreateDecides}
 use Rattle.claim_words.specs.TreeSteps.{Told, tree_steps}
-use Rattle.claim_words.specs.Points.{of_op, Walked, StopsWalk, Finds, Lists, LookDecides, ListDecides, CreateDecides}
 use Rattle.claim_words.specs.Points.{MkdirDecides, DeleteDecides, RenameDecides, Decides, DecidesAt, Point, LacksName}
 use Rattle.claim_words.specs.Headline.{command_of, Explains, HadNoRoom, Headline}
 use Rattle.telling_laws.proofs.Histories.{of_op-append}

@@ -16,9 +16,9 @@ use Rattle.claim_words.specs.Headline.{command_of}
 use Rattle.fall_laws.specs.Counting.{is_look, is_no_look, is_look_of, is_other_of, looks_of, others_of}
 use Rattle.fall_laws.specs.Bounding.{one_if, Many, none, added, TakesAtMost, RunsAreShort}
 use Rattle.fall_laws.proofs.RunsFall.{taken_more, nothing_grows, runs_are_short}
-use Rattle.claim_words.specs.Ways.{most_looks}
-use Rattle.names_told.specs.NamesBounding.{names_bounding}
-use Rattle.names_told.proofs.NamesFall.{names_fall_so, names_never_grow}
+use Rattle.claim_words.specs.Points.{most_looks}
+use Rattle.names_told.specs.NamesTelling.{names_bounding}
+use Rattle.names_told.proofs.Operations.{names_fall_so, names_never_grow}
 use Rattle.run_claims.specs.Bounds.{IsShort}
 
 -- ---- looks, and other transactions

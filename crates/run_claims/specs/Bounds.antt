@@ -5,7 +5,7 @@ use Rattle.tect_ids.specs.declared.command.Command.{Command}
 use Rattle.world_runs.specs.declared.event.Event.{Event}
 use Rattle.world_runs.specs.Report.{transactions}
 use Rattle.fall_laws.specs.Counting.{looks_of, others_of}
-use Rattle.claim_words.specs.Ways.{most_looks}
+use Rattle.claim_words.specs.Points.{most_looks}
 
 -- The op's command takes no more looks than its path has names, at most four other transactions, and no transactions
 -- beside these.

@@ -15,9 +15,8 @@ use Rattle.world_runs.specs.declared.event.Event.TheVariants.{Own}
 use Rattle.world_runs.specs.declared.event.Happening.TheVariants.{Ended, Failed}
 use Rattle.world_runs.specs.Limits.{IsFull}
 use Rattle.world_runs.specs.Refusals.{was_refused}
-use Rattle.claim_words.specs.Ways.{way}
+use Rattle.claim_words.specs.Points.{way, of_op, LacksName}
 use Rattle.claim_words.specs.TreeSteps.{Told, tree_steps}
-use Rattle.claim_words.specs.Points.{of_op, LacksName}
 use Rattle.claim_words.specs.Headline.{command_of}
 
 -- the answers of a command that did what it was to do

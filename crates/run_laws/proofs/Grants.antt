@@ -19,7 +19,7 @@ use Rattle.world_runs.specs.declared.event.Event.TheVariants.{Own, Dumped}
 use Rattle.world_runs.specs.declared.event.Happening.TheVariants.{Began, NotBegun, Acted, Ended, Stopped, Failed}
 use Rattle.world_runs.specs.Actors.{Actor}
 use Rattle.world_runs.specs.Moments.{WorldState, May, RunFrom, after, opening}
-use Rattle.world_runs.proofs.Fronts.{front_runs}
+use Rattle.whole_runs.proofs.Fronts.{front_runs}
 use Rattle.claim_words.specs.Granted.{op_spends, IsHeld}
 use Rattle.store_pasts.specs.Worlds.{World, Ghost, Given, Live, next, opening_ghost}
 use Rattle.store_pasts.specs.Pasts.{IsGranted}

@@ -32,7 +32,7 @@ use Rattle.store_pasts.proofs.Laters.{weaken, later_then}
 use Rattle.store_pasts.proofs.Over.{settled_later}
 use Rattle.store_world.proofs.Over.{settled_sound}
 use Rattle.store_world.proofs.Rows.{row_kept, opening_sound}
-use Rattle.world_runs.proofs.Actors.{changed, other_number}
+use Rattle.whole_runs.proofs.Actors.{changed, other_number}
 use Rattle.tect_ids.specs.Numbers.{object_number}
 use Rattle.program_laws.specs.Known.{Deciding, Known, Remembers, IsActor, IsNewOp, IsApart, Meets, by_op}
 use Rattle.program_laws.specs.Laws.{ProgramLaws}

@@ -14,8 +14,8 @@ use Rattle.world_runs.specs.declared.event.Event.{Event}
 use Rattle.world_runs.specs.declared.event.Event.TheVariants.{Own, Dumped}
 use Rattle.world_runs.specs.Actors.{Running, program_answer, standing_does, asked_in, answer_in}
 use Rattle.world_runs.specs.Moments.{WorldState, RunFrom, IsWorldRun, moment, after, after_all, opening, running}
-use Rattle.world_runs.proofs.Fronts.{front_runs}
-use Rattle.world_runs.proofs.Owns.{store_is_after}
+use Rattle.whole_runs.proofs.Fronts.{front_runs}
+use Rattle.whole_runs.proofs.Owns.{store_is_after}
 use Rattle.claim_words.specs.Sound.{IsSoundStore}
 use Rattle.store_pasts.specs.Worlds.{World, Ghost, opening_ghost}
 use Rattle.store_world.specs.Sound.{Sound}

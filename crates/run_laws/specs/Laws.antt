@@ -9,7 +9,7 @@ use Rattle.program_forms.specs.Kinds.{Programs}
 use Rattle.world_runs.specs.declared.event.Event.{Event}
 use Rattle.world_runs.specs.Actors.{Actor, Running}
 use Rattle.world_runs.specs.Moments.{IsWorldRun, moment, running, asked, answered}
-use Rattle.world_runs.specs.Standing.{IsLastBegun}
+use Rattle.whole_runs.specs.Standing.{IsLastBegun}
 use Rattle.claim_words.specs.Sound.{IsSound, AfterEachFront}
 use Rattle.claim_words.specs.Granted.{GrantedHoldsAreListed}
 

@@ -14,8 +14,8 @@ use Rattle.world_runs.specs.declared.event.Event.TheVariants.{Own, Dumped}
 use Rattle.world_runs.specs.declared.event.Happening.TheVariants.{Stopped}
 use Rattle.world_runs.specs.Moments.{WorldState, opening, after, after_all, RunFrom}
 use Rattle.world_runs.specs.Follows.{Acts, IsEndOf, EndsAfter, EndsWithin, tries, IsBeginOf, DoesLine, Busy, with_busy, FollowsFrom}
-use Rattle.world_runs.specs.ClientStates.{ClientStates, all_idle, with_state, state_left_at, FitStatesFrom}
-use Rattle.world_runs.specs.Standing.{busy_at}
+use Rattle.whole_runs.specs.ClientStates.{ClientStates, all_idle, with_state, state_left_at, FitStatesFrom}
+use Rattle.whole_runs.specs.Standing.{busy_at}
 use Rattle.world_runs.specs.Smooth.{EndsAtOnce}
 use Rattle.script_runs.specs.RunningOut.{RefusesAsFull}
 use Rattle.script_runs.specs.Laws.{EachCutLineCanBeRunOut}

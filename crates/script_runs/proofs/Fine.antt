@@ -7,8 +7,8 @@ use Rattle.world_runs.specs.declared.event.Event.{Event}
 use Rattle.world_runs.specs.Moments.{WorldState, May, opening, after, after_all, RunFrom, moment, IsWorldRun}
 use Rattle.world_runs.specs.Limits.{KeepsRoom, KeepsLimits, KeepsLimitsAfter, actor_in}
 use Rattle.world_runs.specs.Follows.{FindsMemory, AllFindMemory}
-use Rattle.world_runs.proofs.Actors.{moment-append}
-use Rattle.world_runs.proofs.Owns.{counts_stay}
+use Rattle.whole_runs.proofs.Actors.{moment-append}
+use Rattle.whole_runs.proofs.Owns.{counts_stay}
 
 module _ {S : Type 0} (P : Programs S) where
   -- the event may happen at the moment, finds the room that these events before it leave, and finds memory

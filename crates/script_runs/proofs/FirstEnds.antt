@@ -14,7 +14,7 @@ use Rattle.world_runs.specs.declared.event.Happening.TheVariants.{Stopped}
 use Rattle.world_runs.specs.Actors.{Actor, running_op}
 use Rattle.world_runs.specs.Moments.{WorldState, after, after_all}
 use Rattle.world_runs.specs.Follows.{Acts, IsEndOf, EndsAfter, DoesLine}
-use Rattle.world_runs.specs.Standing.{busy_at}
+use Rattle.whole_runs.specs.Standing.{busy_at}
 use Rattle.world_runs.specs.Smooth.{StepsOn, AllStepOn}
 use Rattle.script_runs.specs.InTime.{DoesInTime, FollowsInTime}
 use Rattle.script_runs.proofs.Histories.{act_no_end, end_no_begin, end_of_one}

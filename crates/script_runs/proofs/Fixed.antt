@@ -12,7 +12,7 @@ use Rattle.world_runs.specs.declared.event.Event.{Event}
 use Rattle.world_runs.specs.declared.event.Event.TheVariants.{Dumped}
 use Rattle.world_runs.specs.Moments.{WorldState, opening, after, after_all}
 use Rattle.world_runs.specs.Follows.{EndsAfter, IsBeginOf, BeginsAndEnds}
-use Rattle.world_runs.specs.Standing.{busy_at}
+use Rattle.whole_runs.specs.Standing.{busy_at}
 use Rattle.world_runs.specs.Smooth.{IsSmoothRun}
 use Rattle.script_runs.specs.InTime.{EndsInTime, DoesInTime}
 use Rattle.script_runs.specs.Laws.{ScriptFixesRun, ScriptFixesRunWithoutLooks, ScriptWithoutStepsFixesRun}

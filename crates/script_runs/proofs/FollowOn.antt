@@ -10,9 +10,9 @@ use Rattle.world_runs.specs.declared.event.Event.{Event}
 use Rattle.world_runs.specs.declared.event.Event.TheVariants.{Dumped}
 use Rattle.world_runs.specs.Moments.{WorldState, opening, after_all, RunFrom, moment}
 use Rattle.world_runs.specs.Follows.{DoesLine, Busy, with_busy, FollowsFrom}
-use Rattle.world_runs.specs.ClientStates.{ClientStates, all_idle, with_state, state_left_at, states_after, TakesAct, FitStatesFrom}
-use Rattle.world_runs.specs.Standing.{busy_at}
-use Rattle.world_runs.proofs.Actors.{after_all-append, changed}
+use Rattle.whole_runs.specs.ClientStates.{ClientStates, all_idle, with_state, state_left_at, states_after, TakesAct, FitStatesFrom}
+use Rattle.whole_runs.specs.Standing.{busy_at}
+use Rattle.whole_runs.proofs.Actors.{after_all-append, changed}
 use Rattle.script_runs.specs.Laws.{RunFollowsOn, Stands, StandsByState}
 use Rattle.script_runs.proofs.Histories.{run-front, run-rest}
 use Rattle.script_runs.proofs.Running.{AllWell, opening_well, run_well}

@@ -12,7 +12,7 @@ use Rattle.world_runs.specs.declared.event.Event.{Event}
 use Rattle.world_runs.specs.declared.event.Event.TheVariants.{Own, Dumped}
 use Rattle.world_runs.specs.declared.event.Happening.{Happening}
 use Rattle.world_runs.specs.declared.event.Happening.TheVariants.{Began, NotBegun, Acted, Ended, Stopped, Failed}
-use Rattle.world_runs.proofs.Actors.{changed}
+use Rattle.whole_runs.proofs.Actors.{changed}
 use Rattle.world_runs.specs.Actors.{Actor, Running, OwnMay, own_after, went_on, ended}
 use Rattle.world_runs.specs.Moments.{May, WorldState, after, after_all, RunFrom}
 use Rattle.world_runs.specs.Follows.{IsActOf, IsEndOf, IsBeginOf, AllFindMemory}

@@ -18,7 +18,7 @@ use Rattle.world_runs.specs.declared.event.Happening.TheVariants.{Began, NotBegu
 use Rattle.world_runs.specs.Actors.{Running, is_said, standing_does, standing_ended, has_ended, answer_in, program_answer}
 use Rattle.world_runs.specs.Moments.{WorldState, after_all, running, answered}
 use Rattle.world_runs.specs.Follows.{IsEndOf, EndsAfter, EndsWithin, tries, DoesLine, Busy, FollowsFrom}
-use Rattle.world_runs.specs.Standing.{busy_at}
+use Rattle.whole_runs.specs.Standing.{busy_at}
 use Rattle.world_runs.specs.Smooth.{IsNoStep}
 use Rattle.script_runs.specs.InTime.{only_ends, EndsInTime, DoesInTime, FollowsInTime, LooksTellNoAnswer}
 use Rattle.script_runs.proofs.Running.{AllWell, run_well}

@@ -13,10 +13,10 @@ use Rattle.world_runs.specs.declared.event.Happening.TheVariants.{Stopped}
 use Rattle.world_runs.specs.Actors.{Actor, Running, running_op, program_of}
 use Rattle.world_runs.specs.Moments.{running, WorldState, after, after_all, RunFrom}
 use Rattle.world_runs.specs.Follows.{Acts, EndsAfter, EndsWithin, IsBeginOf, BeginsAndEnds, DoesLine, with_busy}
-use Rattle.world_runs.specs.ClientStates.{ClientState, TakesAct, state_left_at}
-use Rattle.world_runs.specs.ClientStates as states
-use Rattle.world_runs.specs.Standing.{busy_at, IsInState}
-use Rattle.world_runs.proofs.Actors.{changed}
+use Rattle.whole_runs.specs.ClientStates.{ClientState, TakesAct, state_left_at}
+use Rattle.whole_runs.specs.ClientStates as states
+use Rattle.whole_runs.specs.Standing.{busy_at, IsInState}
+use Rattle.whole_runs.proofs.Actors.{changed}
 use Rattle.script_runs.proofs.Running.{AllWell}
 use Rattle.script_runs.proofs.Moves.{Moves, Keeps, none_moves, moves_on, acts_move, ends_move, begin_moves, stopped_moves}
 

@@ -14,8 +14,8 @@ use Rattle.world_runs.specs.declared.event.Happening.TheVariants.{Began, NotBegu
 use Rattle.world_runs.specs.Actors.{Actor, Running, running_op, begun, not_begun, went_on, ended}
 use Rattle.world_runs.specs.Moments.{WorldState, May, after, after_all, with_actor}
 use Rattle.world_runs.specs.Follows.{Acts, IsActOf, IsEndOf, IsBeginOf, EndsAfter}
-use Rattle.world_runs.specs.Standing.{busy_at}
-use Rattle.world_runs.proofs.Actors.{after_all-append, changed, changed_there}
+use Rattle.whole_runs.specs.Standing.{busy_at}
+use Rattle.whole_runs.proofs.Actors.{after_all-append, changed, changed_there}
 use Rattle.script_runs.proofs.Histories.{IsActed, act_is}
 
 -- from one moment to another nothing but that actor changes: it has this number then, is stopped so, and is busy with this

@@ -18,12 +18,12 @@ use Rattle.world_runs.specs.declared.event.Happening.TheVariants.{Began, NotBegu
 use Rattle.world_runs.specs.Actors.{Actor, Running, CanBegin, running_op, program_of, begun, not_begun}
 use Rattle.world_runs.specs.Moments.{WorldState, May, opening, after, after_all, RunFrom, IsWorldRun, moment, running, answered}
 use Rattle.world_runs.specs.Follows.{IsEndOf, IsBeginOf, tries, DoesLine, Busy, FollowsFrom}
-use Rattle.world_runs.specs.ClientStates.{ClientState, ClientStates, all_idle, with_state, state_left_at, states_after, TakesAct}
-use Rattle.world_runs.specs.ClientStates.{FitStatesFrom}
-use Rattle.world_runs.specs.ClientStates as states
-use Rattle.world_runs.specs.Standing.{busy_at, IsInState}
+use Rattle.whole_runs.specs.ClientStates.{ClientState, ClientStates, all_idle, with_state, state_left_at, states_after, TakesAct}
+use Rattle.whole_runs.specs.ClientStates.{FitStatesFrom}
+use Rattle.whole_runs.specs.ClientStates as states
+use Rattle.whole_runs.specs.Standing.{busy_at, IsInState}
 use Rattle.world_runs.specs.Smooth.{IsPrompt, EndsAtOnce}
-use Rattle.world_runs.proofs.Actors.{changed_there}
+use Rattle.whole_runs.proofs.Actors.{changed_there}
 use Rattle.script_runs.specs.RunningOut.{HappensAsFull, RefusesAsFull}
 use Rattle.script_runs.specs.Laws.{EachScriptCanBeRunOut}
 use Rattle.script_runs.proofs.Histories.{run-append}

@@ -21,8 +21,8 @@ use Rattle.world_runs.specs.declared.event.Happening.TheVariants.{Began, NotBegu
 use Rattle.world_runs.specs.Actors.{Actor, Running, CanBegin, OwnMay, own_after, program_of, standing_does, asked_in, answer_in}
 use Rattle.world_runs.specs.Actors.{went_on, ended}
 use Rattle.world_runs.specs.Moments.{WorldState, May, RunFrom, IsWorldRun, opening, after, after_all, moment, running, asked, answered}
-use Rattle.world_runs.specs.Standing.{IsLastBegun}
-use Rattle.world_runs.proofs.Actors.{changed}
+use Rattle.whole_runs.specs.Standing.{IsLastBegun}
+use Rattle.whole_runs.proofs.Actors.{changed}
 
 -- ---- the command of an op
 

@@ -14,9 +14,9 @@ use Rattle.world_runs.specs.declared.event.Event.TheVariants.{Own, Dumped}
 use Rattle.world_runs.specs.declared.event.Happening.TheVariants.{Began, NotBegun, Acted, Ended, Stopped, Failed}
 use Rattle.world_runs.specs.Moments.{WorldState, after, after_all, RunFrom}
 use Rattle.world_runs.specs.Follows.{Acts, IsEndOf, tries, Busy, FollowsFrom}
-use Rattle.world_runs.specs.Standing.{busy_at}
+use Rattle.whole_runs.specs.Standing.{busy_at}
 use Rattle.world_runs.specs.Smooth.{EndIsNext, IsPrompt, EndsAtOnce, StepsOn, AllStepOn, IsNoStep, NoneSteps}
-use Rattle.world_runs.proofs.Actors.{after_all-append}
+use Rattle.whole_runs.proofs.Actors.{after_all-append}
 use Rattle.script_runs.specs.InTime.{only_ends, DoesInTime, FollowsInTime}
 use Rattle.script_runs.proofs.Histories.{run-front, run-rest, IsActed, act_is}
 use Rattle.script_runs.proofs.Running.{AllWell, run_well}

@@ -12,7 +12,7 @@ use Rattle.world_runs.specs.declared.event.Event.{Event}
 use Rattle.world_runs.specs.declared.event.Event.TheVariants.{Dumped}
 use Rattle.world_runs.specs.Actors.{has_ended, is_said}
 use Rattle.world_runs.specs.Moments.{WorldState, after_all, running}
-use Rattle.world_runs.specs.Standing.{busy_at}
+use Rattle.whole_runs.specs.Standing.{busy_at}
 use Rattle.world_runs.specs.Follows.{Acts, IsEndOf, tries, DoesLine}
 
 -- nothing is left for the op but its end: its last reply gave its answer, or was not heard

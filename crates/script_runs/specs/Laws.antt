@@ -8,8 +8,8 @@ use Rattle.world_runs.specs.Actors.{Actor}
 use Rattle.world_runs.specs.Moments.{opening, IsWorldRun, moment}
 use Rattle.world_runs.specs.Limits.{KeepsLimits}
 use Rattle.world_runs.specs.Follows.{FollowsFrom, Follows, AllFindMemory}
-use Rattle.world_runs.specs.ClientStates.{ClientState, all_idle, states_after, FitStates}
-use Rattle.world_runs.specs.Standing.{busy_at, IsInState}
+use Rattle.whole_runs.specs.ClientStates.{ClientState, all_idle, states_after, FitStates}
+use Rattle.whole_runs.specs.Standing.{busy_at, IsInState}
 use Rattle.world_runs.specs.Smooth.{EndsAtOnce, IsSmoothRun, AllStepOn, NoneSteps}
 use Rattle.script_runs.specs.InTime.{FollowsInTime, LooksTellNoAnswer}
 use Rattle.script_runs.specs.RunningOut.{RefusesAsFull}

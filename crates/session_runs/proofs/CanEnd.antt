@@ -72,7 +72,8 @@ does_next : (m : WorldState Program) → AllHaveHeard m → (op : OpId) (at : St
 does_next m heard op at r =
     asks_or_says (asked programs m op) (answered programs m op)
     (running_does programs m op record { op = op; at = at } (op_runs (m.actors op.actor).running op at r.is)
-    (λ left. heard op.actor op (r.is ∙ ap (λ (z : Standing Program). Some (let t : Running Program = record { op = op; at = z } in t)) left)))
+    (λ left. heard op.actor op (r.is ∙ ap (λ (z : Standing Program). Some (let t : Running Program = record { op = op; at = z } in t))
+    left)))
 
 -- with so many transactions left, or fewer
 pub ends_within : (bound : ℕ) (m : WorldState Program) → AllHaveHeard m → (op : OpId) (at : Standing Program) → Runs m op at

@@ -36,7 +36,7 @@ use Rattle.world_runs.specs.declared.event.Happening.TheVariants.{Acted, Ended}
 use Rattle.world_runs.specs.Actors.{Actor, Running, program_ask, program_answer, went_on}
 use Rattle.world_runs.specs.Moments.{WorldState, May, after, after_all, RunFrom, with_actor, running, asked, answered}
 use Rattle.world_runs.specs.Follows.{Acts}
-use Rattle.world_runs.proofs.Actors.{changed_there}
+use Rattle.whole_runs.proofs.Actors.{changed_there}
 use Rattle.script_runs.proofs.Histories.{IsActed, act_is}
 use Rattle.claim_words.specs.TreeSteps.{told_of, told_as, tree_steps, tree_step, says, tree_after, IsTreeRun}
 use Rattle.run_laws.specs.Pasts.{world_of}
@@ -164,7 +164,8 @@ module _ (m : WorldState Program) (t : Tree) (op : OpId) (own : ℕ) (p : Progra
 
     -- one transaction, and then the others
     step_here : (h : Heard) (y : Played) (left n rest : ℕ) (a : Answer) (es : List Event) → n ≡ rest + 1
-        → Comes (after programs m (did_so h)) (tree_after t (told_of did)) op es rest a y left → Comes m t op (did_so h ∷ es) n a y (left + 1)
+        → Comes (after programs m (did_so h)) (tree_after t (told_of did)) op es rest a y left
+        → Comes m t op (did_so h ∷ es) n a y (left + 1)
     step_here h y left n rest a es is r = record {
       count = omega (arith, r.count);
       answer = r.answer;
@@ -198,7 +199,8 @@ module _ (m : WorldState Program) (t : Tree) (op : OpId) (own : ℕ) (p : Progra
           let qt : q2 ≡ q = cc in
           let xs : x2 ≡ x = (run.0).1 ∙ ap (store_reply m.store) qt in
           let same : Own op (Acted q2 x2 h) ≡ did_so h = λ i. Own op (Acted (qt i) (xs i) h) in
-          subst (λ (e : Event). RunFrom programs (after programs m e) (es ++ Own op (Ended a) ∷ []) → Comes m t op (e ∷ es) n a y (left + 1))
+          subst (λ (e : Event). RunFrom programs (after programs m e) (es ++ Own op (Ended a) ∷ [])
+          → Comes m t op (e ∷ es) n a y (left + 1))
           (sym same) (heard_goes h es n rest a is acts) run.1
 
       pub step_goes : Goes m t op y (left + 1)

@@ -14,8 +14,8 @@ use Rattle.world_runs.specs.declared.event.Happening.TheVariants.{Began, NotBegu
 use Rattle.world_runs.specs.Actors.{Actor, Running, OwnMay, own_after}
 use Rattle.world_runs.specs.Moments.{WorldState, May, opening, after, after_all, RunFrom}
 use Rattle.world_runs.specs.Follows.{FindsMemory, AllFindMemory}
-use Rattle.world_runs.proofs.Actors.{changed}
-use Rattle.world_runs.proofs.Standings.{Asking, asks_of}
+use Rattle.whole_runs.proofs.Actors.{changed}
+use Rattle.whole_runs.proofs.Standings.{Asking, asks_of}
 use Rattle.session_runs.proofs.Standings.{command_part, went_on_as, ended_as}
 use Rattle.session_runs.specs.RunningOn.{HasHeard, AllHaveHeard}
 

@@ -107,7 +107,8 @@ module _ (m : WorldState Program) (t : Tree) (op : OpId) (own : ℕ) (k : Key) (
   unread (Ok value) = refl
   unread (Refused why) = refl
 
-  ends : (place : Place) (o : Option Node) → as_found look_reply ≡ o → StandsAt look_after t op own (look_next (looked place k look_reply o))
+  ends : (place : Place) (o : Option Node) → as_found look_reply ≡ o
+      → StandsAt look_after t op own (look_next (looked place k look_reply o))
       → Goes look_after t op (session.looked t op own k) 0
   ends place None e stands =
       let no : RefusesSo place k look_reply = look_none m.store place k e in
@@ -117,7 +118,8 @@ module _ (m : WorldState Program) (t : Tree) (op : OpId) (own : ℕ) (k : Key) (
 
   pub look_goes : Goes m t op (session.looked t op own k) 1
   look_goes =
-      let stands : StandsAt look_after t op own (look_next (looked (request_place m.counts look_request) k look_reply (as_found look_reply))) =
+      let stands : StandsAt look_after t op own (look_next (looked (request_place m.counts look_request) k look_reply
+      (as_found look_reply))) =
       stands_as _ _ t op _ own _ _ (next_stands m t op own (looks (looking.Entry k)) st look_request refl) (unread (says look_reply))
       (none_taken m.store own look_request ((role_laws look_request).untold m.store refl)) refl in
       subst (λ (u : Tree). Goes look_after u op (session.looked t op own k) 0 → Goes m t op (session.looked t op own k) 1)
@@ -229,7 +231,8 @@ module _ (m : WorldState Program) (t : Tree) (op : OpId) (own : ℕ) (k : Key) (
       let count : left ≡ (if is_some (freed_old old) then 1 else 0) =
       ap (releases (get t.entries k)) said ∙ releases_done (get t.entries k) ∙ ap (λ (b : Bool). if b then 1 else 0) (sym (there old e)) in
       subst (λ (i : ℕ). Goes mid u op p i) (sym count)
-      (then_goes mid u op own (answers.Found n) p refl refl (done_said k (answers.Found n) (tree_reply t op bind) said) (freed_old old) stands)
+      (then_goes mid u op own (answers.Found n) p refl refl (done_said k (answers.Found n) (tree_reply t op bind) said) (freed_old old)
+      stands)
 
   bind_goes : Goes m t op p (left + 1)
   bind_goes =

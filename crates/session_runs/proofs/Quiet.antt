@@ -14,7 +14,7 @@ use Rattle.claim_words.specs.TreeSteps.{told_of, tree_after}
 use Rattle.world_runs.specs.Report.{is_act_of, transactions}
 use Rattle.session_runs.proofs.Tracked.{Tracks, event_tracked, acts_last}
 use Rattle.script_runs.proofs.Histories.{numbers_grow}
-use Rattle.world_runs.proofs.OwnLines.{transactions-append}
+use Rattle.whole_runs.proofs.OwnLines.{transactions-append}
 
 and_false : (b : Bool) → (b && false) ≡ false
 and_false true = refl

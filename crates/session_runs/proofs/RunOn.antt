@@ -1,5 +1,6 @@
 -- each script in turn can be run on
-use Rattle.std.proofs.Common.{◌≡◌, ◌<◌, ◌≤◌, ◌+◌, ◌^◌, ℕ, true, inl, inr, ◌⊎◌, Option, Some, None, List, [], ◌∷◌, ◌++◌, length, refl, sym, ap}
+use Rattle.std.proofs.Common.{◌≡◌, ◌<◌, ◌≤◌, ◌+◌, ◌^◌, ℕ, true, inl, inr, ◌⊎◌, Option, Some, None, List, [], ◌∷◌, ◌++◌, length, refl, sym}
+use Rattle.std.proofs.Common.{ap}
 use Rattle.std.proofs.Common.{subst, arith, take, length-append}
 use Rattle.tect_ids.specs.declared.ids.OpId.{OpId}
 use Rattle.tect_ids.specs.declared.command.Command.{Command}
@@ -15,19 +16,19 @@ use Rattle.world_runs.specs.declared.event.Happening.TheVariants.{Began, Ended, 
 use Rattle.world_runs.specs.Actors.{Running, program_of, begun, running_op}
 use Rattle.world_runs.specs.Moments.{WorldState, May, opening, after, after_all, RunFrom, IsWorldRun, moment, running}
 use Rattle.world_runs.specs.Follows.{Acts, DoesLine, Busy, FollowsFrom, AllFindMemory}
-use Rattle.world_runs.specs.ClientStates.{ClientState, ClientStates, all_idle, with_state, state_left_at, states_after, TakesAct}
-use Rattle.world_runs.specs.ClientStates.{FitStatesFrom}
-use Rattle.world_runs.specs.ClientStates as states
+use Rattle.whole_runs.specs.ClientStates.{ClientState, ClientStates, all_idle, with_state, state_left_at, states_after, TakesAct}
+use Rattle.whole_runs.specs.ClientStates.{FitStatesFrom}
+use Rattle.whole_runs.specs.ClientStates as states
 use Rattle.script_runs.proofs.Running.{AllWell, all_well, event_well, opening_well, run_well}
-use Rattle.world_runs.proofs.Fronts.{front_runs}
+use Rattle.whole_runs.proofs.Fronts.{front_runs}
 use Rattle.script_runs.proofs.Histories.{run-front, run-append, find_memory-append}
-use Rattle.world_runs.specs.Standing.{busy_at, IsInState}
+use Rattle.whole_runs.specs.Standing.{busy_at, IsInState}
 use Rattle.world_runs.specs.Smooth.{EndsAtOnce}
 use Rattle.session_runs.specs.RunningOn.{AllHaveHeard, EachScriptCanBeRunOn}
 use Rattle.session_runs.specs.Well.{NoneFails}
 use Rattle.session_runs.proofs.Well.{none_fails-append, acts_go_well}
 use Rattle.session_runs.proofs.Hearing.{event_heard, run_heard}
-use Rattle.world_runs.proofs.Actors.{changed_there}
+use Rattle.whole_runs.proofs.Actors.{changed_there}
 use Rattle.script_runs.proofs.Lines.{IsBusy, busy_is, busy_runs, runs_as_its_op, IsDone, line_does, busy_after}
 use Rattle.script_runs.proofs.FollowOn.{turn_front, turn_back, AllStand, stand_after, stand_by_turn, opening_stand, run_follows_on}
 use Rattle.session_runs.proofs.CanEnd.{CanEnd, running_ends, to_end, end_follows, end_none_fails, end_finds, acts_take, finds_take}
@@ -91,10 +92,25 @@ module _ (m : WorldState Program) (s : AllWell m) (heard : AllHaveHeard m) (a : 
     events = began ∷ to_end (after programs m began) op can;
     next = None;
     run = (may, can.run);
-    does = ((op, began, to_end (after programs m began) op can, refl, refl, (refl, refl), (can.count, end_follows (after programs m began) op can)), refl);
+    does = (
+      (
+        op,
+        began,
+        to_end (after programs m began) op can,
+        refl,
+        refl,
+        (refl, refl),
+        (can.count, end_follows (after programs m began) op can),
+      ),
+      refl,
+    );
     none_fails = (tt, end_none_fails (after programs m began) op can);
     finds = (tt, end_finds (after programs m began) op can);
-    at_once = (tt, end_at_once programs op (after programs m began) can.count can.front (Own op (Ended can.answer)) (refl, tt) can.acts can.run);
+    at_once = (
+      tt,
+      end_at_once programs op (after programs m began) can.count can.front (Own op (Ended can.answer)) (refl, tt) can.acts
+          can.run,
+    );
   }
 
 -- a busy actor
@@ -175,7 +191,8 @@ module _ (m : WorldState Program) (s : AllWell m) (heard : AllHaveHeard m) (a : 
   line_can states.Idle (acts.Do c) from upto takes stood few =
       subst (λ (o : Option OpId). CanDo m a o (acts.Do c)) (sym (ap running_op stood.0)) (can_do m s heard a c from upto takes stood few)
   line_can states.Idle (acts.Begin c) from upto takes stood few =
-      subst (λ (o : Option OpId). CanDo m a o (acts.Begin c)) (sym (ap running_op stood.0)) (can_begin m s heard a c from upto takes stood few)
+      subst (λ (o : Option OpId). CanDo m a o (acts.Begin c)) (sym (ap running_op stood.0))
+      (can_begin m s heard a c from upto takes stood few)
   line_can states.Idle (acts.Step n) from upto takes stood few = absurd takes
   line_can states.Idle acts.Run from upto takes stood few = absurd takes
   line_can states.Idle acts.Stop from upto takes stood few = absurd takes
@@ -199,7 +216,8 @@ record CanFollow (m : WorldState Program) (ls : List Line) : Type 0 where
 
 lines_can : (ls : List Line) (m : WorldState Program) (states : ClientStates) (k : ℕ) → AllWell m → AllHaveHeard m
     → FitStatesFrom programs states ls → AllStand m states k → k + length ls < 2 ^ 31 → CanFollow m ls
-lines_can [] m states k s heard in_turn all few = record { events = []; run = tt; follows = refl; none_fails = tt; finds = tt; at_once = tt }
+lines_can [] m states k s heard in_turn all few = record
+    { events = []; run = tt; follows = refl; none_fails = tt; finds = tt; at_once = tt }
 lines_can (lines.Client client a act ∷ ls) m states k s heard in_turn all few =
     let d : CanDo m a (busy_at m a) act = line_can m s heard a (states a) act in_turn.0 in_turn.1 in_turn.2 (all a).stands
     (omega (arith, (all a).began, few)) in
@@ -244,12 +262,14 @@ lines_can (lines.Lose disk ∷ ls) m states k s heard in_turn all few = absurd i
 pub each_script_can_be_run_on : EachScriptCanBeRunOn
 each_script_can_be_run_on counts front back history in_turn few run f heard =
     let all : AllStand (moment programs counts history) (states_after all_idle front) (0 + length front) =
-    stand_by_turn programs front (opening counts) all_idle 0 history (opening_well counts) (turn_front programs front back all_idle in_turn) run
+    stand_by_turn programs front (opening counts) all_idle 0 history (opening_well counts)
+    (turn_front programs front back all_idle in_turn) run
     f (opening_stand counts) in
     let rest : CanFollow (moment programs counts history) back =
     lines_can back (moment programs counts history) (states_after all_idle front) (0 + length front) (all_well programs counts history run)
     heard (turn_back programs front back all_idle in_turn) all (omega (arith, few, length-append front back)) in
-    let whole : IsWorldRun programs counts (history ++ rest.events) = run-append programs (opening counts) history rest.events run rest.run in (
+    let whole : IsWorldRun programs counts (history ++ rest.events) =
+    run-append programs (opening counts) history rest.events run rest.run in (
       rest.events,
       whole,
       run_follows_on programs counts front back history rest.events whole f rest.follows,

@@ -30,8 +30,8 @@ use Rattle.telling_laws.proofs.Histories.{tree_steps-append}
 use Rattle.session_runs.proofs.Quiet.{Quiet, quiet_run}
 use Rattle.script_runs.proofs.Histories.{run-front, run-rest, report-append, IsActed, act_is}
 use Rattle.script_runs.proofs.Moves.{acts_move}
-use Rattle.world_runs.proofs.Actors.{after_all-append, changed_there}
-use Rattle.world_runs.proofs.OwnLines.{transactions-append}
+use Rattle.whole_runs.proofs.Actors.{after_all-append, changed_there}
+use Rattle.whole_runs.proofs.OwnLines.{transactions-append}
 use Rattle.session_runs.proofs.Standings.{ended_as}
 use Rattle.session_runs.specs.Well.{NoneFails}
 use Rattle.session_runs.proofs.Well.{none_fails-front, none_fails-rest, begin_is}
@@ -63,7 +63,8 @@ acts_count op n (e ∷ es) acts =
 -- ---- a command
 
 -- as the tree plays it
-command_goes : (m : WorldState Program) (t : Tree) (op : OpId) (c : Command) (own number : ℕ) → op ≡ record { actor = 1; number = number + 1 }
+command_goes : (m : WorldState Program) (t : Tree) (op : OpId) (c : Command) (own number : ℕ)
+    → op ≡ record { actor = 1; number = number + 1 }
     → IsPlayed c → StandsAt m t op own (started (begun c))
     → Goes m t op (played t own number c) (played t own number c).transactions
 command_goes m t op (commands.Look (n ∷ [])) own number one is st =
@@ -188,7 +189,8 @@ module _ (clients : List (List ℕ)) (m : WorldState Program) (t : Tree) (before
 -- the lines of the commands are those of the tree, from each moment between two commands
 abbrev LinesAgree : List (List ℕ) → List ℕ → List Command → Type 0
 LinesAgree clients client cs =
-    (m : WorldState Program) (t : Tree) (before es : List Event) (own number : ℕ) (busy : Busy) → Between m t before own number → busy 1 ≡ None
+    (m : WorldState Program) (t : Tree) (before es : List Event) (own number : ℕ) (busy : Busy) → Between m t before own number
+    → busy 1 ≡ None
     → AllByRecursion IsPlayed cs
     → RunFrom programs m es → NoneFails es → FollowsFrom busy (session_script client cs) es
     → report_after clients before es ≡ session_lines clients t own number cs
@@ -220,7 +222,8 @@ module _ (clients : List (List ℕ)) (client : List ℕ) (c : Command) (cs : Lis
   end_agrees : (op : OpId) (front rest : List Event) (n : ℕ) (end : Event) (next : Option OpId) → op.actor ≡ 1 → Acts op n front
       → IsEndOf op end → es ≡ (Own op (Began c) ∷ front ++ end ∷ []) ++ rest → next ≡ None
       → FollowsFrom (with_busy busy 1 next) (session_script client cs) rest → Agrees
-  end_agrees op front rest n (Own o (Ended a)) next one acts is parts free more = first_agrees op front rest n a next one acts (rw is.0 at parts)
+  end_agrees op front rest n (Own o (Ended a)) next one acts is parts free more =
+      first_agrees op front rest n a next one acts (rw is.0 at parts)
       free more
   end_agrees op front rest n (Own o (Failed a)) next one acts is parts free more =
       let fails : NoneFails (Own o (Failed a) ∷ []) = none_fails-rest (Own op (Began c) ∷ front) (Own o (Failed a) ∷ [])

@@ -8,15 +8,16 @@ use Rattle.world_runs.specs.declared.event.Event.{Event}
 use Rattle.world_runs.specs.Moments.{IsWorldRun}
 use Rattle.world_runs.specs.Follows.{Follows, AllFindMemory}
 use Rattle.program_rules.specs.Served.{is_served, programs}
-use Rattle.world_runs.specs.ClientStates.{ClientStates, TakesAct, FitStatesFrom, all_idle, with_state}
-use Rattle.world_runs.specs.ClientStates as states
+use Rattle.whole_runs.specs.ClientStates.{ClientStates, TakesAct, FitStatesFrom, all_idle, with_state}
+use Rattle.whole_runs.specs.ClientStates as states
 use Rattle.session_runs.specs.Session.{session_script}
 use Rattle.session_runs.specs.Well.{NoneFails}
 use Rattle.session_runs.proofs.Hearing.{opening_heard}
 use Rattle.session_runs.proofs.RunOn.{each_script_can_be_run_on}
 
 -- the client is idle before each of its commands
-session_in_turn : (client : List ℕ) (now : ClientStates) (cs : List Command) → now 1 ≡ states.Idle → AllByRecursion (λ c. is_served c ≡ true) cs
+session_in_turn : (client : List ℕ) (now : ClientStates) (cs : List Command) → now 1 ≡ states.Idle
+    → AllByRecursion (λ c. is_served c ≡ true) cs
     → FitStatesFrom programs now (session_script client cs)
 session_in_turn client now [] idle all = tt
 session_in_turn client now (c ∷ cs) idle all =

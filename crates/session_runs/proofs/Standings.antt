@@ -71,7 +71,8 @@ pub went_on_as : (counts : Counts) (s : Actor Program) (o : Option (Running Prog
     ≡ record s { memory = always s.memory q x; running = Some record { op = op; at = stands_after counts s.memory op p q x h } }
 went_on_as counts s o op p q x h e =
     ap (λ (r : Option (Running Program)). went_on programs counts s r q x h) e
-    ∙ ap (λ (m : Memory). record s { memory = m; running = Some record { op = op; at = standing_heard programs counts s.memory op (Goes p) q x h } })
+    ∙ ap (λ (m : Memory). record s
+    { memory = m; running = Some record { op = op; at = standing_heard programs counts s.memory op (Goes p) q x h } })
     (memory_same counts s.memory op p q x h)
     ∙ ap (λ (t : Standing Program). record s { memory = always s.memory q x; running = Some record { op = op; at = t } })
     (stands_same counts s.memory op p q x h)

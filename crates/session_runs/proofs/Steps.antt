@@ -19,12 +19,12 @@ use Rattle.world_runs.specs.declared.event.Happening.{Happening}
 use Rattle.world_runs.specs.declared.event.Happening.TheVariants.{Acted}
 use Rattle.world_runs.specs.Actors.{Actor, Running, program_of, own_after, standing_heard, went_on}
 use Rattle.world_runs.specs.Moments.{WorldState, May, after}
-use Rattle.world_runs.proofs.Actors.{changed_there}
-use Rattle.world_runs.proofs.Standings.{Asking, asks_of, went_on_number}
+use Rattle.whole_runs.proofs.Actors.{changed_there}
+use Rattle.whole_runs.proofs.Standings.{Asking, asks_of, went_on_number}
 use Rattle.fall_laws.specs.Counting.{is_look, is_no_look}
 use Rattle.fall_laws.specs.Bounding.{Many, none, one_if, Falls}
-use Rattle.names_told.specs.NamesBounding.{names_bounding}
-use Rattle.names_told.proofs.NamesFall.{names_fall_so, names_never_grow}
+use Rattle.names_told.specs.NamesTelling.{names_bounding}
+use Rattle.names_told.proofs.Operations.{names_fall_so, names_never_grow}
 
 -- the op runs, and stands so
 pub record Runs (m : WorldState Program) (op : OpId) (at : Standing Program) : Type 0 where

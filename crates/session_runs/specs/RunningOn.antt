@@ -9,7 +9,7 @@ use Rattle.world_runs.specs.declared.event.Event.{Event}
 use Rattle.world_runs.specs.Actors.{Running}
 use Rattle.world_runs.specs.Moments.{WorldState, IsWorldRun, moment}
 use Rattle.world_runs.specs.Follows.{Follows, AllFindMemory}
-use Rattle.world_runs.specs.ClientStates.{FitStates}
+use Rattle.whole_runs.specs.ClientStates.{FitStates}
 use Rattle.world_runs.specs.Smooth.{EndsAtOnce}
 use Rattle.session_runs.specs.Well.{NoneFails}
 

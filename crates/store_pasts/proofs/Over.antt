@@ -103,12 +103,6 @@ module _ {R : Type 0} (w : World) (op : OpId) where
   settled_later None (Some a) = over_later w op
   settled_later (Some b) now = later_same _ w
 
-  -- what was not granted is not
-  pub settled_free : (was now : Option R) (h : Hold) → w.ghost.given h ≡ None → (settled op was now w).ghost.given h ≡ None
-  settled_free None None h e = e
-  settled_free None (Some a) h e = over_free w op h e
-  settled_free (Some b) now h e = e
-
   -- where nothing is decided by the step, it gives nothing up
   pub settles_nothing : (was now : Option R) → (was ≡ None → now ≡ None) → settled op was now w ≡ w
   settles_nothing None None none = refl

@@ -4,15 +4,13 @@ use Rattle.tect_ids.specs.declared.ids.Hold.{Hold}
 use Rattle.tect_ids.specs.declared.ids.Node.{Node}
 use Rattle.tect_ids.specs.declared.ids.OpId.{OpId}
 use Rattle.tect_ids.specs.Keys.{op_eq, hold_eq, node_eq}
-use Rattle.store_rules.specs.declared.names.NameReq.{NameReq}
-use Rattle.store_rules.specs.declared.files.FileReq.{FileReq}
 use Rattle.store_rules.specs.declared.any.AnyReq.{AnyReq}
 use Rattle.store_rules.specs.declared.any.AnyReply.{AnyReply}
 use Rattle.store_rules.specs.Holds.{HoldUse, Grants, Binds, GivesUp, NoHold, hold_use}
 use Rattle.store_rules.specs.Store.{store_reply}
 use Rattle.store_pasts.specs.Ghosts.{World}
 use Rattle.store_pasts.specs.Later.{Touched, Later}
-use Rattle.store_pasts.specs.Roles.{name_role, file_role, role}
+use Rattle.store_pasts.specs.Roles.{role}
 pub use Rattle.store_pasts.specs.Roles.{FoundTaught, MadeTaught, OldSpent, BoundTaught, SwappedTaught, UnboundTaught, GrantTaught}
 
 -- nothing
@@ -54,13 +52,6 @@ touched_by q =
 -- it makes a node
 abbrev pub makes : AnyReq → Bool
 makes q = is_some (role q).makes
-
--- what has to be known before a request is made
-abbrev pub NameNeeds : World → NameReq → Type 0
-NameNeeds w q = (name_role q).needs w
-
-abbrev pub FileNeeds : World → FileReq → Type 0
-FileNeeds w q = (file_role q).needs w
 
 abbrev pub Needs : World → AnyReq → Type 0
 Needs w q = (role q).needs w

@@ -75,7 +75,8 @@ pub make_file_row : (f : FileId) (h : Hold) (k : Key) (t : Option OpId) → Row 
 make_file_row f h k t = record {
   kept = λ w s needs. by_answer w (any.File (files.MakeFile f h k t)) _ refl (file_not_refused w s f h k t needs)
       (file_made w s f h k t needs);
-  laws = makes_one (any.File (files.MakeFile f h k t)) record { node = File f; hold = h; key = k } refl (λ w needs. needs.1) (λ w k. tt) refl
+  laws = makes_one (any.File (files.MakeFile f h k t)) record { node = File f; hold = h; key = k } refl (λ w needs. needs.1)
+      (λ w k. tt) refl
       (λ w needs. needs.0) (λ v x t. t);
 }
 

@@ -29,12 +29,3 @@ read_fault left rest bytes (faults.TooLarge what limit) taken at_end complete fi
       spells_none = λ plan spells. (let wrong : faults.TooLarge what limit ≡ faults.NoMemory = complete plan spells in cc);
       first = first;
     })
-
--- the input has more bytes than a script may
-pub too_long : (left rest : Option (List ℕ)) (front : List ℕ) → Consumes left rest front → length front ≡ 67108864 + 1
-    → IsScriptFault left (faults.TooLarge limits.Script 67108864)
-too_long None rest front taken more = tt
-too_long (Some input) None front taken more = absurd taken
-too_long (Some input) (Some rest) front taken more =
-    let long : 67108864 < length input = omega (arith, more, ap length taken, length-append front rest) in
-    record { spells_none = λ plan spells. omega (arith, long, spells.size); first = inl (long, refl) }

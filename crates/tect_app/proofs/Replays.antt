@@ -25,7 +25,7 @@ use Rattle.world_runs.specs.OwnRuns.{stored_after}
 use Rattle.world_runs.specs.Follows.{Follows}
 use Rattle.world_runs.specs.Limits.{KeepsLimits}
 use Rattle.world_runs.specs.Moments.{after, opening, moment, RunFrom, IsWorldRun}
-use Rattle.world_runs.specs.Playable.{IsWithin, IsPlayable}
+use Rattle.whole_runs.specs.Playable.{IsWithin, IsPlayable}
 use Rattle.world_runs.specs.Report.{happening_lines, lines_at, report_after}
 use Rattle.world_runs.specs.Smooth.{EndsAtOnce, StepsOn, AllStepOn}
 use Rattle.run_claims.proofs.Claims.{every_run_is_claimed}
@@ -33,7 +33,7 @@ use Rattle.script_runs.specs.InTime.{LooksTellNoAnswer}
 use Rattle.script_runs.proofs.Fixed.{script_fixes_run_without_looks}
 use Rattle.run_claims.proofs.RunsKeep.{no_run_answers_odd}
 use Rattle.session_runs.proofs.Standings.{next_same}
-use Rattle.world_runs.proofs.Actors.{after_all-append}
+use Rattle.whole_runs.proofs.Actors.{after_all-append}
 use Rattle.script_runs.proofs.Histories.{run-append}
 use Rattle.session_runs.proofs.Scripts.{session_reported}
 use Rattle.tect_replay.specs.Replays.{IsReplayed, IsCutReplay}

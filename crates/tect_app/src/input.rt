@@ -3,7 +3,7 @@ ghost use Rattle.std.specs.Io.KnownBytes.{IsAtEnd};
 ghost use Rattle.script_forms.specs.Spelling.{Spells};
 ghost use Rattle.tect_edge.specs.Counts.{Rose};
 ghost use Rattle.program_rules.specs.Served.{programs};
-ghost use Rattle.world_runs.specs.Playable.{IsPlayable};
+ghost use Rattle.whole_runs.specs.Playable.{IsPlayable};
 ghost use Rattle.tect_app.specs.Headline.{IsReadWithin};
 ghost use Rattle.tect_app.specs.Refusals.{IsInputFault};
 

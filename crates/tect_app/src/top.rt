@@ -5,7 +5,7 @@ ghost use Rattle.tect_app.specs.Headline.{InMode, IsReadWithin, IsReported, IsUs
 ghost use Rattle.tect_app.specs.Headline.{IsSplitEnd};
 ghost use Rattle.tect_app.specs.Statuses.{IsReportStatus};
 ghost use Rattle.program_rules.specs.Served.{programs};
-ghost use Rattle.world_runs.specs.Playable.{IsPlayable};
+ghost use Rattle.whole_runs.specs.Playable.{IsPlayable};
 ghost use Rattle.tect_app.specs.Replays.{IsReplayShown, IsReplayCut};
 
 use crate::input::{InputFault, read_plan};

@@ -6,7 +6,7 @@ use Rattle.std.proofs.Math.Nat.{mod-lt}
 use Rattle.std.proofs.lemmas.List.{append-nil, reverse-append, reverse-reverse}
 use Rattle.std.proofs.lemmas.Bool.{cases_lt}
 use Rattle.std.proofs.lemmas.Option.{slice_get_within, same_Some}
-use Rattle.players.specs.declared.racer.Racer.{Racer}
+use Rattle.racers.specs.declared.racer.Racer.{Racer}
 use Rattle.tect_race.specs.declared.workers.Worker.{Worker}
 use Rattle.tect_race.specs.Ready.{AreAssigned, AreCollected, CanBeCollected}
 use Rattle.tect_race.proofs.Shares.{IsShare, some_at, set_cases, share_last, share_less, share_more, share_some, share_stayed, share_stays}

@@ -13,7 +13,7 @@ use Rattle.tect_ids.specs.declared.script.ReportLine.{ReportLine}
 use Rattle.program_forms.specs.Kinds.{Programs}
 use Rattle.race_runs.specs.Gathered.{IsLineOf}
 use Rattle.passes.specs.declared.pass.Pass.{Pass}
-use Rattle.players.specs.declared.racer.Racer.{Racer}
+use Rattle.racers.specs.declared.racer.Racer.{Racer}
 use Rattle.race_ends.specs.declared.ended.EndedPart.{EndedPart}
 use Rattle.race_ends.specs.HaveRun.{HaveRun}
 use Rattle.tect_race.specs.Workers.{RacersRan, AllClosed}

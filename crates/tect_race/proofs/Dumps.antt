@@ -11,15 +11,15 @@ use Rattle.entry_words.specs.Moments.{stamp_of}
 use Rattle.world_runs.specs.declared.event.Event.TheVariants.{Dumped}
 use Rattle.world_runs.specs.Races.{line_concerns}
 use Rattle.world_runs.specs.Actors.{idle_actor}
-use Rattle.world_runs.specs.ClientLines.{DoesLines}
+use Rattle.whole_runs.specs.ClientLines.{DoesLines}
 use Rattle.world_runs.specs.Smooth.{OwnEndsAtOnce}
 use Rattle.world_runs.proofs.Prompt.{ends_at_once-append}
 use Rattle.clients.specs.Lives.{ClientLife, events_in}
 use Rattle.race_runs.specs.Stories.{Part, Story, with_dumps}
 use Rattle.race_runs.proofs.Growing as growing
 use Rattle.race_runs.proofs.Growing.{no_part, dumped, moments_dumped, events_dumped, dumps_dumped, timely_dumped, answers_dumped}
-use Rattle.players.specs.declared.racer.Racer.{Racer}
-use Rattle.players.specs.Lives.{busy_in}
+use Rattle.racers.specs.declared.racer.Racer.{Racer}
+use Rattle.racers.specs.Lives.{busy_in}
 use Rattle.race_ends.specs.declared.ended.EndedPart.{EndedPart}
 use Rattle.tect_race.specs.Workers.{Closed, AllClosed, RacersRan}
 use Rattle.tect_race.specs.Standing.{Stands, AllStand, last_clock, first_answers, later_parts, HaveEnded}

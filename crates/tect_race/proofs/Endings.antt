@@ -7,7 +7,7 @@ use Rattle.std.proofs.lemmas.List.{append-nil}
 use Rattle.std.proofs.lemmas.Option.{slice_get_within}
 use Rattle.tect_ids.specs.declared.ids.Counts.{Counts}
 use Rattle.clients.specs.Lives.{idle_life}
-use Rattle.players.specs.declared.racer.Racer.{Racer}
+use Rattle.racers.specs.declared.racer.Racer.{Racer}
 use Rattle.tect_race.specs.Done.{AreNew}
 use Rattle.tect_race.proofs.Shares.{at_end, not_end, same_at}
 

@@ -11,13 +11,13 @@ use Rattle.world_runs.specs.Events.{IsPlaced, IsOwnNote}
 use Rattle.world_runs.specs.Limits.{OwnLimits}
 use Rattle.world_runs.specs.OwnRuns.{OwnRun}
 use Rattle.world_runs.specs.Refusals.{AreOfRefused}
-use Rattle.world_runs.proofs.Refusals.{of_refused-front, of_refused-rest}
+use Rattle.whole_runs.proofs.Refusals.{of_refused-front, of_refused-rest}
 use Rattle.clients.specs.Lives.{ClientLife, events_in, IsLife}
 use Rattle.noted_runs.proofs.Rooms.{own_notes}
 use Rattle.passes.specs.declared.pass.Pass.{Pass}
 use Rattle.race_runs.specs.Stories.{Part, Story, SilentAfter, all_moments, all_events}
-use Rattle.players.specs.declared.racer.Racer.{Racer}
-use Rattle.players.specs.Lives.{busy_in}
+use Rattle.racers.specs.declared.racer.Racer.{Racer}
+use Rattle.racers.specs.Lives.{busy_in}
 use Rattle.tect_race.specs.Passes.{IsPassOf}
 use Rattle.tect_race.specs.Workers.{Closed}
 use Rattle.tect_race.specs.Standing.{Stands, all_silent}

@@ -9,17 +9,17 @@ use Rattle.tect_ids.specs.declared.script.Line.{Line}
 use Rattle.tect_ids.specs.declared.script.Line.TheVariants as lines
 use Rattle.tect_ids.specs.declared.script.ReportLine.{ReportLine}
 use Rattle.entry_words.specs.Moments.{stamp_of}
-use Rattle.world_runs.specs.ClientStates.{all_idle}
+use Rattle.whole_runs.specs.ClientStates.{all_idle}
 use Rattle.clients.specs.Lives.{ClientLife, idle_life, events_in, state_in}
 use Rattle.passes.specs.declared.pass.Pass.{Pass}
 use Rattle.race_runs.specs.Stories.{Story, Part}
 use Rattle.race_runs.specs.Gathered.{IsLineOf, is_dump, answers_now, part_of, rest_of}
 use Rattle.race_runs.proofs.Growing.{no_story, dumped}
-use Rattle.players.specs.declared.racer.Racer.{Racer}
-use Rattle.players.specs.Lives.{busy_in}
+use Rattle.racers.specs.declared.racer.Racer.{Racer}
+use Rattle.racers.specs.Lives.{busy_in}
 use Rattle.race_ends.specs.declared.ended.EndedPart.{EndedPart}
 use Rattle.race_ends.specs.HaveRun.{clocks_of, HasStory, HaveAnswers, HaveRun}
-use Rattle.world_runs.specs.Standing.{IsInState}
+use Rattle.whole_runs.specs.Standing.{IsInState}
 use Rattle.tect_ids.specs.Places.{HasPlaces}
 use Rattle.program_forms.specs.Kinds.{Programs}
 use Rattle.tect_race.specs.Lines.{Ran}

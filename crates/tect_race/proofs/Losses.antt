@@ -13,8 +13,8 @@ use Rattle.place_locks.specs.Commits.{IsRefusalFor}
 use Rattle.entry_words.specs.Labels.{label_at}
 use Rattle.players.specs.declared.fault.RacerFault.{RacerFault}
 use Rattle.players.specs.declared.fault.RacerFault.TheVariants as racer_faults
-use Rattle.players.specs.Lines.{IsFaultOf}
-use Rattle.players.specs.Steps.{FoundAstray}
+use Rattle.racers.specs.Lines.{IsFaultOf}
+use Rattle.racers.specs.Steps.{FoundAstray}
 use Rattle.race_ends.specs.declared.fault.RaceFault.{RaceFault}
 use Rattle.race_ends.specs.declared.fault.RaceFault.TheVariants as faults
 use Rattle.race_ends.specs.Faults.{IsLossOf}

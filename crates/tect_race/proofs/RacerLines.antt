@@ -15,20 +15,21 @@ use Rattle.world_runs.specs.Actors.{Actor}
 use Rattle.world_runs.specs.OwnRuns.{own_state}
 use Rattle.world_runs.specs.Races.{line_concerns, own_lines}
 use Rattle.world_runs.specs.Follows.{DoesLine}
-use Rattle.world_runs.specs.ClientStates.{ClientState, ClientStates, state_left_at, with_state}
+use Rattle.whole_runs.specs.ClientStates.{ClientState, ClientStates, state_left_at, with_state}
 use Rattle.world_runs.specs.Smooth.{OwnEndsAtOnce}
-use Rattle.world_runs.specs.Standing.{IsInState}
-use Rattle.world_runs.specs.ClientLines.{DoesLines}
+use Rattle.whole_runs.specs.Standing.{IsInState}
+use Rattle.whole_runs.specs.ClientLines.{DoesLines}
 use Rattle.noted_runs.proofs.Following.{does_lines-append}
-use Rattle.world_runs.proofs.OwnLines.{own_lines-append}
+use Rattle.whole_runs.proofs.OwnLines.{own_lines-append}
 use Rattle.world_runs.proofs.Prompt.{ends_at_once-append}
-use Rattle.world_runs.proofs.Actors.{same_number, other_number, flipped}
+use Rattle.world_runs.proofs.Actors.{same_number}
+use Rattle.whole_runs.proofs.Actors.{other_number, flipped}
 use Rattle.clients.specs.Lives.{ClientLife, events_in, state_in}
-use Rattle.players.specs.declared.racer.Racer.{Racer}
-use Rattle.players.specs.Lives.{busy_in, news_events}
-use Rattle.players.specs.Lines.{Adds, Plays}
-use Rattle.players.specs.Steps.{Grows}
-use Rattle.players.proofs.Growths.{added_events, grows_actor, grows_both, grows_counts, grows_events, grows_none, grows_state}
+use Rattle.racers.specs.declared.racer.Racer.{Racer}
+use Rattle.racers.specs.Lives.{busy_in, news_events}
+use Rattle.racers.specs.Lines.{Adds, Plays}
+use Rattle.racers.specs.Steps.{Grows}
+use Rattle.racers.proofs.Growths.{added_events, grows_actor, grows_both, grows_counts, grows_events, grows_none, grows_state}
 use Rattle.tect_race.specs.Lines.{Ran, PlaysOrRests}
 use Rattle.tect_race.specs.Ready.{IsReady}
 

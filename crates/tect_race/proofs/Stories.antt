@@ -16,20 +16,20 @@ use Rattle.world_runs.specs.declared.event.Event.TheVariants.{Dumped}
 use Rattle.world_runs.specs.Actors.{Actor, idle_actor}
 use Rattle.world_runs.specs.OwnRuns.{own_state}
 use Rattle.world_runs.specs.Races.{line_concerns, own_lines}
-use Rattle.world_runs.specs.ClientLines.{DoesLines}
+use Rattle.whole_runs.specs.ClientLines.{DoesLines}
 use Rattle.world_runs.specs.Smooth.{OwnEndsAtOnce}
 use Rattle.world_runs.proofs.Actors.{own_state-append}
 use Rattle.world_runs.proofs.Prompt.{ends_at_once-append}
 use Rattle.clients.specs.Lives.{events_in, state_in}
 use Rattle.race_runs.specs.Stories.{Part, Story, Timely, Answers, all_moments, all_events, with_dumps, part_events}
 use Rattle.race_runs.proofs.Growing.{no_part, with_part}
-use Rattle.players.specs.declared.racer.Racer.{Racer}
-use Rattle.players.specs.Lives.{busy_in, news_events}
+use Rattle.racers.specs.declared.racer.Racer.{Racer}
+use Rattle.racers.specs.Lives.{busy_in, news_events}
 use Rattle.tect_race.specs.Lines.{Ran}
 use Rattle.tect_race.specs.Standing.{Stands, all_silent, last_clock}
 use Rattle.noted_runs.proofs.Following.{does_lines-append}
-use Rattle.players.proofs.Growths.{both_news}
-use Rattle.world_runs.proofs.OwnLines.{own_lines-append}
+use Rattle.racers.proofs.Growths.{both_news}
+use Rattle.whole_runs.proofs.OwnLines.{own_lines-append}
 use Rattle.tect_race.proofs.RacerLines.{adds_actor, adds_counts, adds_moments, adds_silent, adds_events}
 
 -- ---- one list for all parts

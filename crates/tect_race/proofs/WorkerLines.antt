@@ -7,12 +7,12 @@ use Rattle.tect_ids.specs.declared.script.Act.{Act}
 use Rattle.tect_ids.specs.declared.script.Line.{Line}
 use Rattle.tect_ids.specs.declared.script.Line.TheVariants as lines
 use Rattle.program_forms.specs.Kinds.{Programs}
-use Rattle.world_runs.specs.ClientStates.{ClientState, TakesAct}
-use Rattle.world_runs.specs.Standing.{IsInState}
+use Rattle.whole_runs.specs.ClientStates.{ClientState, TakesAct}
+use Rattle.whole_runs.specs.Standing.{IsInState}
 use Rattle.clients.specs.Lives.{state_in}
-use Rattle.players.specs.declared.racer.Racer.{Racer}
+use Rattle.racers.specs.declared.racer.Racer.{Racer}
 use Rattle.tect_race.specs.declared.workers.Worker.{Worker}
-use Rattle.players.specs.Lines.{Plays}
+use Rattle.racers.specs.Lines.{Plays}
 use Rattle.tect_race.specs.Lines.{Ran, PlaysOrRests}
 use Rattle.tect_race.specs.Workers.{WorkerPlays, WorkerRan}
 use Rattle.tect_race.specs.Ready.{IsReady, IsWorker, IsOfClient}

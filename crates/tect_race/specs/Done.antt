@@ -4,10 +4,10 @@ use Rattle.std.specs.List.{All}
 use Rattle.tect_ids.specs.declared.ids.Counts.{Counts}
 use Rattle.tect_ids.specs.declared.script.Line.{Line}
 use Rattle.program_forms.specs.Kinds.{Programs}
-use Rattle.world_runs.specs.ClientStates.{FitStates}
+use Rattle.whole_runs.specs.ClientStates.{FitStates}
 use Rattle.clients.specs.Lives.{idle_life}
 use Rattle.race_runs.specs.Gathered.{IsLineOf}
-use Rattle.players.specs.declared.racer.Racer.{Racer}
+use Rattle.racers.specs.declared.racer.Racer.{Racer}
 
 pub record AreNew {S : Type 0} (counts : Counts) (clients : ℕ) (rs : List (Racer S)) : Type 0 where
   pub count : length rs ≡ clients

@@ -6,10 +6,10 @@ use Rattle.program_forms.specs.Kinds.{Programs}
 use Rattle.entry_words.specs.declared.entry.Moment.{Moment}
 use Rattle.world_runs.specs.declared.event.Event.{Event}
 use Rattle.world_runs.specs.Races.{line_concerns}
-use Rattle.world_runs.specs.ClientLines.{DoesLines}
-use Rattle.players.specs.declared.racer.Racer.{Racer}
-use Rattle.players.specs.Lives.{busy_in, news_events}
-use Rattle.players.specs.Lines.{Adds, Plays}
+use Rattle.whole_runs.specs.ClientLines.{DoesLines}
+use Rattle.racers.specs.declared.racer.Racer.{Racer}
+use Rattle.racers.specs.Lives.{busy_in, news_events}
+use Rattle.racers.specs.Lines.{Adds, Plays}
 
 -- It did its lines among these.
 pub record Ran {S : Type 0} (P : Programs S) (names : List (List ℕ)) (ls : List Line) (old new : Racer S) : Type 0 where

@@ -1,7 +1,7 @@
 -- The passes of the clients of a race.
 use Rattle.std.specs.Prelude.{◌≡◌}
 use Rattle.passes.specs.declared.pass.Pass.{Pass}
-use Rattle.players.specs.declared.racer.Racer.{Racer}
+use Rattle.racers.specs.declared.racer.Racer.{Racer}
 
 -- it is what the client noted
 pub record IsPassOf {S : Type 0} (r : Racer S) (p : Pass) : Type 0 where

@@ -6,7 +6,7 @@ use Rattle.tect_ids.specs.declared.script.Line.{Line}
 use Rattle.program_forms.specs.Kinds.{Programs}
 use Rattle.race_runs.specs.Gathered.{is_dump}
 use Rattle.race_runs.specs.Stories.{Story}
-use Rattle.players.specs.declared.racer.Racer.{Racer}
+use Rattle.racers.specs.declared.racer.Racer.{Racer}
 use Rattle.race_ends.specs.HaveRun.{clocks_of}
 use Rattle.race_ends.specs.declared.ended.EndedPart.{EndedPart}
 use Rattle.tect_race.specs.Ready.{AreRacers, IsOfClient}

@@ -5,10 +5,10 @@ use Rattle.tect_ids.specs.declared.ids.Counts.{Counts}
 use Rattle.tect_ids.specs.declared.script.Line.{Line}
 use Rattle.tect_ids.specs.declared.script.Line.TheVariants as lines
 use Rattle.program_forms.specs.Kinds.{Programs}
-use Rattle.world_runs.specs.ClientStates.{ClientStates, FitStatesFrom}
-use Rattle.world_runs.specs.Standing.{IsInState}
+use Rattle.whole_runs.specs.ClientStates.{ClientStates, FitStatesFrom}
+use Rattle.whole_runs.specs.Standing.{IsInState}
 use Rattle.clients.specs.Lives.{state_in}
-use Rattle.players.specs.declared.racer.Racer.{Racer}
+use Rattle.racers.specs.declared.racer.Racer.{Racer}
 use Rattle.tect_race.specs.declared.workers.Worker.{Worker}
 
 -- the line is of one of so many clients

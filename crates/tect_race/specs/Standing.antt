@@ -9,12 +9,12 @@ use Rattle.world_runs.specs.declared.event.Event.{Event}
 use Rattle.program_forms.specs.Kinds.{Programs}
 use Rattle.world_runs.specs.Actors.{idle_actor}
 use Rattle.world_runs.specs.Races.{line_concerns}
-use Rattle.world_runs.specs.ClientLines.{DoesLines}
+use Rattle.whole_runs.specs.ClientLines.{DoesLines}
 use Rattle.world_runs.specs.Smooth.{OwnEndsAtOnce}
 use Rattle.clients.specs.Lives.{events_in}
 use Rattle.race_runs.specs.Stories.{Part, Story, Timely, Answers, all_moments, all_events, with_dumps}
-use Rattle.players.specs.declared.racer.Racer.{Racer}
-use Rattle.players.specs.Lives.{busy_in}
+use Rattle.racers.specs.declared.racer.Racer.{Racer}
+use Rattle.racers.specs.Lives.{busy_in}
 use Rattle.race_ends.specs.declared.ended.EndedPart.{EndedPart}
 
 -- the events of the ops that were refused

@@ -6,7 +6,7 @@ use Rattle.clients.specs.Lives.{IsLife}
 use Rattle.tect_ids.specs.declared.ids.Counts.{Counts}
 use Rattle.tect_ids.specs.declared.script.Line.{Line}
 use Rattle.tect_ids.specs.declared.script.ReportLine.{ReportLine}
-use Rattle.players.specs.declared.racer.Racer.{Racer}
+use Rattle.racers.specs.declared.racer.Racer.{Racer}
 use Rattle.tect_race.specs.declared.workers.Worker.{Worker}
 use Rattle.race_ends.specs.declared.fault.RaceFault.{RaceFault}
 use Rattle.race_ends.specs.Faults.{IsLossOf}

@@ -3,9 +3,9 @@ ghost use Rattle.std.specs.List.{All, Contains, flat_map};
 ghost use Rattle.tect_race.specs.Workers.{AllClosed, Ended};
 
 use entry_words::CLOCK_LIMIT;
-use players::Racer;
 use program_calls::Programs;
 use race_ends::{EndedPart, RaceFault};
+use racers::Racer;
 use std::alloc::Global;
 use tect_ids::{NoMemory, ReportLine};
 

@@ -1,7 +1,7 @@
 ghost use Rattle.std.specs.Prelude.{◌≤◌, IfOk, IfErr, length};
 ghost use Rattle.race_ends.specs.Raced.{IsRaced};
 ghost use Rattle.race_ends.specs.Faults.{IsRaceFault};
-ghost use Rattle.world_runs.specs.Playable.{IsPlayable};
+ghost use Rattle.whole_runs.specs.Playable.{IsPlayable};
 
 use crate::rounds::{Run, run_script};
 use crate::workers::Shared;

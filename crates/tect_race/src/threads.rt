@@ -7,9 +7,9 @@ ghost use Rattle.tect_race.specs.Workers.{WorkersRan, RacersRan};
 ghost use Rattle.race_ends.specs.Faults.{IsLossOf};
 
 use crate::workers::{Shared, Worker, assign, collect, run_worker};
-use players::Racer;
 use program_calls::Programs;
 use race_ends::RaceFault;
+use racers::Racer;
 use std::alloc::Global;
 use std::sync::Wait;
 use std::thread;

@@ -8,9 +8,10 @@ ghost use Rattle.race_ends.specs.Faults.{IsLossOf};
 ghost use Rattle.tect_race.specs.Faults.{race_result};
 
 use place_locks::{Locked, Places};
-use players::{Racer, RacerFault, play_act};
+use players::RacerFault;
 use program_calls::Programs;
 use race_ends::RaceFault;
+use racers::{Racer, play_act};
 use std::alloc::Global;
 use std::sync::Wait;
 use tect_edge::Gate;

@@ -19,11 +19,11 @@ use Rattle.world_runs.specs.Actors.{Actor}
 use Rattle.world_runs.specs.Moments.{opening, moment, IsWorldRun}
 use Rattle.world_runs.specs.Follows.{Follows, FollowsFrom}
 use Rattle.tect_ids.specs.declared.script.Act.TheVariants as acts
-use Rattle.world_runs.specs.ClientStates.{ClientStates, TakesAct, state_left_at, with_state, all_idle, states_after, FitStates}
-use Rattle.world_runs.specs.ClientStates.{FitStatesFrom}
+use Rattle.whole_runs.specs.ClientStates.{ClientStates, TakesAct, state_left_at, with_state, all_idle, states_after, FitStates}
+use Rattle.whole_runs.specs.ClientStates.{FitStatesFrom}
 use Rattle.world_runs.specs.Report.{report_after}
 use Rattle.script_runs.proofs.Histories.{report-append}
-use Rattle.world_runs.specs.Standing.{busy_at}
+use Rattle.whole_runs.specs.Standing.{busy_at}
 use Rattle.world_runs.specs.Smooth.{EndsAtOnce, StepsOn, AllStepOn}
 use Rattle.script_runs.proofs.AtOnce.{at_once-append}
 use Rattle.script_runs.proofs.FollowOn.{run_follows_on, stands_by_state}
@@ -33,9 +33,9 @@ use Rattle.script_runs.proofs.RunOut.{each_script_can_be_run_out}
 use Rattle.world_runs.specs.Limits.{KeepsLimits, KeepsLimitsAfter, EndsFull, FindsRoom, used}
 use Rattle.std.specs.Prelude.{nat_le}
 use Rattle.std.proofs.lemmas.Bool.Decides.{nat_tests}
-use Rattle.tect_world.specs.Life.{Life, present}
+use Rattle.world_lives.specs.Life.{Life, present}
 use Rattle.tect_replay.specs.Output.{lines_text, end_text, plan_report, AppendsPrefix}
-use Rattle.world_runs.specs.Playable.{IsWithin, IsPlayable}
+use Rattle.whole_runs.specs.Playable.{IsWithin, IsPlayable}
 use Rattle.tect_replay.specs.Replays.{IsOnlyRun, IsRunOf, IsCutReplay}
 use Rattle.tect_replay.specs.Plays.{CanDo, CanPlay, PlaysLine}
 use Rattle.tect_replay.proofs.Texts.{prefix_longer, prefix_less, lines-append}

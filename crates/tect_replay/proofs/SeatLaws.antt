@@ -11,12 +11,12 @@ use Rattle.world_runs.specs.Moments.{WorldState, IsWorldRun, opening}
 use Rattle.world_runs.specs.OwnRuns.{own_state}
 use Rattle.world_runs.specs.Smooth.{EndsAtOnce}
 use Rattle.world_runs.proofs.Actors.{own-append}
-use Rattle.world_runs.proofs.Owns.{actors_are_their_own, counts_stay}
+use Rattle.whole_runs.proofs.Owns.{actors_are_their_own, counts_stay}
 use Rattle.script_runs.proofs.Running.{running_is_last_begun}
 use Rattle.script_runs.proofs.AtOnce.{at_once-append}
-use Rattle.tect_world.specs.Life.{Life, present, grown, last_op}
-use Rattle.tect_world.proofs.Lives.{present-grown}
-use Rattle.tect_world.proofs.Running.{grown-grown}
+use Rattle.world_lives.specs.Life.{Life, present, grown, last_op}
+use Rattle.world_lives.proofs.Grown.{present-grown}
+use Rattle.world_lives.proofs.Running.{grown-grown}
 use Rattle.players.specs.Players.{IsPlayer}
 use Rattle.tect_replay.specs.declared.seat.Seat.{Seat}
 use Rattle.tect_replay.specs.Plays.{IsKeptRun}

@@ -15,10 +15,10 @@ use Rattle.world_runs.specs.Races.{is_own, own_lines}
 use Rattle.world_runs.specs.Actors.{running_op}
 use Rattle.world_runs.specs.OwnRuns.{stored_after}
 use Rattle.world_runs.specs.Report.{answer_lines, lines_at, report_after}
-use Rattle.world_runs.proofs.Owns.{states_are_their_own}
+use Rattle.whole_runs.proofs.Owns.{states_are_their_own}
 use Rattle.players.specs.Players.{Played, told_lines}
 use Rattle.players.proofs.Running.{AllOwn, all_own}
-use Rattle.tect_world.specs.Life.{Life, present, grown}
+use Rattle.world_lives.specs.Life.{Life, present, grown}
 use Rattle.tect_replay.specs.declared.seat.Seat.{Seat}
 use Rattle.tect_replay.specs.Plays.{IsKeptRun, PlaysLine}
 use Rattle.tect_replay.specs.Seats.{SeatGrew}

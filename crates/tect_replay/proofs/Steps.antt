@@ -17,13 +17,13 @@ use Rattle.world_runs.specs.Moments.{WorldState, after, running}
 use Rattle.world_runs.specs.Smooth.{IsPrompt, EndIsNext, EndsAtOnce}
 use Rattle.world_runs.specs.Races.{is_own}
 use Rattle.world_runs.proofs.Actors.{own-append, own-here}
-use Rattle.clients.specs.declared.turned.Turned.{Turned}
-use Rattle.clients.specs.declared.turned.Turned.TheVariants.{Going, Done}
-use Rattle.tect_world.specs.Life.{Life, present, grown, last_op, next_op, room_at}
-use Rattle.tect_world.specs.Steps.{Stepped}
-use Rattle.tect_world.specs.Steps as world_steps
-use Rattle.tect_world.proofs.Lives.{present-grown}
-use Rattle.tect_world.proofs.Running.{went_nearer}
+use Rattle.program_calls.specs.declared.turned.Turned.{Turned}
+use Rattle.program_calls.specs.declared.turned.Turned.TheVariants.{Going, Done}
+use Rattle.world_lives.specs.Life.{Life, present, grown, last_op, next_op, room_at}
+use Rattle.world_lives.specs.Steps.{Stepped}
+use Rattle.world_lives.specs.Steps as world_steps
+use Rattle.world_lives.proofs.Grown.{present-grown}
+use Rattle.world_lives.proofs.Running.{went_nearer}
 use Rattle.players.specs.Players.{EndsWith, HasBegun, StepsOnce}
 use Rattle.tect_replay.specs.declared.seat.Seat.{Seat}
 use Rattle.tect_replay.specs.Plays.{IsKeptRun}

@@ -12,10 +12,10 @@ use Rattle.world_runs.specs.Moments.{IsWorldRun}
 use Rattle.world_runs.specs.Limits.{KeepsLimits}
 use Rattle.world_runs.specs.Follows.{FollowsFrom}
 use Rattle.world_runs.specs.Report.{report_after}
-use Rattle.world_runs.specs.Standing.{IsInState, busy_at}
+use Rattle.whole_runs.specs.Standing.{IsInState, busy_at}
 use Rattle.world_runs.specs.Smooth.{EndsAtOnce}
-use Rattle.world_runs.specs.ClientStates.{ClientState, TakesAct}
-use Rattle.tect_world.specs.Life.{Life, present, grown}
+use Rattle.whole_runs.specs.ClientStates.{ClientState, TakesAct}
+use Rattle.world_lives.specs.Life.{Life, present, grown}
 use Rattle.tect_replay.specs.declared.lines.LineOutput.{LineOutput}
 use Rattle.tect_replay.specs.declared.lines.LineOutput.TheVariants as shown
 

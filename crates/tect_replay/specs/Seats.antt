@@ -4,7 +4,7 @@ use Rattle.program_forms.specs.Kinds.{Programs}
 use Rattle.world_runs.specs.declared.event.Event.{Event}
 use Rattle.world_runs.specs.Events.{own}
 use Rattle.world_runs.specs.Smooth.{EndsAtOnce}
-use Rattle.tect_world.specs.Life.{Life, present, grown}
+use Rattle.world_lives.specs.Life.{Life, present, grown}
 use Rattle.tect_replay.specs.declared.seat.Seat.{Seat}
 
 -- It grew by these events, which are that actor's; and where a transaction is the last of a command, its end is next.

@@ -1,5 +1,5 @@
 ghost use Rattle.std.specs.Prelude.{ℕ, ◌≤◌, List, length, IfOk};
-ghost use Rattle.tect_world.specs.Life.{present};
+ghost use Rattle.world_lives.specs.Life.{present};
 ghost use Rattle.tect_replay.specs.Plays.{CanDo, CanPlay, PlaysLine, shown_lines};
 
 use crate::seat::Seat;

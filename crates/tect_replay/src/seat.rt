@@ -12,7 +12,7 @@ pub struct Seat {
 }
 
 impl<P: Programs + Drop> Player<P, World<P>> for Seat {
-    ghost use Rattle.tect_world.specs.Life.{present, room_at};
+    ghost use Rattle.world_lives.specs.Life.{present, room_at};
     ghost use Rattle.tect_replay.specs.Plays.{IsKeptRun};
     ghost use Rattle.tect_replay.specs.Seats.{SeatGrew};
 

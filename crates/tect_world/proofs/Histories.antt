@@ -16,19 +16,19 @@ use Rattle.world_runs.specs.declared.event.Event.{Event}
 use Rattle.world_runs.specs.Events.{events_of, IsOwnNote, IsPlaced}
 use Rattle.world_runs.specs.Refusals.{AreOfRefused}
 use Rattle.clients.specs.Lives.{ClientLife, events_in, idle_life}
-use Rattle.tect_world.specs.declared.marks.Mark.{Mark}
-use Rattle.tect_world.specs.declared.marks.Mark.TheVariants.{Actor, Dump}
+use Rattle.world_lives.specs.declared.marks.Mark.{Mark}
+use Rattle.world_lives.specs.declared.marks.Mark.TheVariants.{Actor, Dump}
 use Rattle.tect_world.specs.declared.world.World.TheInside.{Inside}
 use Rattle.tect_world.specs.Clients.{client_at, events_by}
 use Rattle.tect_world.specs.Inside.{life_of, noted_in, IsWorld}
 use Rattle.tect_world.specs.Noted.{moments_by}
-use Rattle.tect_world.specs.Order.{first_moment, later_moments, in_order, marks_of, moments_in_order}
+use Rattle.world_lives.specs.Order.{first_moment, later_moments, in_order, marks_of, moments_in_order}
 use Rattle.tect_world.specs.Telling.{left_by, IsMarkOf, AreMarksOf}
-use Rattle.tect_world.specs.Told.{Notes, StepsCountUp, IsTold}
+use Rattle.world_lives.specs.Told.{Notes, StepsCountUp, IsTold}
 use Rattle.tect_world.proofs.Lives.{have_marks}
-use Rattle.tect_world.proofs.MomentOrders.{same, without}
-use Rattle.tect_world.proofs.MomentsTold.{AreOwn, all_in_order, own_in_order, own_notes}
-use Rattle.tect_world.proofs.Tellings.{notes_in_order}
+use Rattle.world_lives.proofs.MomentOrders.{same, without}
+use Rattle.world_lives.proofs.MomentsTold.{AreOwn, all_in_order, own_in_order, own_notes}
+use Rattle.world_lives.proofs.Tellings.{notes_in_order}
 
 -- ---- the marks are of the actors
 
@@ -233,21 +233,6 @@ mark_step k ls old a low high same client at n m own ms was now first later =
     (ap (λ (j : ℕ). drop j (client_at k ls a).moments) (get_or-set_same old (a - 1) m 0 lt)
     ∙ ap (λ (l : ClientLife). drop m l.moments) (sym here) ∙ later ∙ (λ i. later_moments (drop (count i) (here i).moments)))
     (λ j differs. get_or-set_other old (a - 1) j m 0 differs)
-
--- nothing was told yet
-zeros_at : (n m : ℕ) → (let none : ℕ = 0 in get_or (replicate n none) m none ≡ none)
-zeros_at zero m = refl
-zeros_at (suc n) zero = refl
-zeros_at (suc n) (suc m) = zeros_at n m
-
-pub none_told : (k : Counts) (ls : List ClientLife) (zeros : List ℕ) (n : ℕ) → zeros ≡ replicate n 0 → (marks : List Mark)
-    → moments_in_order marks (left_by k ls zeros) ≡ moments_in_order marks (moments_by k ls)
-none_told k ls zeros n is marks = ap (moments_in_order marks) (λ i a. none a i)
-  where
-    none : (a : ℕ) → left_by k ls zeros a ≡ moments_by k ls a
-    none a =
-        ap (λ (zs : List ℕ). left_by k ls zs a) is
-        ∙ ap (λ (m : ℕ). if eqb a 0 then [] else drop m (client_at k ls a).moments) (zeros_at n (a - 1))
 
 pub on_both : {T E A B C : Type 0} (r : Result T E) → OnOk r A → OnOk r B → (A → B → C) → OnOk r C
 on_both (Ok x) a b f = f a b

@@ -1,7 +1,3 @@
-pub mod Orders
-pub mod Owning
-pub mod MomentOrders
-pub mod Tellings
 pub mod Notings
 pub mod Lives
 pub mod Reserving
@@ -10,10 +6,8 @@ pub mod Idle
 pub mod Marking
 pub mod OneStep
 pub mod Outcomes
-pub mod Running
 pub mod StepMoments
 pub mod Stopping
 pub mod Rooms
 pub mod Worlds
-pub mod MomentsTold
 pub mod Histories

@@ -18,29 +18,26 @@ use Rattle.program_forms.specs.Kinds.{Programs}
 use Rattle.world_runs.specs.Events.{own, event_of, events_of}
 use Rattle.world_runs.specs.OwnRuns.{OwnRun, own_state, RepliesAre, stored_after}
 use Rattle.world_runs.specs.Limits.{KeepsLimits, OwnLimits}
-use Rattle.world_runs.proofs.Actors.{own-append, replies-append, stored_after-append, after_all-append}
-use Rattle.world_runs.proofs.Owns.{own_runs_make_run, states_are_their_own}
-use Rattle.world_runs.proofs.Limits.{own_limits_make_limits}
+use Rattle.world_runs.proofs.Actors.{own-append}
+use Rattle.whole_runs.proofs.Actors.{replies-append, stored_after-append, after_all-append}
+use Rattle.whole_runs.proofs.Owns.{own_runs_make_run, states_are_their_own}
+use Rattle.whole_runs.proofs.Limits.{own_limits_make_limits}
 use Rattle.clients.specs.Lives.{ClientLife, events_in, state_in, idle_life}
 use Rattle.kept_shards.specs.KeptStore.{clock_at}
-use Rattle.tect_world.specs.declared.marks.Mark.{Mark}
-use Rattle.tect_world.specs.declared.marks.Mark.TheVariants as marks
+use Rattle.world_lives.specs.declared.marks.Mark.{Mark}
+use Rattle.world_lives.specs.declared.marks.Mark.TheVariants as marks
 use Rattle.tect_world.specs.declared.world.World.TheInside.{Inside}
 use Rattle.tect_world.specs.Clients.{client_at, events_by, going, is_going, IsClientOf}
-use Rattle.tect_world.specs.Life.{Life, present, grown}
-use Rattle.tect_world.specs.Order.{in_order, marks_of, moments_in_order}
+use Rattle.world_lives.specs.Life.{Life, present, grown}
+use Rattle.world_lives.specs.Order.{in_order, marks_of, moments_in_order}
 use Rattle.tect_world.specs.Inside.{life_of, noted_in, IsWorld}
 use Rattle.tect_world.specs.Noted.{moments_by}
-use Rattle.tect_world.proofs.MomentOrders.{HaveMarks, MayGrow, moments-grow, moments-dump}
-use Rattle.tect_world.proofs.Orders.{AreMarked, marks-append, in_order-grow}
-use Rattle.tect_world.proofs.Owning.{own_behind, own_none}
+use Rattle.world_lives.proofs.MomentOrders.{HaveMarks, MayGrow, moments-grow, moments-dump}
+use Rattle.world_lives.proofs.Orders.{AreMarked, marks-append, in_order-grow}
+use Rattle.world_lives.proofs.Owning.{own_behind, own_none}
 
 pub same_or_not : (a b : ℕ) → (b ≡ a) ⊎ (b ≢ a)
 same_or_not a b = grind (arith, num_eq_cases b a)
-
--- the moment after more events
-pub present-grown : {S : Type 0} (P : Programs S) (w : Life) (es : List Event) → present P (grown w es) ≡ after_all P (present P w) es
-present-grown P w es = after_all-append P (opening w.counts) w.history es
 
 pub up_to : (a : ℕ) → (a ≤ 65) ⊎ (65 < a)
 up_to a = elim (cases_lt 65 a) [ inl h ↦ inr h | inr h ↦ inl h ]

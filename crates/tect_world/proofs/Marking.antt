@@ -7,10 +7,10 @@ use Rattle.tect_ids.proofs.KeyTests.{num_eq_cases}
 use Rattle.world_runs.specs.declared.event.Event.{Event}
 use Rattle.clients.specs.Turns.{turned_by}
 use Rattle.clients.specs.Steps.{Tried, Unasked, Did, Denied, tried_events, end_events}
-use Rattle.tect_world.specs.declared.marks.Mark.{Mark}
-use Rattle.tect_world.specs.declared.marks.Mark.TheVariants as marks
+use Rattle.world_lives.specs.declared.marks.Mark.{Mark}
+use Rattle.world_lives.specs.declared.marks.Mark.TheVariants as marks
 use Rattle.tect_world.specs.ClientSteps.{marks_for, act_marks, end_marks}
-use Rattle.tect_world.specs.Order.{first_event, later_events, in_order, marks_of}
+use Rattle.world_lives.specs.Order.{first_event, later_events, in_order, marks_of}
 use Rattle.tect_world.proofs.Lives.{of_one}
 
 -- ---- marks

@@ -17,10 +17,10 @@ use Rattle.world_runs.specs.Events.{own}
 use Rattle.world_runs.specs.OwnRuns.{RepliesAre, stored_after}
 use Rattle.clients.specs.Lives.{ClientLife, events_in, idle_life}
 use Rattle.kept_shards.specs.KeptStore.{KeptStore, clock_after}
-use Rattle.tect_world.specs.declared.marks.Mark.{Mark}
+use Rattle.world_lives.specs.declared.marks.Mark.{Mark}
 use Rattle.tect_world.specs.declared.world.World.TheInside.{Inside}
 use Rattle.tect_world.specs.Clients.{client_at, events_by, is_going, IsClientOf, AreIdle}
-use Rattle.tect_world.specs.Order.{in_order, marks_of, moments_in_order}
+use Rattle.world_lives.specs.Order.{in_order, marks_of, moments_in_order}
 use Rattle.tect_world.specs.Inside.{life_of, noted_in, IsWorld}
 use Rattle.tect_world.specs.Noted.{moments_by}
 use Rattle.tect_world.proofs.Lives.{up_to}
@@ -86,9 +86,6 @@ module _ {S : Type 0} (P : Programs S) (new : Inside S) (c : Counts) (shards : n
 
   none_goes : (i : ℕ) → i < length new.clients.items → is_going P (get_or new.clients.items i (idle_life 0 c)) ≡ false
   none_goes i lt = ap (is_going P) (idle.each i (omega (arith, lt, idle.number)))
-
-  pub start_is : life_of new ≡ record { counts = c; history = [] }
-  start_is i = record { counts = counts_are i; history = no_history i }
 
   pub start_world : IsWorld P new
   start_world = record {

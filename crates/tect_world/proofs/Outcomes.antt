@@ -25,13 +25,14 @@ use Rattle.world_runs.specs.Moments.{running}
 use Rattle.world_runs.specs.OwnRuns.{own_state}
 use Rattle.world_runs.specs.Report.{transactions}
 use Rattle.world_runs.proofs.Actors.{own_state-append}
-use Rattle.world_runs.proofs.OwnLines.{transactions-append}
+use Rattle.whole_runs.proofs.OwnLines.{transactions-append}
 use Rattle.clients.specs.Turns.{turned_by}
-use Rattle.clients.specs.declared.turned.Turned.TheVariants.{Done}
+use Rattle.program_calls.specs.declared.turned.Turned.TheVariants.{Done}
 use Rattle.clients.specs.Lives.{ClientLife, events_in, state_in, op_in}
 use Rattle.clients.specs.Steps.{Tried, Unasked, Did, Denied, EndsSo, tried_events, end_events}
-use Rattle.tect_world.specs.Life.{Life, present, grown}
-use Rattle.tect_world.specs.Steps.{EndsWith, Stepped}
+use Rattle.world_lives.specs.Life.{Life, present, grown}
+use Rattle.world_lives.specs.Steps.{EndsWith, Stepped}
+use Rattle.world_lives.proofs.Grown.{went_number}
 use Rattle.tect_world.proofs.Marking.{has_act}
 use Rattle.tect_world.proofs.OneStep.{end_cases}
 
@@ -73,13 +74,6 @@ no_room_behind : {S : Type 0} (P : Programs S) (c : Counts) (s : Actor S) (q : A
 no_room_behind P c s q y h a (inl says) = none_by a says.1
 no_room_behind P c s q y h a (inr is) = ap tries_for is
 
--- nothing ended it
-goes_of : {S : Type 0} (P : Programs S) (c : Counts) (s : Actor S) (t : Tried) → EndsSo P c s t None
-    → has_ended P c s.memory s.running ≡ false
-goes_of P c s Unasked ends = absurd ends
-goes_of P c s (Did q y h) ends = ends
-goes_of P c s (Denied q e) ends = absurd ends
-
 by_test : {S : Type 0} (P : Programs S) (c : Counts) (m : Memory) (r : Running S) (b : Bool) → has_ended P c m (Some r) ≡ false
     → has_ended P c m (if b then Some r else None) ≡ false
 by_test P c m r true is = is
@@ -111,11 +105,6 @@ step_ends P old new op c s silent (Did q y h) (Some a) ends grew goes =
 
 same_op : (op : OpId) → op_eq op op ≡ true
 same_op op = grind (arith, op_eq_cases op op)
-
-pub went_number : {S : Type 0} (P : Programs S) (c : Counts) (a : Actor S) (o : Option (Running S)) (q : AnyReq) (y : AnyReply) (h : Heard)
-    → (went_on P c a o q y h).number ≡ a.number
-went_number P c a None q y h = refl
-went_number P c a (Some r) q y h = refl
 
 ended_number : {S : Type 0} (P : Programs S) (c : Counts) (a : Actor S) (o : Option (Running S)) → (ended P c a o).number ≡ a.number
 ended_number P c a None = refl

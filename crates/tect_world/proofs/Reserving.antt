@@ -8,10 +8,10 @@ use Rattle.program_forms.specs.Kinds.{Programs}
 use Rattle.world_runs.specs.declared.event.Event.{Event}
 use Rattle.world_runs.specs.Events.{own}
 use Rattle.world_runs.specs.OwnRuns.{RepliesAre, stored_after}
-use Rattle.tect_world.specs.declared.marks.Mark.{Mark}
+use Rattle.world_lives.specs.declared.marks.Mark.{Mark}
 use Rattle.tect_world.specs.declared.world.World.TheInside.{Inside}
 use Rattle.tect_world.specs.Clients.{events_by}
-use Rattle.tect_world.specs.Order.{in_order, marks_of, moments_in_order}
+use Rattle.world_lives.specs.Order.{in_order, marks_of, moments_in_order}
 use Rattle.tect_world.specs.Inside.{life_of, noted_in, IsWorld}
 use Rattle.tect_world.specs.Noted.{moments_by}
 

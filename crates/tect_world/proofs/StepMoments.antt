@@ -21,7 +21,7 @@ use Rattle.clients.specs.Refused.{IsRefused, standing_refused}
 use Rattle.clients.specs.Steps.{Tried, Unasked, Did, Denied, Asks, is_later, entry_in, tried_life, ended_with, ended_life}
 use Rattle.clients.specs.Steps.{tried_events, end_events}
 use Rattle.tect_world.specs.ClientSteps.{marks_for}
-use Rattle.tect_world.specs.Order.{first_moment, later_moments, moments_in_order}
+use Rattle.world_lives.specs.Order.{first_moment, later_moments, moments_in_order}
 use Rattle.tect_world.proofs.Lives.{moments_of_one}
 use Rattle.tect_world.proofs.Marking.{same}
 use Rattle.tect_world.proofs.Notings.{rises_one, rises_none}

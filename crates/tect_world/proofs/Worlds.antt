@@ -23,23 +23,23 @@ use Rattle.world_runs.specs.Report.{transactions}
 use Rattle.world_runs.specs.Events.{events_of}
 use Rattle.world_runs.specs.OwnRuns.{own_state, RepliesAre, stored_after}
 use Rattle.world_runs.proofs.Actors.{own_state-append}
-use Rattle.world_runs.proofs.Owns.{counts_stay}
-use Rattle.world_runs.proofs.OwnLines.{transactions_own}
+use Rattle.whole_runs.proofs.Owns.{counts_stay}
+use Rattle.whole_runs.proofs.OwnLines.{transactions_own}
 use Rattle.all_shards.proofs.Stepped.{any_default}
-use Rattle.clients.specs.declared.turned.Turned.{Turned}
+use Rattle.program_calls.specs.declared.turned.Turned.{Turned}
 use Rattle.clients.specs.Lives.{ClientLife, IsLife, events_in, state_in, op_in, next_op_in, idle_life, begun_life, refused_life}
 use Rattle.clients.specs.Refused.{RunsIn, IsRefused}
 use Rattle.clients.specs.Steps.{Tried, Unasked, Did, Denied, EndsSo, state_after, ended_life, tried_life, tried_events}
 use Rattle.clients.specs.Steps.{end_events}
 use Rattle.kept_shards.specs.KeptStore.{KeptStore, clock_at}
-use Rattle.tect_world.specs.declared.marks.Mark.{Mark}
-use Rattle.tect_world.specs.declared.marks.Mark.TheVariants as marks
+use Rattle.world_lives.specs.declared.marks.Mark.{Mark}
+use Rattle.world_lives.specs.declared.marks.Mark.TheVariants as marks
 use Rattle.tect_world.specs.declared.world.World.TheInside.{Inside}
 use Rattle.tect_world.specs.Clients.{client_at, raised, going, is_going, IsClientOf}
 use Rattle.tect_world.specs.ClientSteps.{StepsOnce, BeginsOnce, StopsOnce, StaysSo, marks_for, stepped_events}
 use Rattle.tect_world.specs.Inside.{life_of, noted_in, IsWorld}
-use Rattle.tect_world.specs.Life.{present, grown, last_op, next_op}
-use Rattle.tect_world.specs.Steps.{HasBegun, Stepped}
+use Rattle.world_lives.specs.Life.{present, grown, last_op, next_op}
+use Rattle.world_lives.specs.Steps.{HasBegun, Stepped}
 use Rattle.tect_world.proofs.Lives.{Grows, grows, stays, at_own, world_owns, world_state}
 use Rattle.tect_world.proofs.Marking.{told_all, marked_all, step_few, marks_length}
 use Rattle.tect_world.proofs.OneStep.{same_actor, same_counts, clock_rises, clock_early, step_replies, next_is, places_then}

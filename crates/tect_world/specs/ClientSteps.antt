@@ -5,13 +5,13 @@ use Rattle.tect_ids.specs.declared.command.Command.{Command}
 use Rattle.program_forms.specs.Kinds.{Programs}
 use Rattle.clients.specs.Lives.{ClientLife, Begins, stopped_life, op_in}
 use Rattle.clients.specs.Steps.{Tried, OwnStep, tried_events, end_events}
-use Rattle.clients.specs.declared.turned.Turned.{Turned}
-use Rattle.clients.specs.declared.turned.Turned.TheVariants as turns
+use Rattle.program_calls.specs.declared.turned.Turned.{Turned}
+use Rattle.program_calls.specs.declared.turned.Turned.TheVariants as turns
 use Rattle.world_runs.specs.declared.event.Event.{Event}
 use Rattle.kept_shards.specs.KeptStore.{KeptStore}
 use Rattle.kept_shards.specs.KeptStore as kept
-use Rattle.tect_world.specs.declared.marks.Mark.{Mark}
-use Rattle.tect_world.specs.declared.marks.Mark.TheVariants.{Actor}
+use Rattle.world_lives.specs.declared.marks.Mark.{Mark}
+use Rattle.world_lives.specs.declared.marks.Mark.TheVariants.{Actor}
 use Rattle.tect_world.specs.Clients.{raised}
 
 -- a mark for each event

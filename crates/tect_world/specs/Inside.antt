@@ -9,9 +9,9 @@ use Rattle.world_runs.specs.OwnRuns.{RepliesAre, stored_after}
 use Rattle.kept_shards.specs.KeptStore.{clock_at}
 use Rattle.tect_world.specs.declared.world.World.TheInside.{Inside}
 use Rattle.tect_world.specs.Clients.{client_at, events_by, going, IsClientOf}
-use Rattle.tect_world.specs.Life.{Life}
+use Rattle.world_lives.specs.Life.{Life}
 use Rattle.tect_world.specs.Noted.{moments_by}
-use Rattle.tect_world.specs.Order.{in_order, marks_of, moments_in_order}
+use Rattle.world_lives.specs.Order.{in_order, marks_of, moments_in_order}
 
 abbrev pub life_of : {S : Type 0} → Inside S → Life
 life_of w = record { counts = w.shards.counts; history = in_order w.order.items (events_by w.shards.counts w.clients.items) }

@@ -3,8 +3,8 @@ use Rattle.std.specs.Prelude.{ℕ, ◌-◌, ◌≤◌, eqb, if◌then◌else◌,
 use Rattle.tect_ids.specs.declared.ids.Counts.{Counts}
 use Rattle.entry_words.specs.declared.entry.Moment.{Moment}
 use Rattle.clients.specs.Lives.{ClientLife}
-use Rattle.tect_world.specs.declared.marks.Mark.{Mark}
-use Rattle.tect_world.specs.declared.marks.Mark.TheVariants.{Actor, Dump}
+use Rattle.world_lives.specs.declared.marks.Mark.{Mark}
+use Rattle.world_lives.specs.declared.marks.Mark.TheVariants.{Actor, Dump}
 use Rattle.tect_world.specs.Clients.{client_at}
 
 -- the mark is of one of so many actors, or of a dump

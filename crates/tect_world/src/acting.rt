@@ -4,12 +4,12 @@ ghost use Rattle.clients.specs.Lives.{IsLife, state_in};
 ghost use Rattle.tect_world.specs.Clients.{AreIdle};
 ghost use Rattle.tect_world.specs.ClientSteps.{StepsOnce, BeginsOnce, StopsOnce, StaysSo, act_marks, end_marks};
 
-use crate::marks::{Mark, push_mark};
-use clients::{Client, Turned};
+use clients::Client;
 use kept_shards::KeptShards;
-use program_calls::Programs;
+use program_calls::{Programs, Turned};
 use std::alloc::Global;
 use tect_ids::{Command, Counts, NoMemory};
+use world_lives::{Mark, push_mark};
 
 /// How many actors there are: 64 clients, and the one that runs the lines of the whole world.
 const ACTORS: u32 = 65;

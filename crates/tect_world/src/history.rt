@@ -2,18 +2,18 @@
 ghost use Rattle.std.specs.Prelude.{◌≡◌, ◌-◌, ◌<◌, ◌≤◌, ◌≢◌, ◌++◌, ◌∷◌, List, IfOk, OnOk, map, drop, length, replicate};
 ghost use Rattle.std.specs.List.{All};
 ghost use Rattle.tect_ids.specs.declared.ids.Counts.{Counts};
-ghost use Rattle.tect_world.specs.declared.marks.Mark.{Mark as AnyMark};
+ghost use Rattle.world_lives.specs.declared.marks.Mark.{Mark as AnyMark};
 ghost use Rattle.tect_world.specs.Noted.{moments_by};
-ghost use Rattle.tect_world.specs.Order.{first_moment, later_moments, moments_in_order};
+ghost use Rattle.world_lives.specs.Order.{first_moment, later_moments, moments_in_order};
 ghost use Rattle.tect_world.specs.Telling.{left_by, IsMarkOf, AreMarksOf};
-ghost use Rattle.tect_world.specs.Told.{StepsCountUp};
+ghost use Rattle.world_lives.specs.Told.{StepsCountUp};
 
-use crate::marks::Mark;
 use clients::Client;
 use entry_words::Moment;
 use program_calls::Programs;
 use std::alloc::Global;
 use tect_ids::NoMemory;
+use world_lives::Mark;
 
 /// That many zeros.
 fn zeros(alloc: Global, count: usize) -> Result<Vec<usize>, NoMemory>

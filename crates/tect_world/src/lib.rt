@@ -4,8 +4,7 @@
 
 mod acting;
 mod history;
-mod marks;
 mod world;
 
-pub use clients::Turned;
+pub use program_calls::Turned;
 pub use world::World;

@@ -7,20 +7,20 @@ ghost use Rattle.world_runs.specs.declared.event.Event.TheVariants as events;
 ghost use Rattle.world_runs.specs.declared.event.Happening.TheVariants as happenings;
 ghost use Rattle.world_runs.specs.Moments.{IsWorldRun};
 ghost use Rattle.world_runs.specs.Report.{transactions};
-ghost use Rattle.tect_world.specs.Life.{Life, present, grown, last_op, next_op};
-ghost use Rattle.tect_world.specs.Steps.{HasBegun, Stepped, RanToEnd, GoesOn};
-ghost use Rattle.tect_world.specs.Told.{IsTold};
+ghost use Rattle.world_lives.specs.Life.{Life, present, grown, last_op, next_op};
+ghost use Rattle.world_lives.specs.Steps.{HasBegun, Stepped, RanToEnd, GoesOn};
+ghost use Rattle.world_lives.specs.Told.{IsTold};
 
 use crate::acting::{begin_client, idle_clients, step_client, stop_client};
 use crate::history::{moments_by_marks, steps_count_up};
-use crate::marks::{Mark, is_short, push_mark};
-use clients::{Client, Turned};
+use clients::Client;
 use entry_words::Moment;
 use kept_shards::KeptShards;
-use program_calls::Programs;
+use program_calls::{Programs, Turned};
 use std::alloc::Global;
 use std::marker::Model;
 use tect_ids::{Answer, Command, Counts, DumpLine, NoMemory, OpId};
+use world_lives::{Mark, is_short, push_mark};
 
 /// For how many marks there is room at least behind each call but a stop: one for the stop of each actor.
 const SPARE: usize = 65;
@@ -40,7 +40,7 @@ pub struct World<P: Programs> {
 }
 
 impl<P: Programs> Model for World<P> {
-    ghost use Rattle.tect_world.specs.Life.{Life};
+    ghost use Rattle.world_lives.specs.Life.{Life};
 
     ghost Value = { Life };
 

@@ -32,7 +32,8 @@ change_made : (t : Tree) (op : OpId) (st : TreeStep) → TreeMade t → TreeMade
 change_made t op (step.Check d) h = h
 change_made t op (step.Look k) h = h
 change_made t op (step.List d) h = h
-change_made t op (step.MakeDir d p) h = record { dirs = λ e is. grind (arith, maps, h.dirs e); files = λ e is. grind (arith, maps, h.files e) }
+change_made t op (step.MakeDir d p) h = record
+    { dirs = λ e is. grind (arith, maps, h.dirs e); files = λ e is. grind (arith, maps, h.files e) }
 change_made t op (step.MakeFile f k) h = record
     { dirs = λ e is. grind (arith, maps, h.dirs e); files = λ e is. grind (arith, maps, h.files e) }
 change_made t op (step.Bind k n o) h = record { dirs = h.dirs; files = h.files }

@@ -220,7 +220,8 @@ module _ {S : Type 0} {P : Part S Answer} {D : Deciding S Answer} {T : Telling S
         → NextTells D T (h ++ Own op (Began c) ∷ []) op c (starts counts c))
         → TellingLaws programs (next_deciding D) (next_telling T)
     part_telling_laws begins = record {
-      begins = λ counts h op c served none. next_tells (h ++ Own op (Began c) ∷ []) op c (starts counts c) (begins counts h op c served none);
+      begins = λ counts h op c served none. next_tells (h ++ Own op (Began c) ∷ []) op c (starts counts c)
+          (begins counts h op c served none);
       turns = next_turns;
       hears = λ counts h op c m n q x how fresh asks is before none run.
           let t : Turned (Next S Answer) = turned (kind_of P) counts m op n in

@@ -1,5 +1,6 @@
 -- each request, seen by the tree
-use Rattle.std.proofs.Common.{◌≡◌, ◌≢◌, ℕ, Bool, true, false, Option, Some, None, refl, sym, ap, ◌∙◌, arith, if◌then◌else◌, List, [], ◌∷◌, map}
+use Rattle.std.proofs.Common.{◌≡◌, ◌≢◌, ℕ, Bool, true, false, Option, Some, None, refl, sym, ap, ◌∙◌, arith, if◌then◌else◌, List, [], ◌∷◌}
+use Rattle.std.proofs.Common.{map}
 use Rattle.std.specs.FinMap.{FinMap, get, entries, empty}
 use Rattle.tect_ids.specs.declared.ids.DirId.{DirId}
 use Rattle.tect_ids.specs.declared.ids.FileId.{FileId}
@@ -63,7 +64,7 @@ module _ (s : Store) (made : Made) (op : OpId) where
   turned q st true false e did = absurd (let k : true ≡ false = e in cc)
   turned q st false true e did = absurd (let k : false ≡ true = e in cc)
 
-  -- a request that is a step: it is allowed, it is not refused just where it changes the store, and then it changes the view as the step does
+  -- a request that is a step: it is allowed; it is not refused just where it changes the store, and then the view changes as by the step
   by_step : (q : AnyReq) (st : TreeStep) → tree_step q (store_reply s q) ≡ Some st
       → said q ≡ tree_reply (view s made) op st
       → is_ok (said q) ≡ store_changes s q → (store_changes s q ≡ true → Shows (store_change s q) (tree_change (view s made) op st))
@@ -143,7 +144,8 @@ module _ (s : Store) (made : Made) (op : OpId) where
 
   -- what changes the holds alone is not seen
   dir_holds_alike : (d : DirId) (h : Hold) (u : Option Upper)
-      → view record s { names = record s.names { dirs = set_at s.names.dirs d (dir_with_hold (get s.names.dirs d) h u) } } made ≡ view s made
+      → view record s { names = record s.names { dirs = set_at s.names.dirs d (dir_with_hold (get s.names.dirs d) h u) } } made
+      ≡ view s made
   dir_holds_alike d h u i = record (view s made)
       { dirs = dir_alike shown_dir s.names.dirs d (dir_with_hold (get s.names.dirs d) h u) (grind arith) i }
 

@@ -17,9 +17,9 @@ use Rattle.world_runs.specs.declared.event.Event.{Event}
 use Rattle.world_runs.specs.declared.event.Event.TheVariants.{Own, Dumped}
 use Rattle.world_runs.specs.declared.event.Happening.TheVariants.{Began, NotBegun, Acted, Ended, Stopped, Failed}
 use Rattle.world_runs.specs.Moments.{WorldState, opening, May, after, IsWorldRun, moment}
-use Rattle.world_runs.proofs.Actors.{moment-append}
-use Rattle.world_runs.proofs.Owns.{counts_stay}
-use Rattle.world_runs.proofs.Standings.{Asking, asks_of}
+use Rattle.whole_runs.proofs.Actors.{moment-append}
+use Rattle.whole_runs.proofs.Owns.{counts_stay}
+use Rattle.whole_runs.proofs.Standings.{Asking, asks_of}
 use Rattle.claim_words.specs.TreeSteps.{Told, told_as, told_of, tree_steps, tree_step, says, tree_after, IsTreeRun}
 use Rattle.telling_laws.specs.View.{Shows, AllMade, MakesNew, TreeFollows, StepShows}
 use Rattle.telling_laws.specs.Telling.{tree_of, IsFresh, RunsAskFresh, RunsFollowTree}

@@ -28,11 +28,12 @@ use Rattle.world_runs.specs.Actors.{Actor, Running, CanBegin, OwnMay, program_an
 use Rattle.world_runs.specs.Moments.{WorldState, opening, May, after, IsWorldRun, moment}
 use Rattle.world_runs.specs.OwnRuns.{stored_after}
 use Rattle.world_runs.specs.Refusals.{was_refused}
-use Rattle.world_runs.proofs.Actors.{changed, moment-append}
-use Rattle.world_runs.proofs.Fronts.{front_runs, may_at}
-use Rattle.world_runs.proofs.Owns.{store_is_after}
-use Rattle.world_runs.proofs.Refusals.{refused-front, refused-rest}
-use Rattle.world_runs.proofs.Standings.{runs_at, Asking, asks_of, Saying, says_of, does_say, went_on_number, ended_number, own_grows}
+use Rattle.whole_runs.proofs.Actors.{changed, moment-append}
+use Rattle.whole_runs.proofs.Fronts.{front_runs, may_at}
+use Rattle.whole_runs.proofs.Owns.{store_is_after}
+use Rattle.world_runs.proofs.Refusals.{refused-rest}
+use Rattle.whole_runs.proofs.Refusals.{refused-front}
+use Rattle.whole_runs.proofs.Standings.{runs_at, Asking, asks_of, Saying, says_of, does_say, went_on_number, ended_number, own_grows}
 use Rattle.claim_words.specs.TreeSteps.{told_of, tree_steps, IsTreeRun}
 use Rattle.claim_words.specs.Points.{of_op}
 use Rattle.claim_words.specs.Headline.{begun_by, or_later, command_of, ExplainsBy, HadNoRoom}

@@ -20,9 +20,8 @@ use Rattle.world_runs.specs.declared.event.Event.{Event}
 use Rattle.world_runs.specs.declared.event.Event.TheVariants.{Own}
 use Rattle.world_runs.specs.declared.event.Happening.TheVariants.{Acted}
 use Rattle.world_runs.specs.OwnRuns.{stored_after}
-use Rattle.claim_words.specs.Ways.{way}
+use Rattle.claim_words.specs.Points.{way, of_op, Walked, Seen, DecidesAt, Point}
 use Rattle.claim_words.specs.TreeSteps.{tree_step, says, told_of, tree_steps, IsTreeRun}
-use Rattle.claim_words.specs.Points.{of_op, Walked, Seen, DecidesAt, Point}
 use Rattle.telling_laws.specs.Telling.{is_of, tree_of}
 use Rattle.telling_laws.proofs.Histories.{steps_more, others_steps}
 use Rattle.telling_laws.proofs.Walks.{here, over_still, seen_still, seen_now, walks_on}

@@ -13,9 +13,8 @@ use Rattle.tree_model.specs.declared.step.StepValue.TheVariants as shown
 use Rattle.tree_model.specs.declared.step.TreeReply.{TreeReply}
 use Rattle.tree_model.specs.declared.step.TreeReply.TheVariants.{Ok}
 use Rattle.tree_model.specs.Tree.{tree_reply, opening_tree}
-use Rattle.claim_words.specs.Ways.{way}
+use Rattle.claim_words.specs.Points.{way, of_op, Walked, Seen, DecidesAt, Point}
 use Rattle.claim_words.specs.TreeSteps.{Told, told_as, tree_after}
-use Rattle.claim_words.specs.Points.{of_op, Walked, Seen, DecidesAt, Point}
 use Rattle.telling_laws.proofs.Histories.{of_op-append, itself}
 
 -- the walk goes on to the directory that was found

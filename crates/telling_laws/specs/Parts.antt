@@ -23,9 +23,8 @@ use Rattle.world_runs.specs.declared.event.Event.{Event}
 use Rattle.world_runs.specs.declared.event.Event.TheVariants.{Own}
 use Rattle.world_runs.specs.declared.event.Happening.TheVariants.{Acted}
 use Rattle.world_runs.specs.OwnRuns.{stored_after}
-use Rattle.claim_words.specs.Ways.{way}
+use Rattle.claim_words.specs.Points.{way, of_op, Walked, Point}
 use Rattle.claim_words.specs.TreeSteps.{told_of, tree_steps, IsTreeRun}
-use Rattle.claim_words.specs.Points.{of_op, Walked, Point}
 use Rattle.telling_laws.specs.Telling.{is_of, tree_of, IsFresh, Telling, Tells}
 
 -- what the history tells where the part goes on, or explains what it has come to

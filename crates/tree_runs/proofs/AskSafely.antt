@@ -16,7 +16,7 @@ use Rattle.program_forms.specs.declared.standing.Standing.TheVariants.{Goes}
 use Rattle.program_forms.specs.Kinds.{Programs, Asks, next_does}
 use Rattle.world_runs.specs.declared.event.Event.{Event}
 use Rattle.world_runs.specs.Moments.{WorldState, opening, IsWorldRun, moment}
-use Rattle.world_runs.proofs.Owns.{counts_stay, store_is_after}
+use Rattle.whole_runs.proofs.Owns.{counts_stay, store_is_after}
 use Rattle.program_laws.specs.Known.{Deciding, Known}
 use Rattle.program_laws.specs.Laws.{ProgramLaws}
 use Rattle.run_laws.specs.Pasts.{ghosts, world_of}

@@ -1,8 +1,4 @@
 pub mod Actors
-pub mod Owns
 pub mod Limits
-pub mod OwnLines
-pub mod Fronts
 pub mod Prompt
 pub mod Refusals
-pub mod Standings

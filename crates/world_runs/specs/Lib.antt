@@ -3,14 +3,8 @@ pub mod Moments
 pub mod OwnRuns
 pub mod Limits
 pub mod Follows
-pub mod ClientLines
 pub mod Report
 pub mod Races
 pub mod Events
 pub mod Refusals
-pub mod Woven
-pub mod PartReports
-pub mod ClientStates
-pub mod Standing
 pub mod Smooth
-pub mod Playable

@@ -1,4 +1,4 @@
-use Rattle.world_runs.proofs.Limits.{own_limits_make_limits}
+use Rattle.whole_runs.proofs.Limits.{own_limits_make_limits}
 use Rattle.noted_runs.proofs.own_limits_make_limits.Goals as goal
 
 pub returns : goal.returns

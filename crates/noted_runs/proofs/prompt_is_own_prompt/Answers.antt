@@ -1,4 +1,4 @@
-use Rattle.world_runs.proofs.Prompt.{prompt_is_own_prompt}
+use Rattle.whole_runs.proofs.Prompt.{prompt_is_own_prompt}
 use Rattle.noted_runs.proofs.prompt_is_own_prompt.Goals as goal
 
 pub returns : goal.returns

@@ -1,5 +1,5 @@
 use Rattle.std.proofs.Common.{◌+◌, subst}
-use Rattle.clients.specs.declared.turned.Turned.{Turned}
+use Rattle.program_calls.specs.declared.turned.Turned.{Turned}
 use Rattle.players.specs.Players.{op_at, StepsOnce}
 use Rattle.players.proofs.Playing.{stepped_none, stepped_more, stepped_end}
 use Rattle.players.proofs.stepping.run_to_end.Goals as goal

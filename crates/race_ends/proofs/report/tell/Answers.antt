@@ -5,7 +5,7 @@ use Rattle.std.specs.Vec.Iter.{into_iter_items}
 use Rattle.all_shards.specs.Whole.{WholeStore}
 use Rattle.entry_words.specs.declared.entry.Moment.{Moment}
 use Rattle.world_runs.specs.Events.{StampsRise}
-use Rattle.world_runs.specs.Woven.{is_late}
+use Rattle.whole_runs.specs.Woven.{is_late}
 use Rattle.race_ends.specs.Told.{stored_up_to}
 use Rattle.race_ends.proofs.Borrowed.{read_rest, more_within}
 use Rattle.race_ends.proofs.Telling.{telling_begins, telling_rises, telling_goes_on, telling_ends}

@@ -6,7 +6,7 @@ use Rattle.script_forms.specs.Spelling.{Spells}
 use Rattle.script_reader.specs.GivesPlan.{IsUnlessMemory}
 use Rattle.script_forms.specs.FirstFault.{IsFirstFault}
 use Rattle.tect_app.proofs.Inputs.{read_fault}
-use Rattle.tect_app.proofs.Plans.{spelled_playable, few_clients}
+use Rattle.plan_laws.proofs.Plans.{spelled_playable, few_clients}
 use Rattle.tect_app.proofs.input.read_plan.Goals as goal
 
 pub returns-in-Ok-clause-playable : goal.returns-in-Ok-clause-playable

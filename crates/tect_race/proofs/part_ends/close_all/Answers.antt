@@ -1,7 +1,7 @@
 use Rattle.std.proofs.Common.{◌≡◌, ◌+◌, ◌<◌, ◌∷◌, ◌++◌, [], List, length, suc, set, take, drop, get_or, sym, ap, subst, ◌∙◌, arith}
 use Rattle.std.specs.List.{flat_map}
 use Rattle.std.proofs.lemmas.List.{take_more}
-use Rattle.players.specs.declared.racer.Racer.{Racer}
+use Rattle.racers.specs.declared.racer.Racer.{Racer}
 use Rattle.tect_race.specs.Workers.{AllClosed, Closed}
 use Rattle.tect_race.proofs.Endings.{zip_on, drop_on, get_left, flat_map-snoc}
 use Rattle.tect_race.proofs.part_ends.close_all.Goals as goal

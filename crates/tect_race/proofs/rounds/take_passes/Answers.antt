@@ -5,7 +5,7 @@ use Rattle.std.specs.List.{AllZip}
 use Rattle.std.proofs.lemmas.Iterator.Adapters.{YieldsList-from_vec}
 use Rattle.std.proofs.lemmas.Iterator.Consumers.{YieldsList-end}
 use Rattle.std.proofs.lemmas.List.{map-id}
-use Rattle.players.specs.declared.racer.Racer.{Racer}
+use Rattle.racers.specs.declared.racer.Racer.{Racer}
 use Rattle.tect_race.proofs.rounds.take_passes.Goals as goal
 
 pub racers-preserved : goal.racers-preserved

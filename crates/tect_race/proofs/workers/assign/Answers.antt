@@ -6,7 +6,7 @@ use Rattle.tect_race.proofs.Assigning.{worker_within, assigned_on}
 use Rattle.std.proofs.lemmas.Iterator.Adapters.{YieldsList-from_vec}
 use Rattle.std.proofs.lemmas.Iterator.Consumers.{YieldsList-end}
 use Rattle.std.proofs.lemmas.List.{map-id}
-use Rattle.players.specs.declared.racer.Racer.{Racer}
+use Rattle.racers.specs.declared.racer.Racer.{Racer}
 use Rattle.tect_race.proofs.workers.assign.Goals as goal
 
 pub racers-preserved : goal.racers-preserved

@@ -1,5 +1,5 @@
 use Rattle.std.proofs.Common.{◌≡◌, List, length}
-use Rattle.players.specs.declared.racer.Racer.{Racer}
+use Rattle.racers.specs.declared.racer.Racer.{Racer}
 use Rattle.tect_race.specs.Ready.{AreAssigned, AreCollected}
 use Rattle.tect_race.proofs.workers.collect.Given as goal
 

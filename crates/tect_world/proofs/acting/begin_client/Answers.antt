@@ -1,6 +1,6 @@
 use Rattle.std.proofs.Common.{ℕ, [], ◌∷◌, ◌++◌, ap, ◌∙◌, subst}
 use Rattle.clients.specs.Lives.{ClientLife, Begins}
-use Rattle.tect_world.specs.declared.marks.Mark.TheVariants.{Actor}
+use Rattle.world_lives.specs.declared.marks.Mark.TheVariants.{Actor}
 use Rattle.tect_world.proofs.acting.begin_client.Goals as goal
 
 pub returns-clause-begins : goal.returns-clause-begins

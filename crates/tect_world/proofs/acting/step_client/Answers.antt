@@ -3,7 +3,7 @@ use Rattle.clients.specs.Lives.{ClientLife, events_in, op_in}
 use Rattle.world_runs.specs.Report.{transactions}
 use Rattle.clients.specs.Steps.{OwnStep}
 use Rattle.kept_shards.specs.KeptStore as kept
-use Rattle.tect_world.specs.declared.marks.Mark.{Mark}
+use Rattle.world_lives.specs.declared.marks.Mark.{Mark}
 use Rattle.tect_world.specs.Clients.{raised}
 use Rattle.tect_world.specs.ClientSteps.{act_marks, end_marks}
 use Rattle.tect_world.proofs.Marking.{step_marked}

@@ -1,8 +1,8 @@
 use Rattle.std.proofs.Common.{◌+◌, ◌++◌, List, Bor, drop, map, ap, sym, ◌∙◌}
 use Rattle.std.proofs.lemmas.List.{drop_more}
 use Rattle.entry_words.specs.declared.entry.Moment.{Moment}
-use Rattle.tect_world.specs.declared.marks.Mark.{Mark}
-use Rattle.tect_world.specs.Order.{moments_in_order}
+use Rattle.world_lives.specs.declared.marks.Mark.{Mark}
+use Rattle.world_lives.specs.Order.{moments_in_order}
 use Rattle.tect_world.specs.Telling.{left_by}
 use Rattle.tect_world.proofs.Histories.{mark_at}
 use Rattle.tect_world.proofs.history.moments_by_marks.Goals as goal

@@ -1,7 +1,7 @@
 use Rattle.std.proofs.Common.{◌≡◌, ◌++◌, map, drop, length}
 use Rattle.tect_ids.specs.declared.ids.Counts.{Counts}
 use Rattle.tect_world.specs.Noted.{moments_by}
-use Rattle.tect_world.specs.Order.{moments_in_order}
+use Rattle.world_lives.specs.Order.{moments_in_order}
 use Rattle.tect_world.specs.Telling.{left_by}
 use Rattle.tect_world.proofs.history.moments_by_marks.Given as goal
 

@@ -3,8 +3,8 @@ use Rattle.std.specs.List.{All}
 use Rattle.std.proofs.lemmas.List.{take_all}
 use Rattle.std.proofs.lemmas.List.Elements.{All-more}
 use Rattle.clients.specs.Lives.{ClientLife}
-use Rattle.tect_world.specs.Told.{StepsCountUp}
-use Rattle.tect_world.proofs.MomentsTold.{steps_of_pass}
+use Rattle.world_lives.specs.Told.{StepsCountUp}
+use Rattle.world_lives.proofs.MomentsTold.{steps_of_pass}
 use Rattle.tect_world.proofs.history.steps_count_up.Goals as goal
 
 pub each-preserved : goal.each-preserved

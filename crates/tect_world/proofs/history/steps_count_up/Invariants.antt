@@ -1,6 +1,6 @@
 use Rattle.std.proofs.Common.{take}
 use Rattle.std.specs.List.{All}
-use Rattle.tect_world.specs.Told.{StepsCountUp}
+use Rattle.world_lives.specs.Told.{StepsCountUp}
 use Rattle.tect_world.proofs.history.steps_count_up.Given as goal
 
 abbrev pub invariant-each : goal.invariant-each

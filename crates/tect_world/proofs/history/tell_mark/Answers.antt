@@ -1,7 +1,7 @@
 use Rattle.std.proofs.Common.{◌∷◌, ◌++◌, Bor, map, ap, sym, ◌∙◌, subst}
-use Rattle.tect_world.specs.declared.marks.Mark.{Mark}
+use Rattle.world_lives.specs.declared.marks.Mark.{Mark}
 use Rattle.entry_words.specs.declared.entry.Moment.{Moment}
-use Rattle.tect_world.specs.Order.{moments_in_order}
+use Rattle.world_lives.specs.Order.{moments_in_order}
 use Rattle.tect_world.specs.Telling.{left_by, IsMarkOf}
 use Rattle.tect_world.proofs.Histories.{mark_step, on_both}
 use Rattle.tect_world.proofs.history.tell_mark.Goals as goal

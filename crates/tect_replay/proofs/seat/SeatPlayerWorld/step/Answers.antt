@@ -1,6 +1,6 @@
 use Rattle.std.proofs.Common.{subst}
-use Rattle.tect_world.specs.Life.{present, last_op}
-use Rattle.tect_world.specs.Steps.{Stepped}
+use Rattle.world_lives.specs.Life.{present, last_op}
+use Rattle.world_lives.specs.Steps.{Stepped}
 use Rattle.tect_replay.proofs.Steps.{seat_steps, seat_nearer}
 use Rattle.tect_replay.proofs.seat.SeatPlayerWorld.step.Goals as goal
 

@@ -1,7 +1,7 @@
 use Rattle.std.proofs.Common.{List, [], ◌∷◌, ◌++◌, ap, ◌∙◌, arith}
 use Rattle.store_rules.specs.Dumps.{store_dump}
-use Rattle.tect_world.specs.declared.marks.Mark.{Mark}
-use Rattle.tect_world.specs.declared.marks.Mark.TheVariants.{Dump}
+use Rattle.world_lives.specs.declared.marks.Mark.{Mark}
+use Rattle.world_lives.specs.declared.marks.Mark.TheVariants.{Dump}
 use Rattle.tect_world.proofs.Lives.{dump_stays, dump_grows, few_more, world_store}
 use Rattle.tect_world.proofs.Reserving.{with_room}
 use Rattle.tect_world.proofs.world.World.dump.Goals as goal

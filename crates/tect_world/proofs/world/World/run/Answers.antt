@@ -1,7 +1,7 @@
 use Rattle.std.proofs.Common.{subst}
-use Rattle.tect_world.specs.Life.{present, last_op}
-use Rattle.tect_world.specs.Steps.{Stepped}
-use Rattle.tect_world.proofs.Running.{goes_first, goes_on, goes_nearer, goes_to_end, goes_nowhere, on_err_any}
+use Rattle.world_lives.specs.Life.{present, last_op}
+use Rattle.world_lives.specs.Steps.{Stepped}
+use Rattle.world_lives.proofs.Running.{goes_first, goes_on, goes_nearer, goes_to_end, goes_nowhere, on_err_any}
 use Rattle.tect_world.proofs.world.World.run.Goals as goal
 
 pub steps-init : goal.steps-init

@@ -1,5 +1,5 @@
-use Rattle.tect_world.specs.Life.{room_at}
-use Rattle.tect_world.proofs.Running.{Goes}
+use Rattle.world_lives.specs.Life.{room_at}
+use Rattle.world_lives.proofs.Running.{Goes}
 use Rattle.tect_world.proofs.world.World.run.Given as goal
 
 abbrev pub invariant-steps : goal.invariant-steps

@@ -1,0 +1,5 @@
+pub mod Growths
+pub mod OneStep
+pub mod Begun
+pub mod Busy
+pub mod RacerLaws

@@ -1,0 +1,4 @@
+pub mod Lives
+pub mod Steps
+pub mod Growing
+pub mod Lines

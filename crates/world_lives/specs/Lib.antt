@@ -1,0 +1,4 @@
+pub mod Life
+pub mod Order
+pub mod Told
+pub mod Steps
