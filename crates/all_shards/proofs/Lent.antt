@@ -1,5 +1,5 @@
 -- lists of what is lent, read through the references
-use Rattle.std.proofs.Common.{◌≡◌, ℕ, List, [], ◌∷◌, ◌++◌, map, get_or, refl, ap, sym, ◌∙◌}
+use Rattle.std.proofs.Common.{◌≡◌, ℕ, Result, Ok, Err, OnOk, List, [], ◌∷◌, ◌++◌, map, get_or, refl, ap, sym, ◌∙◌}
 use Rattle.std.proofs.Math.ListN.{get_or-map}
 use Rattle.std.specs.List.{flat_map}
 
@@ -10,3 +10,8 @@ flat_map-map {A = A} f g (x ∷ xs) = ap (λ (ys : List A). f (g x) ++ ys) (flat
 -- what is read of the element at an index
 pub read_map : {X Y : Type 0} (g : X → Y) (xs : List X) (i : ℕ) (x : X) → x ≡ get_or xs i x → g x ≡ get_or (map g xs) i (g x)
 read_map g xs i x at = ap g at ∙ sym (get_or-map g xs i x)
+
+-- what follows where it is done
+pub on_ok : {R E : Type 0} {A B : Type 0} (result : Result R E) → OnOk result A → (A → B) → OnOk result B
+on_ok (Ok r) is then = then is
+on_ok (Err e) is then = tt

@@ -1,3 +1,4 @@
 pub mod AtPlaces
 pub mod Lent
 pub mod Stepped
+pub mod Shown
