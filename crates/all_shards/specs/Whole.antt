@@ -3,13 +3,10 @@ use Rattle.std.specs.Prelude.{◌≡◌, ℕ, Some, List, map, slice_get, refl}
 use Rattle.std.specs.Coded.{Coded, code_by, coded×, coded_ℕ}
 use Rattle.tect_ids.specs.declared.ids.Counts.{Counts}
 use Rattle.tect_ids.specs.Places.{layer_at}
-use Rattle.store_rules.specs.Files.{Files}
-use Rattle.store_rules.specs.Names.{Names}
 use Rattle.store_rules.specs.Store.{Store}
 use Rattle.store_shards.specs.Rows.{AreShards}
-use Rattle.name_shard.specs.Codes.{names_code}
-use Rattle.file_shard.specs.Codes.{files_code}
 use Rattle.layers.specs.declared.machine.AnyMachine.{AnyMachine}
+use Rattle.layers.specs.Codes.{store_code}
 use Rattle.layers.specs.Machines.{alone, layer_of}
 
 -- the counts of a store's shards, and the whole store
@@ -25,9 +22,7 @@ counts_code =
 
 abbrev pub whole_code : Coded WholeStore
 whole_code =
-    code_by (Counts × (Names × Files)) (coded× counts_code (coded× names_code files_code))
-    (λ w. (w.counts, (w.store.names, w.store.files))) (λ p. record { counts = p.0; store = record { names = p.1.0; files = p.1.1 } })
-    (λ _. refl)
+    code_by (Counts × Store) (coded× counts_code store_code) (λ w. (w.counts, w.store)) (λ p. record { counts = p.0; store = p.1 }) (λ _. refl)
 
 -- these are all shards of the store that they are together, each of its place's layer
 pub record AreAllShards (c : Counts) (ms : List AnyMachine) : Type 0 where
