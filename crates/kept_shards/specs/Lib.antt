@@ -1,3 +1,2 @@
 pub mod KeptStore
 pub mod Inside
-pub mod Opening

@@ -3,7 +3,6 @@
 
 mod commits;
 mod lending;
-mod opening;
 mod shards;
 
 pub use shards::KeptShards;

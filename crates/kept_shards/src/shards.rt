@@ -1,5 +1,5 @@
-ghost use Rattle.std.specs.Prelude.{◌≡◌, ◌+◌, [], map, replicate, OnOk, OnErr, IfOk, ◌↔◌};
-ghost use Rattle.tect_ids.specs.Places.{HasPlaces};
+ghost use Rattle.std.specs.Prelude.{◌≡◌, [], map, replicate, OnOk, OnErr, IfOk, ◌↔◌};
+ghost use Rattle.tect_ids.specs.Places.{HasPlaces, kept_count};
 ghost use Rattle.store_rules.specs.Dumps.{store_dump};
 ghost use Rattle.store_rules.specs.Places.{request_place};
 ghost use Rattle.store_rules.specs.Store.{opening_store};
@@ -9,18 +9,14 @@ ghost use Rattle.place_kit.specs.Started.{AreStarted};
 ghost use Rattle.kept_shards.specs.KeptStore.{KeptStore, IsDone};
 
 use crate::lending::machines;
-use crate::opening::{file_shards, name_shards};
 use all_shards::LentShards;
 use entry_words::Refused;
-use file_shard::FileShard;
-use name_shard::NameShard;
 use passes::Pass;
-use place_kit::{AnyKept, Kept};
+use place_kit::AnyKept;
 use std::alloc::Global;
 use std::marker::Model;
-use store_rules::{FileReply, FileReq, NameReply, NameReq};
-use tect_calls::{AnyReply, AnyReq, Asked, place};
-use tect_ids::{Counts, DumpLine, NoMemory, Place};
+use tect_calls::{AnyReply, Asked, place};
+use tect_ids::{Counts, DumpLine, NoMemory, Place, kept_count};
 
 /// All shards of the store, each with its history. Contracts see how many there are of each layer, the whole store that they
 /// are together, and the entries of each place.
@@ -28,8 +24,7 @@ use tect_ids::{Counts, DumpLine, NoMemory, Place};
 pub struct KeptShards {
     alloc: Global,
     counts: Counts,
-    names: Vec<Kept<NameShard>>,
-    files: Vec<Kept<FileShard>>,
+    kepts: Vec<AnyKept>,
 }
 
 impl Model for KeptShards {
@@ -51,15 +46,16 @@ impl KeptShards {
     pub fn start(alloc: Global, counts: Counts) -> Result<KeptShards, NoMemory>
         requires { HasPlaces counts }
         ensures { IfOk result
-            (λ shards. shards ≡ record { counts = counts; store = opening_store; entries = replicate (counts.names + counts.files) [] }) }
+            (λ shards. shards ≡ record { counts = counts; store = opening_store; entries = replicate (kept_count counts) [] }) }
     {
-        let names = name_shards(alloc, &counts)?;
-        let files = file_shards(alloc, &counts)?;
+        let mut kepts = Vec::new(alloc);
+        for number in 0..kept_count(&counts) {
+            kepts.push(AnyKept::start(alloc, &counts, Place(number))?)?;
+        }
         Ok(KeptShards {
             alloc,
             counts,
-            names,
-            files,
+            kepts,
         })
     }
 
@@ -82,50 +78,8 @@ impl KeptShards {
         ensures err { OnErr result ((self.new ≡ self.old) × (pass.new ≡ pass.old)) }
     {
         let place = place(asked.request(), &self.counts);
-        match asked.into_request() {
-            AnyReq::Name(req) => match self.commit_name(place, pass, req) {
-                Ok(reply) => Ok(AnyReply::Name(reply)),
-                Err(refused) => Err(refused),
-            },
-            AnyReq::File(req) => match self.commit_file(place, pass, req) {
-                Ok(reply) => Ok(AnyReply::File(reply)),
-                Err(refused) => Err(refused),
-            },
-        }
-    }
-
-    // Does a request at the name shard of its place.
-    fn commit_name(
-        &mut self,
-        place: Place,
-        pass: &mut Pass,
-        req: NameReq,
-    ) -> Result<NameReply, Refused>
-        requires { place ≡ request_place self.old.counts (AnyReq.Name req) }
-        ensures done { IfOk result (λ reply. IsDone self.old self.new pass.old pass.new (AnyReq.Name req) (AnyReply.Name reply)) }
-        ensures full { (result ≡ Err (Refused.HistoryFull place)) ↔ IsFull pass.old }
-        ensures memory { OnErr result (¬ IsFull pass.old → result ≡ Err Refused.NoMemory) }
-        ensures err { OnErr result ((self.new ≡ self.old) × (pass.new ≡ pass.old)) }
-    {
-        let kept = &mut self.names[place.0 as usize];
-        kept.commit(pass, req)
-    }
-
-    // Does a request at the file shard of its place.
-    fn commit_file(
-        &mut self,
-        place: Place,
-        pass: &mut Pass,
-        req: FileReq,
-    ) -> Result<FileReply, Refused>
-        requires { place ≡ request_place self.old.counts (AnyReq.File req) }
-        ensures done { IfOk result (λ reply. IsDone self.old self.new pass.old pass.new (AnyReq.File req) (AnyReply.File reply)) }
-        ensures full { (result ≡ Err (Refused.HistoryFull place)) ↔ IsFull pass.old }
-        ensures memory { OnErr result (¬ IsFull pass.old → result ≡ Err Refused.NoMemory) }
-        ensures err { OnErr result ((self.new ≡ self.old) × (pass.new ≡ pass.old)) }
-    {
-        let kept = &mut self.files[(place.0 - self.counts.names) as usize];
-        kept.commit(pass, req)
+        let kept = &mut self.kepts[place.0 as usize];
+        kept.commit(pass, asked.into_request())
     }
 
     /// The lines that a dump of the whole store shows: the directories of all shards by identifier, each followed by its
@@ -133,31 +87,15 @@ impl KeptShards {
     pub fn dump(&self) -> Result<Vec<DumpLine>, NoMemory>
         ensures { IfOk result (λ lines. lines.items ≡ store_dump self.now.store) }
     {
-        let names = machines(self.alloc, self.names.as_slice())?;
-        let files = machines(self.alloc, self.files.as_slice())?;
-        LentShards::new(self.alloc, self.counts, names, files).dump()
+        let machines = machines(self.alloc, self.kepts.as_slice())?;
+        LentShards::new(self.alloc, self.counts, machines).dump()
     }
 
-    /// All kept machines, in the order of their places. For want of memory they are lost.
-    pub fn into_kepts(self) -> Result<Vec<AnyKept>, NoMemory>
-        ensures started { IfOk result (λ kepts. AreStarted self.counts kepts.items) }
-        ensures entries { IfOk result (λ kepts. map history_of kepts.items ≡ self.entries) }
+    /// All kept machines, in the order of their places. It takes no memory.
+    pub fn into_kepts(self) -> Vec<AnyKept>
+        ensures started { AreStarted self.counts result.items }
+        ensures entries { map history_of result.items ≡ self.entries }
     {
-        let KeptShards {
-            alloc,
-            names,
-            files,
-            ..
-        } = self;
-        let mut kepts: Vec<AnyKept> = names
-            .into_iter()
-            .map(|kept| AnyKept::Name(kept))
-            .collect(alloc)?;
-        let mut files: Vec<AnyKept> = files
-            .into_iter()
-            .map(|kept| AnyKept::File(kept))
-            .collect(alloc)?;
-        kepts.append(&mut files)?;
-        Ok(kepts)
+        self.kepts
     }
 }

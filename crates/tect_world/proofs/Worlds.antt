@@ -25,7 +25,7 @@ use Rattle.world_runs.specs.OwnRuns.{own_state, RepliesAre, stored_after}
 use Rattle.world_runs.proofs.Actors.{own_state-append}
 use Rattle.whole_runs.proofs.Owns.{counts_stay}
 use Rattle.whole_runs.proofs.OwnLines.{transactions_own}
-use Rattle.all_shards.proofs.Stepped.{any_default}
+use Rattle.store_shards.proofs.Rows.{any_default}
 use Rattle.program_calls.specs.declared.turned.Turned.{Turned}
 use Rattle.clients.specs.Lives.{ClientLife, IsLife, events_in, state_in, op_in, next_op_in, idle_life, begun_life, refused_life}
 use Rattle.clients.specs.Refused.{RunsIn, IsRefused}

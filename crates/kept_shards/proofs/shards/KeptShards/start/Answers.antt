@@ -1,21 +1,31 @@
-use Rattle.std.proofs.Common.{map, refl}
-use Rattle.place_kit.specs.declared.any.AnyKept.TheVariants.{Name, File}
-use Rattle.all_shards.proofs.Stepped.{opening_shards, opening_together}
-use Rattle.kept_shards.proofs.Started.{all_started, all_new}
+use Rattle.std.proofs.Common.{◌≡◌, ℕ, subst, arith}
+use Rattle.tect_ids.specs.Places.{kept_count}
+use Rattle.all_shards.proofs.AtPlaces.{AllAt, push_at}
+use Rattle.kept_shards.proofs.Started.{IsNew, all_new, all_open, all_started}
 use Rattle.kept_shards.proofs.shards.KeptShards.start.Goals as goal
 
+pub loop-number-preserved : goal.loop-number-preserved
+loop-number-preserved c =
+    let is = c.in_ok-start.ensures in
+    rw c.in_ok-push.ensures.items
+    (push_at (IsNew c.args.counts) c.loop-number.number c.loop-number.kepts.items c.in_ok-start.field-0 c.loop-number.invariant
+    (record { label = is.label; machine = is.state; history = is.history }))
+
 pub invariant_of-result : goal.invariant_of-result
-invariant_of-result c = record {
-  shards = opening_shards c.args.counts (map (λ k. k.machine) c.in_ok-names.names.items) (map (λ k. k.machine) c.in_ok-files.files.items)
-      c.requires c.in_ok-names.ensures.machines c.in_ok-files.ensures.machines;
-  started = all_started c.args.counts c.in_ok-names.names.items c.in_ok-files.files.items Name File (λ k. refl) (λ k. refl)
-      c.in_ok-names.ensures.new c.in_ok-files.ensures.new;
-}
+invariant_of-result c =
+    let all : c.loop-number.number ≡ kept_count c.args.counts =
+    omega (arith, c.loop-number-test.false, c.loop-number.auto.number-end, c.kept_count-number-end.ensures) in
+    let new = subst (λ (n : ℕ). AllAt (IsNew c.args.counts) n c.loop-number.kepts.items) all c.loop-number.invariant in
+    record {
+      shards = (all_open c.args.counts c.requires c.loop-number.kepts.items new).1;
+      started = all_started c.args.counts c.requires c.loop-number.kepts.items new;
+    }
 
 pub returns : goal.returns
 returns c =
-    let all = opening_together c.args.counts (map (λ k. k.machine) c.in_ok-names.names.items)
-    (map (λ k. k.machine) c.in_ok-files.files.items) c.requires c.in_ok-names.ensures.machines c.in_ok-files.ensures.machines in
-    let none = all_new c.args.counts c.in_ok-names.names.items c.in_ok-files.files.items Name File (λ k. refl) (λ k. refl)
-    c.in_ok-names.ensures.new c.in_ok-files.ensures.new in
-    λ i. record { counts = c.args.counts; store = all i; entries = none i }
+    let all : c.loop-number.number ≡ kept_count c.args.counts =
+    omega (arith, c.loop-number-test.false, c.loop-number.auto.number-end, c.kept_count-number-end.ensures) in
+    let new = subst (λ (n : ℕ). AllAt (IsNew c.args.counts) n c.loop-number.kepts.items) all c.loop-number.invariant in
+    let store = (all_open c.args.counts c.requires c.loop-number.kepts.items new).0 in
+    let none = all_new c.args.counts c.requires c.loop-number.kepts.items new in
+    λ i. record { counts = c.args.counts; store = store i; entries = none i }
