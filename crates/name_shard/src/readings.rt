@@ -57,6 +57,6 @@ impl NameShard {
                 node: entry.node,
             })?;
         }
-        Ok(Items::from_vec(items))
+        Items::from_vec(items)
     }
 }

@@ -104,7 +104,7 @@ impl Programs for Running {
         command: Command,
     ) -> Result<Running, NoMemory> {
         Ok(Running {
-            state: start(command),
+            state: start(command)?,
         })
     }
 

@@ -1,10 +1,12 @@
 ghost use Rattle.std.specs.Prelude.{◌≡◌, IfOk, IfErr};
+ghost use Rattle.store_rules.specs.Names.{key_in};
 ghost use Rattle.store_rules.specs.Views.{as_found};
-ghost use Rattle.program_parts.specs.declared.walking.Walking.TheVariants.{There};
+ghost use Rattle.program_parts.specs.declared.next.Next.TheVariants.{Goes};
+ghost use Rattle.program_parts.specs.declared.walking.Walking.TheVariants.{Way, There};
 ghost use Rattle.program_parts.specs.Parts.{within};
 ghost use Rattle.program_parts.specs.Walks.{walk_on, walked, walk_asks, walk_hears};
 ghost use Rattle.program_rules.specs.Operations.{begins_in, operations};
-ghost use Rattle.op_names.specs.Ways.{walk_end};
+ghost use Rattle.op_names.specs.Ways.{walk_end, walk_from};
 
 use crate::operations;
 use crate::places::place_of_dir;
@@ -13,27 +15,35 @@ use program_parts::{Next, Walking};
 use program_rules::{Operation, OperationState};
 use store_rules::AnyReply;
 use tect_calls::{Asked, MadeDir, Memory, found_dir, name_look};
-use tect_ids::{Answer, Key, NoMemory, OpId, Path, Place};
+use tect_ids::{Answer, Key, Name, NoMemory, OpId, PathPart, Place};
 
 /// A command that walks, or is in a state of its operation.
 pub type Going = Walking<Operation, OperationState>;
 
-/// The walk along these names from that directory, and the operation where they lead. It takes no memory.
-pub fn start(dir: MadeDir, names: Path, operation: Operation) -> Going
-    ensures { result ≡ walk_on begins_in dir names operation }
+/// The walk along these names from that directory, and the operation where they lead. It takes memory for a name of more than 30 bytes
+/// alone.
+pub fn start(dir: MadeDir, names: PathPart, operation: Operation) -> Result<Going, NoMemory>
+    ensures { IfOk result (λ going. going ≡ walk_on begins_in dir names operation) }
 {
-    let mut names = names.into_vec();
-    if names.is_empty() {
-        return Walking::There {
+    let mut rest = names;
+    let first = rest.take_first()?;
+    Ok(begin(dir, first, rest, operation))
+}
+
+// The walk whose first name, if there is one, was taken off.
+fn begin(dir: MadeDir, first: Option<Name>, rest: PathPart, operation: Operation) -> Going
+    ensures { result ≡ walk_from dir first rest operation }
+{
+    match first {
+        Some(name) => Walking::Way {
+            dir,
+            name,
+            rest,
+            operation,
+        },
+        None => Walking::There {
             state: operations::start(operation, dir),
-        };
-    }
-    let name = names.remove(0);
-    Walking::Way {
-        dir,
-        name,
-        rest: Path::from_vec(names),
-        operation,
+        },
     }
 }
 
@@ -68,9 +78,8 @@ pub fn hear(
             rest,
             operation,
         } => {
-            let dir = dir.dir();
-            let place = place_of_dir(memory, dir);
-            Ok(hear_way(Key { dir, name }, rest, operation, place, reply))
+            let place = place_of_dir(memory, dir.dir());
+            hear_way(dir, name, rest, operation, place, reply)
         }
         Walking::There { state } => match operations::hear(state, memory, op, reply) {
             Ok(next) => Ok(there(next)),
@@ -79,22 +88,51 @@ pub fn hear(
     }
 }
 
+// At the reply to the look for a name on the way.
 fn hear_way(
-    key: Key,
-    rest: Path,
+    dir: MadeDir,
+    name: Name,
+    rest: PathPart,
     operation: Operation,
     place: Place,
     reply: &AnyReply,
-) -> Next<Going, Answer>
-    ensures { result ≡ walked begins_in place key rest operation reply.now (as_found reply.now) }
+) -> Result<Next<Going, Answer>, Going>
+    ensures ok { IfOk result (λ next. next ≡ walked begins_in place (key_in dir name) rest operation reply.now (as_found reply.now)) }
+    ensures err { IfErr result (λ same. same ≡ Way dir name rest operation) }
 {
     match found_dir(reply) {
-        Some(dir) => Next::Goes {
-            state: start(dir, rest, operation),
-        },
-        None => Next::Comes {
-            result: no_dir(key, place, reply),
-        },
+        Some(found) => go_further(dir, name, rest, operation, found),
+        None => {
+            let dir = dir.dir();
+            Ok(Next::Comes {
+                result: no_dir(Key { dir, name }, place, reply),
+            })
+        }
+    }
+}
+
+// On along the rest of the way, from the directory that was found.
+fn go_further(
+    dir: MadeDir,
+    name: Name,
+    rest: PathPart,
+    operation: Operation,
+    found: MadeDir,
+) -> Result<Next<Going, Answer>, Going>
+    ensures ok { IfOk result (λ next. next ≡ Goes (walk_on begins_in found rest operation)) }
+    ensures err { IfErr result (λ same. same ≡ Way dir name rest operation) }
+{
+    let mut rest = rest;
+    match rest.take_first() {
+        Ok(first) => Ok(Next::Goes {
+            state: begin(found, first, rest, operation),
+        }),
+        Err(NoMemory) => Err(Walking::Way {
+            dir,
+            name,
+            rest,
+            operation,
+        }),
     }
 }
 

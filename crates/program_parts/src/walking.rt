@@ -1,5 +1,5 @@
 use tect_calls::MadeDir;
-use tect_ids::{Name, Path};
+use tect_ids::{Name, PathPart};
 
 /// A command that walks along a path, and does its operation in the directory to which the path leads.
 #[derive(Drop)]
@@ -8,7 +8,7 @@ pub enum Walking<O, S> {
     Way {
         dir: MadeDir,
         name: Name,
-        rest: Path,
+        rest: PathPart,
         operation: O,
     },
     /// The operation runs.

@@ -106,6 +106,17 @@ ends_none n line (Some more) fault ends = absurd cc
 ends_none n line None fault ends = (refl, cc)
 
 module _ (counts : Counts) (whole : Result (List Line × Seen) ScriptFault) (before : List Line) (seen : Seen) (n : ℕ) (line : List ℕ)
+    (more : Option (Bor (List ℕ))) (read : Option Line)
+    (all : whole ≡ front before (lines_read counts seen n (line ∷ parts_behind 10 more))) (not_last : ends_script line more ≡ false)
+    (is : text_read counts seen n line ≡ Ok read) where
+  pub feed_wrong : (fault : ScriptFault) → EndsLine n line more (Err fault) → GivesRead (failed Plan fault) (plan_of counts whole)
+  feed_wrong fault ends =
+      let none = ends_none n line more fault ends in
+      let nothing : parts_behind 10 more ≡ [] = ap (λ (m : Option (Bor (List ℕ))). parts_behind 10 m) none.0 in
+      subst (λ (f : ScriptFault). GivesRead (failed Plan f) (plan_of counts whole)) (sym none.1)
+      (feed_missing counts whole before seen n line (parts_behind 10 more) all (is_line line more not_last) read is nothing)
+
+module _ (counts : Counts) (whole : Result (List Line × Seen) ScriptFault) (before : List Line) (seen : Seen) (n : ℕ) (line : List ℕ)
     (more : Option (Bor (List ℕ))) (rest : Bor (List ℕ)) (read : Option Line)
     (all : whole ≡ front before (lines_read counts seen n (line ∷ parts_behind 10 more))) (not_last : ends_script line more ≡ false)
     (is : text_read counts seen n line ≡ Ok read) (ends : EndsLine n line more (Ok rest)) where

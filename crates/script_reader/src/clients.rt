@@ -43,12 +43,11 @@ fn name_at(clients: &Clients, at: usize) -> Result<Name, NoMemory>
 pub fn names_of(alloc: Global, clients: &Clients) -> Result<Items<Name>, NoMemory>
     ensures { IfOk result (λ names. names ≡ keys_of clients.now.entries) }
 {
-    let mut names = Items::new(alloc);
+    let mut names = Vec::with_capacity(alloc, clients.len())?;
     'clients: for at in 0..clients.len() {
-        let name = name_at(clients, at)?;
-        names.push(name)?;
+        names.push(name_at(clients, at)?)?;
     }
-    Ok(names)
+    Items::from_vec(names)
 }
 
 /// Notes the state of a client, and answers its number, from 1.

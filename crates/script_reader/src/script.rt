@@ -1,4 +1,4 @@
-ghost use Rattle.std.specs.Prelude.{◌≡◌, ◌∷◌, [], ◌+◌, ◌-◌, ◌<◌, ◌≤◌, ◌^◌, IfOk, IfErr, OnOk, length};
+ghost use Rattle.std.specs.Prelude.{◌≡◌, ◌∷◌, ◌++◌, [], ◌+◌, ◌-◌, ◌<◌, ◌≤◌, ◌^◌, IfOk, IfErr, OnOk, length};
 ghost use Rattle.script_words.specs.Splitting.{parts, parts_behind};
 ghost use Rattle.script_words.specs.WordList.{spaced_length};
 ghost use Rattle.script_forms.specs.Clients.{seen_after};
@@ -128,13 +128,19 @@ fn is_end(line: &[u8], more: Option<&[u8]>) -> bool
     }
 }
 
+fn add_line(lines: &mut Vec<Line>, line: Line) -> Result<(), NoMemory>
+    ensures { OnOk result (lines.new.items ≡ lines.old.items ++ line ∷ []) }
+{
+    Ok(lines.push(line)?)
+}
+
 /// The lines behind the store line, from that number on.
 fn read_lines(alloc: Global, counts: Counts, first: u32, bytes: &[u8]) -> Result<Plan, ScriptFault>
     requires { first + length bytes.now < 2 ^ 32 }
     ensures { GivesRead result (plan_of counts (lines_read counts [] first (parts 10 bytes.now))) }
 {
     let mut clients = Clients::new(alloc);
-    let mut lines = Items::new(alloc);
+    let mut lines = Vec::new(alloc);
     let mut number = first;
     let mut rest = bytes;
     'lines: loop {
@@ -146,13 +152,13 @@ fn read_lines(alloc: Global, counts: Counts, first: u32, bytes: &[u8]) -> Result
         rest = behind_feed(number, line, more)?;
         number += 1;
         if let Some(line) = read {
-            lines.push(line)?;
+            add_line(&mut lines, line)?;
         }
     }
     Ok(Plan {
         counts,
         clients: names_of(alloc, &clients)?,
-        lines,
+        lines: Items::from_vec(lines)?,
     })
 }
 

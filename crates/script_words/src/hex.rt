@@ -67,7 +67,7 @@ pub fn read_hex(alloc: Global, word: &[u8]) -> Result<Bytes, NoMemory>
                 bytes.push(16 * hex_value(*high) + hex_value(*low))?;
                 rest = more;
             }
-            _ => return Ok(Items::from_vec(bytes)),
+            _ => return Items::from_vec(bytes),
         }
     }
 }

@@ -105,7 +105,7 @@ fn read_names(alloc: Global, names: &[u8]) -> Result<Path, NoMemory>
             Err(_) => return Err(NoMemory),
         }
         match more {
-            None => return Ok(Items::from_vec(path)),
+            None => return Items::from_vec(path),
             Some(more) => rest = more,
         }
     }
@@ -118,6 +118,6 @@ pub fn read_path(alloc: Global, word: &[u8]) -> Result<Path, NoMemory>
 {
     match word {
         [_, names @ ..] if !names.is_empty() => read_names(alloc, names),
-        _ => Ok(Items::new(alloc)),
+        _ => Ok(Items::new()),
     }
 }

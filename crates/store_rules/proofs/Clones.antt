@@ -1,6 +1,5 @@
 -- A clone of a request or of a reply is the same one.
 use Rattle.std.proofs.Common.{◌≡◌, ap, arith, rules}
-use Rattle.std.proofs.lemmas.List.Elements.{same_from_all_zip}
 use Rattle.store_rules.specs.contracts.any.AnyReqClone.TheImpl as any_req
 use Rattle.store_rules.specs.contracts.any.AnyReplyClone.TheImpl as any_reply
 use Rattle.store_rules.specs.contracts.files.FileReqClone.TheImpl as file_req
@@ -20,7 +19,7 @@ pub same_file_req : (a b : FileReq) → (file_req.ghosts).is_clone a b → b ≡
 same_file_req a b h = search rules
 
 pub same_name_reply : (a b : NameReply) → (name_reply.ghosts).is_clone a b → b ≡ a
-same_name_reply a b h = search (rules, same_from_all_zip)
+same_name_reply a b h = search rules
 
 pub same_req : (a b : AnyReq) → (any_req.ghosts).is_clone a b → b ≡ a
 same_req a b h = search (rules, same_name_req, same_file_req)

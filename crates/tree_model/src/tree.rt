@@ -140,14 +140,14 @@ impl Tree {
     fn listed(&self, dir: DirId) -> Result<Items<Listed>, NoMemory>
         ensures { IfOk result (λ items. items ≡ map as_listed (entries (within self.now.entries dir))) }
     {
-        let mut items = Items::new(self.alloc);
+        let mut items = Vec::with_capacity(self.alloc, self.entries.count(dir) as usize)?;
         for (key, node) in self.entries.within(dir) {
             items.push(Listed {
                 name: key.name.clone()?,
                 node: *node,
             })?;
         }
-        Ok(items)
+        Items::from_vec(items)
     }
 
     fn make(&self, node: Node) -> TreeReply
