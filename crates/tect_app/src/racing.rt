@@ -12,22 +12,28 @@ use crate::refusal::close;
 use crate::status::Status;
 use op_names::Running;
 use std::alloc::{AllocError, Global};
+use std::mem::forget;
 use std::sync::Wait;
 use std::thread::Threads;
 use tect_edge::{Gate, Sink};
-use tect_ids::{Place, Plan, ReportLine};
-use tect_race::{RaceFault, race};
+use tect_ids::{Place, Plan};
+use tect_race::{RaceFault, Raced, race};
 use tect_replay::{ReplayFault, write_report};
 
-/// Writes a report, and answers with which status that ended.
-fn show<K: Sink>(alloc: Global, lines: &[ReportLine], sink: &mut K) -> Status
+/// Writes the report of a race, and answers with which status that ended. All that the race kept is left to the end of the
+/// process.
+fn show<K: Sink>(alloc: Global, raced: Raced, sink: &mut K) -> Status
     ensures only { IsReportStatus result }
-    ensures whole { result ≡ Status.Ok → Appends (K.written sink.old) (K.written sink.new) (lines_text lines.now ++ end_text) }
-    ensures cut { result ≢ Status.Ok → AppendsProperPrefix (K.written sink.old) (K.written sink.new) (lines_text lines.now ++ end_text) }
+    ensures whole { result ≡ Status.Ok
+        → Appends (K.written sink.old) (K.written sink.new) (lines_text raced.report.items ++ end_text) }
+    ensures cut { result ≢ Status.Ok
+        → AppendsProperPrefix (K.written sink.old) (K.written sink.new) (lines_text raced.report.items ++ end_text) }
     ensures kept { result ≢ Status.WriteFault → K.faults sink.new ≡ K.faults sink.old }
     ensures failed { result ≡ Status.WriteFault → Rose (K.faults sink.old) (K.faults sink.new) }
 {
-    match write_report(alloc, lines, sink) {
+    let ended = write_report(alloc, raced.report.as_slice(), sink);
+    forget(raced);
+    match ended {
         Ok(()) => Status::Ok,
         Err(ReplayFault::NoMemory) => Status::NoMemory,
         Err(ReplayFault::Failed) => Status::WriteFault,
@@ -100,7 +106,7 @@ pub fn race_plan<R: Threads + Wait + Sync, K: Sink, G: Gate + Sync>(
     ensures failed { result ≡ Status.WriteFault → Rose (K.faults sink.old) (K.faults sink.new) }
 {
     match race::<Running, R, G>(rt, alloc, plan, workers, gate) {
-        Ok(raced) => show(alloc, raced.report.as_slice(), sink),
+        Ok(raced) => show(alloc, raced, sink),
         Err(fault) => refuse_race(alloc, &fault, sink),
     }
 }

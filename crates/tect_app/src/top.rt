@@ -15,6 +15,7 @@ use crate::refusal::{close, refuse};
 use crate::status::Status;
 use op_names::Running;
 use std::alloc::Global;
+use std::mem::forget;
 use std::sync::Wait;
 use std::thread::Threads;
 use tect_edge::{Gate, Sink, Source};
@@ -43,6 +44,8 @@ fn play<K: Sink>(alloc: Global, plan: &Plan, sink: &mut K) -> Status
 /// `Ok` comes where all of this was done, `BadScript` where the input is no script, at its first wrong place, and `TooLarge`
 /// where it passes a limit first; `ReadFault` and `WriteFault` where the source and the sink failed, and `NoMemory` for want
 /// of memory.
+///
+/// The memory of what it played is left to the end of the process, as [`run`] says.
 pub fn run_replay<S: Source, K: Sink>(alloc: Global, source: &mut S, sink: &mut K) -> Status
     ensures no_others { (result ≢ Status.Usage) × (result ≢ Status.Split) }
     ensures reported { result ≡ Status.Ok → IsReported Mode.Replay (S.left source.old) (S.left source.new) (K.written sink.old)
@@ -60,7 +63,11 @@ pub fn run_replay<S: Source, K: Sink>(alloc: Global, source: &mut S, sink: &mut 
     ensures sink_kept { result ≢ Status.WriteFault → K.faults sink.new ≡ K.faults sink.old }
 {
     match read_plan(alloc, source) {
-        Ok(plan) => play(alloc, &plan, sink),
+        Ok(plan) => {
+            let status = play(alloc, &plan, sink);
+            forget(plan);
+            status
+        }
         Err(InputFault::Failed) => close(sink, b"read fault\n", Status::ReadFault),
         Err(InputFault::Script(fault)) => refuse(alloc, fault, sink),
     }
@@ -72,6 +79,8 @@ pub fn run_replay<S: Source, K: Sink>(alloc: Global, source: &mut S, sink: &mut 
 ///
 /// The statuses are those of [`run_replay`], and `Split` where what the workers kept of the race is not what its places kept:
 /// then no report is written, but a line that names the actor and the step, or the place, where they differ.
+///
+/// The memory of what it played is left to the end of the process, as [`run`] says.
 pub fn run_race<R: Threads + Wait + Sync, S: Source, K: Sink, G: Gate + Sync>(
     rt: &R,
     alloc: Global,
@@ -99,7 +108,11 @@ pub fn run_race<R: Threads + Wait + Sync, S: Source, K: Sink, G: Gate + Sync>(
     ensures sink_kept { result ≢ Status.WriteFault → K.faults sink.new ≡ K.faults sink.old }
 {
     match read_plan(alloc, source) {
-        Ok(plan) => race_plan(rt, alloc, &plan, workers, sink, gate),
+        Ok(plan) => {
+            let status = race_plan(rt, alloc, &plan, workers, sink, gate);
+            forget(plan);
+            status
+        }
         Err(InputFault::Failed) => close(sink, b"read fault\n", Status::ReadFault),
         Err(InputFault::Script(fault)) => refuse(alloc, fault, sink),
     }
@@ -108,6 +121,9 @@ pub fn run_race<R: Threads + Wait + Sync, S: Source, K: Sink, G: Gate + Sync>(
 /// The program: the words of the command line, the input and the output. The words `replay` alone ask for [`run_replay`], and
 /// `race --workers N`, N from 1 to 64 in decimal digits without a leading zero, for [`run_race`]. At any others nothing is
 /// read, and the answer is `Usage` with a line that names the modes.
+///
+/// It is a whole program, to be called once: the memory of the plan, and of the store and its history, is left to the end of the
+/// process, since to give it back piece by piece takes time and gains nothing there.
 pub fn run<R: Threads + Wait + Sync, S: Source, K: Sink, G: Gate + Sync>(
     rt: &R,
     alloc: Global,

@@ -8,6 +8,7 @@ use crate::lines::play_line;
 use crate::writing::{write_piece, write_shown};
 use program_calls::Programs;
 use std::alloc::Global;
+use std::mem::forget;
 use tect_edge::Sink;
 use tect_ids::Plan;
 use tect_world::World;
@@ -16,6 +17,8 @@ use tect_world::World;
 /// of each command that is stopped or finds no memory, and the lines of each dump, and then `end`; each line by one piece.
 ///
 /// `NoMemory` comes for want of memory, and `Failed` where the sink failed. What was written is then a front of a report.
+///
+/// A world whose script was played to its end is not taken apart: its memory is left to the end of the process.
 pub fn replay<P: Programs + Drop, K: Sink>(
     alloc: Global,
     plan: &Plan,
@@ -34,5 +37,6 @@ pub fn replay<P: Programs + Drop, K: Sink>(
         let shown = play_line(alloc, plan.clients.as_slice(), &mut world, line)?;
         write_shown(&shown, &mut buffer, sink)?;
     }
+    forget(world);
     write_piece(sink, b"end\n")
 }

@@ -6,13 +6,13 @@ use Rattle.tect_app.proofs.top.run_replay.Goals as goal
 
 pub returns-in-Ok-clause-write_fault : goal.returns-in-Ok-clause-write_fault
 returns-in-Ok-clause-write_fault g c failed =
-    let not_done : c.play.result ≢ Ok = grind (arith, failed) in (
-      c.play.ensures.failed failed,
+    let not_done : c.play-status.result ≢ Ok = grind (arith, failed) in (
+      c.play-status.ensures.failed failed,
       inr (inr (inl (cut_script Replay c.in-Ok.plan (g.S.Source.left c.args.source.now) _ _ c.in-Ok.ensures.spelled
-          (c.play.ensures.cut not_done)))),
+          (c.play-status.ensures.cut not_done)))),
     )
 
 pub returns-in-Ok-clause-no_memory : goal.returns-in-Ok-clause-no_memory
 returns-in-Ok-clause-no_memory g c starved =
-    let not_done : c.play.result ≢ Ok = grind (arith, starved) in
-    inr (cut_script Replay c.in-Ok.plan (g.S.Source.left c.args.source.now) _ _ c.in-Ok.ensures.spelled (c.play.ensures.cut not_done))
+    let not_done : c.play-status.result ≢ Ok = grind (arith, starved) in
+    inr (cut_script Replay c.in-Ok.plan (g.S.Source.left c.args.source.now) _ _ c.in-Ok.ensures.spelled (c.play-status.ensures.cut not_done))
