@@ -4,3 +4,4 @@ pub mod Openings
 pub mod Committing
 pub mod AllKinds
 pub mod Answered
+pub mod Crossing

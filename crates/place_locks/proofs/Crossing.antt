@@ -1,33 +1,9 @@
 -- Threads may share the places. A search for it alone stops at its limits.
-use denote.Param.Send.{IsSend, IsSync, sendable}
+use denote.Param.Send.{IsSync, sendable}
 use Rattle.std.proofs.Crossing.{crosses}
-use Rattle.file_shard.specs.contracts.shard.FileShard as FileShard
-use Rattle.file_shard.proofs.shard.FileShard.TheSendSync as files
-use Rattle.name_shard.specs.contracts.shard.NameShard as NameShard
-use Rattle.name_shard.proofs.shard.NameShard.TheSendSync as names
-use Rattle.entry_words.specs.contracts.entry.Entry as Entry
-use Rattle.place_kit.specs.contracts.files.FileShardMachine.TheImpl as FileMachine
-use Rattle.place_kit.specs.contracts.kept.Kept as Kept
-use Rattle.passes.specs.contracts.log.Log as Log
-use Rattle.place_kit.specs.contracts.names.NameShardMachine.TheImpl as NameMachine
-use Rattle.entry_words.proofs.entry.Entry.TheSendSync as entry
-use Rattle.entry_words.proofs.entry.Label.TheSendSync as label
-use Rattle.passes.proofs.log.Log.TheSendSync as log
-use Rattle.store_rules.specs.contracts.files.FileReq as FileReq
-use Rattle.store_rules.specs.contracts.files.FileReply as FileReply
-use Rattle.store_rules.specs.contracts.names.NameReq as NameReq
-use Rattle.store_rules.specs.contracts.names.NameReply as NameReply
+use Rattle.place_kit.proofs.Crossing.{AnyKept-send}
 use Rattle.tect_ids.proofs.ids.Counts.TheSendSync as counts
 use Rattle.place_locks.specs.contracts.places.Places.{the_row}
 
-history : IsSend (Log.the_row Entry.the_row)
-history = log.the_send Entry.the_row entry.the_send
-
-kept_names : IsSend (Kept.the_row NameShard.the_row NameReq.the_row NameReply.the_row NameMachine.ghosts)
-kept_names = search (sendable, crosses, label.the_send, names.the_send, history) depth 20
-
-kept_files : IsSend (Kept.the_row FileShard.the_row FileReq.the_row FileReply.the_row FileMachine.ghosts)
-kept_files = search (sendable, crosses, label.the_send, files.the_send, history) depth 20
-
 pub Places-sync : IsSync the_row
-Places-sync = search (sendable, crosses, counts.the_sync, kept_names, kept_files) depth 20
+Places-sync = search (sendable, crosses, counts.the_sync, AnyKept-send) depth 20

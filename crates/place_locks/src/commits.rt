@@ -1,14 +1,18 @@
-ghost use Rattle.std.specs.Prelude.{◌≡◌, ◌↔◌, ◌<◌, ◌^◌, IfOk, IfErr, OnErr};
+ghost use Rattle.std.specs.Prelude.{◌≡◌, ◌↔◌, ◌<◌, ◌^◌, IfOk, IfErr, OnOk, OnErr};
+ghost use Rattle.store_rules.specs.Alone.{request_layer};
 ghost use Rattle.passes.specs.Commits.{HasRoom, IsFull};
-ghost use Rattle.place_kit.specs.Committed.{Served};
+ghost use Rattle.place_kit.specs.Asked.{asked_in, IsReady};
+ghost use Rattle.place_kit.specs.Committing.{AnyServed};
+ghost use Rattle.place_kit.specs.Kept.{label_of};
 ghost use Rattle.place_locks.specs.Commits.{HasCommitted, IsMissOf, IsRefusalFor};
 ghost use Rattle.place_locks.specs.Serving.{IsNext};
 
 use entry_words::{Label, Refused};
 use passes::{Pass, Receipt};
-use place_kit::{Kept, Machine, Prepared};
+use place_kit::{AnyKept, AnyPrepared};
 use std::hint::spin_loop;
 use std::sync::{Mutex, MutexGuard, Wait};
+use store_rules::{AnyReply, AnyReq};
 use tect_edge::Gate;
 use tect_ids::NoMemory;
 
@@ -24,14 +28,15 @@ pub(crate) struct Caller<'a, R: Wait, G: Gate> {
 }
 
 // One commit at the place behind a lock, where the machine is to have that label.
-pub(crate) fn commit_at<M: Machine, R: Wait, G: Gate>(
+pub(crate) fn commit_at<R: Wait, G: Gate>(
     caller: Caller<'_, R, G>,
-    at: &Mutex<Kept<M>>,
+    at: &Mutex<AnyKept>,
     want: Label,
     pass: &mut Pass,
-    req: M::Req,
-) -> Result<M::Reply, Refused>
-    ensures done { IfOk result (λ reply. HasCommitted pass.old pass.new want.place (M.wide req) (M.wide_reply reply)) }
+    req: AnyReq,
+) -> Result<AnyReply, Refused>
+    requires layer { want.layer ≡ request_layer req }
+    ensures done { IfOk result (λ reply. HasCommitted pass.old pass.new want.place req reply) }
     ensures full { (result ≡ Err (Refused.HistoryFull want.place)) ↔ IsFull pass.old }
     ensures refused { IfErr result (IsRefusalFor want) }
     ensures err { OnErr result (pass.new ≡ pass.old) }
@@ -43,19 +48,20 @@ pub(crate) fn commit_at<M: Machine, R: Wait, G: Gate>(
 }
 
 // One commit of a pass that is not full. The lock is held only for what needs the machine.
-fn commit_with_room<M: Machine, R: Wait, G: Gate>(
+fn commit_with_room<R: Wait, G: Gate>(
     caller: Caller<'_, R, G>,
-    at: &Mutex<Kept<M>>,
+    at: &Mutex<AnyKept>,
     want: Label,
     pass: &mut Pass,
-    req: M::Req,
-) -> Result<M::Reply, Refused>
-    requires { HasRoom pass.old }
-    ensures done { IfOk result (λ reply. HasCommitted pass.old pass.new want.place (M.wide req) (M.wide_reply reply)) }
+    req: AnyReq,
+) -> Result<AnyReply, Refused>
+    requires layer { want.layer ≡ request_layer req }
+    requires room { HasRoom pass.old }
+    ensures done { IfOk result (λ reply. HasCommitted pass.old pass.new want.place req reply) }
     ensures missed { IfErr result (IsMissOf want) }
     ensures err { OnErr result (pass.new ≡ pass.old) }
 {
-    let Ok(prepared) = Prepared::new(pass, req) else {
+    let Ok(prepared) = AnyPrepared::new(pass, req) else {
         return Err(Refused::NoMemory);
     };
     let spare = prepared.spare();
@@ -72,16 +78,17 @@ fn commit_with_room<M: Machine, R: Wait, G: Gate>(
 }
 
 // What needs the machine behind the lock: the atomic step of the commit. The receipt then brings the same entry into the pass.
-fn serve_at<M: Machine, R: Wait, G: Gate>(
+fn serve_at<R: Wait, G: Gate>(
     caller: Caller<'_, R, G>,
-    at: &Mutex<Kept<M>>,
+    at: &Mutex<AnyKept>,
     want: Label,
     pass: &Pass,
-    prepared: Prepared<M>,
-) -> Result<(M::Reply, Receipt), Refused>
-    requires ready { prepared.copy ≡ M.wide prepared.req }
+    prepared: AnyPrepared,
+) -> Result<(AnyReply, Receipt), Refused>
+    requires layer { want.layer ≡ request_layer (asked_in prepared) }
+    requires ready { IsReady prepared }
     requires early { pass.now.clock < 2 ^ 63 }
-    ensures next { IfOk result (λ r. IsNext pass.now want.place (M.wide prepared.req) (M.wide_reply r.0) r.1) }
+    ensures next { IfOk result (λ r. IsNext pass.now want.place (asked_in prepared) r.0 r.1) }
     ensures missed { IfErr result (IsMissOf want) }
 {
     let Caller { rt, worker, gate } = caller;
@@ -108,26 +115,36 @@ fn take_lock<'a, T, R: Wait>(rt: &R, at: &'a Mutex<T>) -> MutexGuard<'a, T> {
 
 // What needs the machine, which is to have that label: the atomic step. Its history has the entry that the receipt is of, stamped
 // above both clocks.
-fn serve_as<M: Machine>(
-    kept: &mut Kept<M>,
+fn serve_as(
+    kept: &mut AnyKept,
     want: Label,
     pass: &Pass,
-    prepared: Prepared<M>,
-) -> Result<(M::Reply, Receipt), Refused>
-    requires ready { prepared.copy ≡ M.wide prepared.req }
+    prepared: AnyPrepared,
+) -> Result<(AnyReply, Receipt), Refused>
+    requires layer { want.layer ≡ request_layer (asked_in prepared) }
+    requires ready { IsReady prepared }
     requires early { pass.now.clock < 2 ^ 63 }
-    ensures next { IfOk result (λ r. IsNext pass.now want.place (M.wide prepared.req) (M.wide_reply r.0) r.1) }
-    ensures served { IfOk result (λ r. Served kept.old kept.new pass.now (M.wide prepared.req) (M.wide_reply r.0) r.1) }
-    ensures astray { ¬ (kept.old.label ≡ want) → result ≡ Err (Refused.Astray want kept.old.label) }
+    ensures next { IfOk result (λ r. IsNext pass.now want.place (asked_in prepared) r.0 r.1) }
+    ensures served { IfOk result (λ r. AnyServed kept.old kept.new pass.now (asked_in prepared) r.0 r.1) }
+    ensures astray { ¬ (label_of kept.old ≡ want) → result ≡ Err (Refused.Astray want (label_of kept.old)) }
     ensures missed { IfErr result (IsMissOf want) }
     ensures err { OnErr result (kept.new ≡ kept.old) }
+{
+    check_label(kept, want)?;
+    match kept.serve(pass, prepared) {
+        Ok(served) => Ok(served),
+        Err(NoMemory) => Err(Refused::NoMemory),
+    }
+}
+
+/// Whether a machine has that label. It is astray where it has another.
+pub(crate) fn check_label(kept: &AnyKept, want: Label) -> Result<(), Refused>
+    ensures ok { OnOk result (label_of kept.now ≡ want) }
+    ensures astray { IfErr result (λ e. (e ≡ Refused.Astray want (label_of kept.now)) × ¬ (label_of kept.now ≡ want)) }
 {
     let found = kept.label();
     if found != want {
         return Err(Refused::Astray { want, found });
     }
-    match kept.serve(pass, prepared) {
-        Ok(served) => Ok(served),
-        Err(NoMemory) => Err(Refused::NoMemory),
-    }
+    Ok(())
 }

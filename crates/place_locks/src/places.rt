@@ -8,43 +8,39 @@ ghost use Rattle.place_kit.specs.Started.{AreStarted};
 ghost use Rattle.place_locks.specs.Losses.{IsLoss};
 
 use crate::commits::{Caller, commit_at};
-use crate::opening::{file_places, name_places};
-use crate::taking::{take_files, take_names};
+use crate::opening::open_places;
+use crate::taking::take_all;
 use crossbeam_utils::CachePadded;
 use entry_words::{Refused, label_at};
-use file_shard::FileShard;
-use name_shard::NameShard;
 use passes::Pass;
-use place_kit::{AnyKept, Kept};
+use place_kit::AnyKept;
 use std::alloc::Global;
 use std::marker::Model;
 use std::sync::{Mutex, Wait};
-use tect_calls::{AnyReply, AnyReq, Asked, place};
+use tect_calls::{AnyReply, Asked, place};
 use tect_edge::Gate;
 use tect_ids::{Counts, NoMemory};
 
-/// All shards with their histories, each behind a lock of its own. Contracts see how many there are.
-///
-/// The name shards are the first places, and the file shards those after them.
+/// All shards with their histories, in the order of their places, each behind a lock of its own. Contracts see how many there are of
+/// each layer.
 #[derive(Drop)]
 pub struct Places {
     alloc: Global,
     counts: Counts,
     // Each lock with its shard has cache lines of its own, so that a commit there slows no commit at another shard.
-    names: Vec<CachePadded<Mutex<Kept<NameShard>>>>,
-    files: Vec<CachePadded<Mutex<Kept<FileShard>>>>,
+    kepts: Vec<CachePadded<Mutex<AnyKept>>>,
 }
 
 impl Model for Places {
     ghost use Rattle.std.specs.Prelude.{◌≡◌, vec_len};
     ghost use Rattle.tect_ids.specs.declared.ids.Counts.{Counts};
-    ghost use Rattle.tect_ids.specs.Places.{HasPlaces};
+    ghost use Rattle.tect_ids.specs.Places.{HasPlaces, kept_count};
 
     ghost Value = { Counts };
 
     ghost view = { λ p. p.counts };
 
-    ghost invariant = { λ p. HasPlaces p.counts × (vec_len p.names ≡ p.counts.names) × (vec_len p.files ≡ p.counts.files) };
+    ghost invariant = { λ p. HasPlaces p.counts × (vec_len p.kepts ≡ kept_count p.counts) };
 }
 
 impl Places {
@@ -53,13 +49,11 @@ impl Places {
         requires { HasPlaces counts }
         ensures { IfOk result (λ places. places ≡ counts) }
     {
-        let names = name_places(alloc, &counts)?;
-        let files = file_places(alloc, &counts)?;
+        let kepts = open_places(alloc, &counts)?;
         Ok(Places {
             alloc,
             counts,
-            names,
-            files,
+            kepts,
         })
     }
 
@@ -87,22 +81,8 @@ impl Places {
         let place = place(asked.request(), &self.counts);
         let want = label_at(&self.counts, place);
         let caller = Caller { rt, worker, gate };
-        match asked.into_request() {
-            AnyReq::Name(req) => {
-                let at = &*self.names[place.0 as usize];
-                match commit_at(caller, at, want, pass, req) {
-                    Ok(reply) => Ok(AnyReply::Name(reply)),
-                    Err(refused) => Err(refused),
-                }
-            }
-            AnyReq::File(req) => {
-                let at = &*self.files[(place.0 - self.counts.names) as usize];
-                match commit_at(caller, at, want, pass, req) {
-                    Ok(reply) => Ok(AnyReply::File(reply)),
-                    Err(refused) => Err(refused),
-                }
-            }
-        }
+        let at = &*self.kepts[place.0 as usize];
+        commit_at(caller, at, want, pass, asked.into_request())
     }
 
     /// All shards in the order of their places, each with the label that its place was started with.
@@ -116,12 +96,8 @@ impl Places {
         let Places {
             alloc,
             counts,
-            names,
-            files,
+            kepts,
         } = self;
-        let mut kepts = Vec::new(alloc);
-        take_names(&counts, names, &mut kepts)?;
-        take_files(&counts, files, &mut kepts)?;
-        Ok(kepts)
+        take_all(alloc, &counts, kepts)
     }
 }
