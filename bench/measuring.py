@@ -21,13 +21,13 @@ class Run(NamedTuple):
     said: str
 
 
-def run(script, *words, **environment):
+def run(script, *words, program=PROGRAM, **environment):
     """One run of the program over that script; its report is thrown away."""
-    if not PROGRAM.exists():
-        sys.exit(f"no program at {PROGRAM}: run ./tect replay < examples/first.script first")
+    if not program.exists():
+        sys.exit(f"no program at {program}: run ./tect replay < examples/first.script first")
     with open(script, "rb") as source, tempfile.TemporaryFile() as errors:
         start = time.perf_counter()
-        process = subprocess.Popen([PROGRAM, *words], stdin=source, stdout=subprocess.DEVNULL, stderr=errors, env={**os.environ, **environment})
+        process = subprocess.Popen([program, *words], stdin=source, stdout=subprocess.DEVNULL, stderr=errors, env={**os.environ, **environment})
         _, status, usage = os.wait4(process.pid, 0)
         seconds = time.perf_counter() - start
         errors.seek(0)
@@ -37,9 +37,9 @@ def run(script, *words, **environment):
     return Run(seconds, usage.ru_utime + usage.ru_stime, usage.ru_maxrss * 1024, said)
 
 
-def fastest(times, script, *words):
+def fastest(times, script, *words, program=PROGRAM):
     """The least time, processor time and memory of so many runs."""
-    runs = [run(script, *words) for _ in range(times)]
+    runs = [run(script, *words, program=program) for _ in range(times)]
     return Run(min(ran.seconds for ran in runs), min(ran.processor for ran in runs), min(ran.memory for ran in runs), "")
 
 
