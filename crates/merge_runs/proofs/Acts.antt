@@ -1,14 +1,17 @@
 -- The entries of a list are those of the transactions among its moments, however they were heard.
-use Rattle.std.proofs.Common.{◌≡◌, inl, inr, List, [], ◌∷◌, refl, ap, subst, map}
+use Rattle.std.proofs.Common.{◌≡◌, inl, inr, ℕ, List, [], ◌∷◌, ◌++◌, refl, ◌∙◌, ap, subst, eqb}
+use Rattle.std.specs.List.{filter}
+use Rattle.std.proofs.lemmas.List.Elements.{filter-append}
+use borrow.Author.Tests.{eqb-true, eq-eqb}
 use Rattle.entry_words.specs.declared.entry.Entry.{Entry}
 use Rattle.entry_words.specs.declared.entry.Moment.{Moment}
 use Rattle.entry_words.specs.declared.entry.Moment.TheVariants.{Act, Local}
 use Rattle.program_forms.specs.declared.heard.Heard.{Heard}
-use Rattle.program_forms.specs.declared.heard.Heard.TheVariants.{Whole}
-use Rattle.entry_words.specs.Moments.{trail_of}
-use Rattle.merge_runs.specs.Merged.{BeforeAll, IsInOrder}
+use Rattle.entry_words.specs.Moments.{is_at, trail_of}
+use Rattle.merge_runs.specs.Walks.{acted_at}
 use Rattle.merge_runs.specs.Splits.{IsActOf}
 use Rattle.merge_runs.proofs.Order.{In}
+use Rattle.merge_runs.proofs.Members.{in_filter, filter_in}
 
 pub act_in : (ms : List Moment) (e : Entry) → In e (trail_of ms) → (heard : Heard) × In (Act e heard) ms
 act_in [] e i = absurd i
@@ -28,21 +31,23 @@ pub act_of_in : (ms : List Moment) (e : Entry) (m : Moment) → IsActOf e m → 
 act_of_in ms e (Act x heard) h i = entry_in ms e heard (subst (λ y. In (Act y heard) ms) h i)
 act_of_in ms e (Local s a n) h i = absurd h
 
--- transactions of which each reply was heard whole
-abbrev pub acts : List Entry → List Moment
-acts es = map (λ e. Act e Whole) es
+trail_append : (xs ys : List Moment) → trail_of (xs ++ ys) ≡ trail_of xs ++ trail_of ys
+trail_append [] ys = refl
+trail_append (Act e heard ∷ xs) ys = ap (λ es. e ∷ es) (trail_append xs ys)
+trail_append (Local s a n ∷ xs) ys = trail_append xs ys
 
-pub trail_of-acts : (es : List Entry) → trail_of (acts es) ≡ es
-trail_of-acts [] = refl
-trail_of-acts (e ∷ es) = ap (λ xs. e ∷ xs) (trail_of-acts es)
+pub acted_append : (n : ℕ) (xs ys : List Moment) → acted_at n (xs ++ ys) ≡ acted_at n xs ++ acted_at n ys
+acted_append n xs ys = ap trail_of (filter-append (is_at n) xs ys) ∙ trail_append (filter (is_at n) xs) (filter (is_at n) ys)
 
-before_acts : (e : Entry) (heard : Heard) (ms : List Moment) → BeforeAll (Act e heard) ms → BeforeAll (Act e Whole) (acts (trail_of ms))
-before_acts e heard [] b = tt
-before_acts e heard (Act x k ∷ ms) b = (b.0, before_acts e heard ms b.1)
-before_acts e heard (Local s a n ∷ ms) b = before_acts e heard ms b.1
+-- the entries at a place are those of the moments that name it
+pub acted_in : (n : ℕ) (ms : List Moment) (e : Entry) → In e (acted_at n ms) → In e (trail_of ms) × (e.place.0 ≡ n)
+acted_in n ms e i =
+    let a = act_in (filter (is_at n) ms) e i in
+    let f = in_filter (is_at n) ms (Act e a.0) a.1 in
+    (entry_in ms e a.0 f.0, eqb-true e.place.0 n f.1)
 
--- the order does not go by how they were heard
-pub order_acts : (ms : List Moment) → IsInOrder ms → IsInOrder (acts (trail_of ms))
-order_acts [] o = tt
-order_acts (Act e heard ∷ ms) o = (before_acts e heard ms o.0, order_acts ms o.1)
-order_acts (Local s a n ∷ ms) o = order_acts ms o.1
+pub in_acted : (ms : List Moment) (e : Entry) → In e (trail_of ms) → In e (acted_at e.place.0 ms)
+in_acted ms e i =
+    let a = act_in ms e i in
+    entry_in (filter (is_at e.place.0) ms) e a.0
+    (filter_in (is_at e.place.0) ms (Act e a.0) a.1 (eq-eqb e.place.0 e.place.0 refl))

@@ -3,7 +3,6 @@ pub mod Acts
 pub mod Members
 pub mod Strict
 pub mod Restricts
-pub mod Search
 pub mod Trails
 pub mod Places
 pub mod Known
@@ -13,6 +12,9 @@ pub mod Splits
 pub mod Matches
 pub mod Distinct
 pub mod Agreement
+pub mod Rising
+pub mod Walks
+pub mod Taking
 pub mod Gathers
 pub mod Laws
 pub mod Spots

@@ -1,17 +1,13 @@
 -- Two lists in order that have the same moments are equal.
 use Rattle.std.proofs.Common.{◌≡◌, ℕ, ◌<◌, ◌≤◌, Bool, true, false, ◌&&◌, ◌⊎◌, inl, inr, List, [], ◌∷◌, refl, sym, ◌∙◌}
-use Rattle.std.proofs.Common.{ap, subst, arith, ltb, map}
+use Rattle.std.proofs.Common.{ap, subst, arith, ltb}
 use Rattle.std.specs.Ordering.{ordering_reverse}
 use Rattle.std.specs.declared.cmp.Ordering.TheVariants.{Less, Greater}
 use Rattle.std.specs.Cmp.{IsTotalOrder}
 use Rattle.std.proofs.lemmas.Cmp.{nat_cmp_total, on_total, then_total}
 use borrow.Author.Tests.{ltb-true, lt-ltb}
-use Rattle.entry_words.specs.declared.entry.Entry.{Entry}
 use Rattle.entry_words.specs.declared.entry.Moment.{Moment}
-use Rattle.entry_words.specs.declared.entry.Moment.TheVariants.{Act}
-use Rattle.program_forms.specs.declared.heard.Heard.TheVariants.{Whole}
 use Rattle.entry_words.specs.Moments.{stamp_of, actor_of, place_of_moment, rises}
-use Rattle.place_kit.specs.Replay.{stamps_rise}
 use Rattle.merge_runs.specs.Merged.{moment_cmp, Before, BeforeAll, IsInOrder}
 
 -- membership by cases on the list
@@ -73,17 +69,3 @@ order_rises low high [] r = tt
 order_rises low high (m ∷ ms) r =
     let s = both (ltb low (stamp_of m)) (rises (stamp_of m) high ms) r in
     (rises_before m (stamp_of m) high ms s.1 (omega arith), order_rises (stamp_of m) high ms s.1)
-
-history_before : (x : Moment) (low high : ℕ) (es : List Entry) → stamps_rise low high es ≡ true → stamp_of x ≤ low
-    → BeforeAll x (map (λ e. Act e Whole) es)
-history_before x low high [] r h = tt
-history_before x low high (e ∷ es) r h =
-    let s = both (ltb low e.stamp) (stamps_rise e.stamp high es) r in
-    let l : low < e.stamp = ltb-true low e.stamp s.0 in
-    (stamp_before x (Act e Whole) (omega arith), history_before x e.stamp high es s.1 (omega arith))
-
-pub order_history : (low high : ℕ) (es : List Entry) → stamps_rise low high es ≡ true → IsInOrder (map (λ e. Act e Whole) es)
-order_history low high [] r = tt
-order_history low high (e ∷ es) r =
-    let s = both (ltb low e.stamp) (stamps_rise e.stamp high es) r in
-    (history_before (Act e Whole) e.stamp high es s.1 (omega arith), order_history e.stamp high es s.1)

@@ -1,7 +1,8 @@
 -- Places that are numbered in order: each number is one of them.
 use Rattle.std.proofs.Common.{◌≡◌, ℕ, zero, suc, ◌+◌, ◌<◌, ◌≤◌, Bool, true, false, cond, ◌⊎◌, inl, inr, List, [], ◌∷◌}
-use Rattle.std.proofs.Common.{refl, sym, ap, subst, arith, eqb, length, get_or}
+use Rattle.std.proofs.Common.{refl, sym, ap, subst, arith, eqb, length, get_or, map}
 use Rattle.std.specs.List.{Contains}
+use Rattle.std.proofs.lemmas.List.{get_or_past}
 use Rattle.std.proofs.lemmas.List.Sums.{sum_by-cons}
 use Rattle.std.proofs.lemmas.List.Elements.{Contains-get_or}
 use borrow.Author.Tests.{eqb-true}
@@ -9,6 +10,8 @@ use Rattle.place_kit.specs.declared.any.AnyKept.{AnyKept}
 use Rattle.entry_words.specs.declared.entry.Entry.{Entry}
 use Rattle.place_kit.specs.Kept.{history_of, place_of}
 use Rattle.merge_runs.specs.Merged.{StandInOrder, IsStored, histories}
+use Rattle.merge_runs.specs.Walks.{list_at}
+use Rattle.merge_runs.proofs.Order.{In}
 use Rattle.merge_runs.proofs.Members.{count_of, in_from_contains, contains_from_in, in_flat, flat_in}
 use Rattle.merge_runs.proofs.Restricts.{place_kept}
 
@@ -70,3 +73,40 @@ stored_from_histories ks e c =
 pub histories_from_stored : (ks : List AnyKept) (e : Entry) → IsStored ks e → Contains (histories ks) e
 histories_from_stored ks e w =
     contains_from_in (histories ks) e (flat_in history_of ks w.0 e (in_from_contains ks w.0 w.1) (in_from_contains (history_of w.0) e w.3))
+
+-- what the list of a number has is in the history of that place
+pub placed_at : (n : ℕ) (ks : List AnyKept) (i : ℕ) (e : Entry) → StandInOrder n ks → In e (list_at (map history_of ks) i)
+    → (k : AnyKept) × In k ks × (place_of k ≡ n + i) × In e (history_of k)
+placed_at n [] i e s j = absurd (subst (λ es. In e es) (get_or_past {X = List Entry} [] i [] (omega arith)) j)
+placed_at n (k ∷ ks) zero e s j = (k, inl refl, (let a = s.0 in omega arith), j)
+placed_at n (k ∷ ks) (suc i) e s j = let r = placed_at (n + 1) ks i e s.1 j in (r.0, inr r.1, (let q = r.2 in omega arith), r.3)
+
+above : (n : ℕ) (ks : List AnyKept) (k : AnyKept) → StandInOrder n ks → In k ks → n ≤ place_of k
+above n [] k s i = absurd i
+above n (x ∷ ks) k s (inl q) = let a : place_of k ≡ n = subst (λ y. place_of y ≡ n) q s.0 in omega arith
+above n (x ∷ ks) k s (inr i) = let r = above (n + 1) ks k s.1 i in omega arith
+
+-- the list of a place's number is its history
+pub list_of_place : (n : ℕ) (ks : List AnyKept) (k : AnyKept) (i : ℕ) → StandInOrder n ks → In k ks → place_of k ≡ n + i
+    → list_at (map history_of ks) i ≡ history_of k
+list_of_place n [] k i s j q = absurd j
+list_of_place n (x ∷ ks) k zero s (inl h) q = ap history_of h
+list_of_place n (x ∷ ks) k (suc i) s (inl h) q = let a : place_of k ≡ n = subst (λ y. place_of y ≡ n) h s.0 in absurd (omega arith)
+list_of_place n (x ∷ ks) k zero s (inr j) q = let a = above (n + 1) ks k s.1 j in absurd (omega arith)
+list_of_place n (x ∷ ks) k (suc i) s (inr j) q = list_of_place (n + 1) ks k i s.1 j (omega arith)
+
+-- an entry of the histories is in the list of its place
+pub histories_at : (ks : List AnyKept) (e : Entry) → StandInOrder 0 ks → In e (histories ks) → In e (list_at (map history_of ks) e.place.0)
+histories_at ks e s i =
+    let w = in_flat history_of ks e i in
+    let p : e.place.0 ≡ place_of w.0 = place_kept w.0 e w.2 in
+    let q : place_of w.0 ≡ 0 + e.place.0 = omega arith in
+    subst (λ es. In e es) (sym (list_of_place 0 ks w.0 e.place.0 s w.1 q)) w.2
+
+pub at_histories : (ks : List AnyKept) (n : ℕ) (e : Entry) → StandInOrder 0 ks → In e (list_at (map history_of ks) n)
+    → In e (histories ks) × (e.place.0 ≡ n)
+at_histories ks n e s i =
+    let w = placed_at 0 ks n e s i in
+    let p : e.place.0 ≡ place_of w.0 = place_kept w.0 e w.3 in
+    let q : place_of w.0 ≡ 0 + n = w.2 in
+    (flat_in history_of ks w.0 e w.1 w.3, omega arith)

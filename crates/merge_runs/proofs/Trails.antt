@@ -2,13 +2,12 @@
 use Rattle.std.proofs.Common.{◌≡◌, ◌≢◌, ℕ, List, refl, get_or}
 use Rattle.std.specs.List.{All, Contains}
 use Rattle.std.proofs.lemmas.List.Elements.{All-contains, Contains-get_or}
-use Rattle.place_kit.specs.declared.any.AnyKept.{AnyKept}
 use Rattle.entry_words.specs.declared.entry.Entry.{Entry}
 use Rattle.entry_words.specs.declared.entry.Moment.{Moment}
 use Rattle.entry_words.specs.declared.entry.Moment.TheVariants.{Act}
 use Rattle.passes.specs.declared.pass.Pass.{Pass}
-use Rattle.merge_runs.specs.Merged.{moments_of, entries_of, trails, IsStored}
-use Rattle.merge_runs.specs.Splits.{IsActOf, IsStoredMoment}
+use Rattle.merge_runs.specs.Merged.{moments_of, entries_of, trails}
+use Rattle.merge_runs.specs.Splits.{IsActOf}
 use Rattle.merge_runs.proofs.Order.{In}
 use Rattle.merge_runs.proofs.Members.{in_from_contains, contains_from_in, in_flat, flat_in}
 use Rattle.merge_runs.proofs.Acts.{act_in}
@@ -30,10 +29,6 @@ in_trails ps e c = in_flat entries_of ps e (in_from_contains (trails ps) e c)
 
 pub trails_in : (ps : List Pass) (p : Pass) (e : Entry) → In p ps → In e (entries_of p) → Contains (trails ps) e
 trails_in ps p e i j = contains_from_in (trails ps) e (flat_in entries_of ps p e i j)
-
-pub stored_entries : (ks : List AnyKept) (p : Pass) → All (IsStoredMoment ks) (moments_of p) → All (IsStored ks) (entries_of p)
-stored_entries ks p a = in_all (IsStored ks) (entries_of p) (λ e i. let m = act_in p.moments.items e i in
-    all_in (IsStoredMoment ks) (moments_of p) a (Act e m.0) m.1)
 
 abbrev pub IsNotAt : ℕ → Moment → Type 0
 IsNotAt step m = (e : Entry) → IsActOf e m → e.step ≢ step

@@ -3,3 +3,4 @@ pub mod Keyed
 pub mod Merged
 pub mod Splits
 pub mod MergedRuns
+pub mod Walks

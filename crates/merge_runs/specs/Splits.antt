@@ -8,7 +8,7 @@ use Rattle.entry_words.specs.declared.entry.Moment.TheVariants.{Act, Local}
 use Rattle.passes.specs.declared.pass.Pass.{Pass}
 use Rattle.merge_runs.specs.declared.fault.GatherFault.{GatherFault}
 use Rattle.merge_runs.specs.declared.fault.GatherFault.TheVariants.{NoMemory, Split}
-use Rattle.merge_runs.specs.Merged.{trails, histories, entries_of, IsStored}
+use Rattle.merge_runs.specs.Merged.{trails, histories, entries_of}
 
 -- the entry that the pass of that actor has at that step. There is none where the pass has none there, and where no
 -- pass is of that actor
@@ -49,7 +49,3 @@ IsApart ks ps e = (Contains (trails ps) e × (¬ Contains (histories ks) e)) ⊎
 abbrev pub IsActOf : Entry → Moment → Type 0
 IsActOf e (Act x heard) = x ≡ e
 IsActOf e (Local stamp actor note) = ⊥
-
-abbrev pub IsStoredMoment : List AnyKept → Moment → Type 0
-IsStoredMoment ks (Act e heard) = IsStored ks e
-IsStoredMoment ks (Local stamp actor note) = Unit {0}

@@ -1,14 +1,16 @@
 //! Whether trails and histories have the same entries.
-ghost use Rattle.std.specs.Prelude.{◌≡◌, ◌≢◌, ◌↔◌, IsTrue, All, Contains, MatchOption};
+ghost use Rattle.std.specs.Prelude.{◌≡◌, ◌≢◌, ◌↔◌, ◌∷◌, [], IsTrue, All, Contains, MatchOption, MatchResult, IfOk, map};
 ghost use Rattle.place_kit.specs.Kept.{history_of};
-ghost use Rattle.entry_words.specs.Moments.{stamp_of};
-ghost use Rattle.merge_runs.specs.Merged.{HaveDifferentActors, StandInOrder, moments_of, entries_of, trails, histories, IsStored};
-ghost use Rattle.entry_words.specs.Moments.{trail_of};
-ghost use Rattle.merge_runs.specs.Splits.{IsActOf, IsApart, IsStoredMoment};
+ghost use Rattle.merge_runs.specs.Keyed.{moment_in};
+ghost use Rattle.merge_runs.specs.Merged.{StandInOrder, IsInOrder, IsStored};
+ghost use Rattle.merge_runs.specs.Walks.{list_at, IsWalked, IsBlocked, TakesEntry, TakesMoment, BlocksMoment, IsApartFrom};
 
+use crate::keyed::Keyed;
 use entry_words::{Entry, Moment};
 use passes::Pass;
 use place_kit::AnyKept;
+use std::alloc::Global;
+use tect_ids::NoMemory;
 
 /// The pass of that actor.
 pub fn pass_of(passes: &[Pass], actor: u32) -> Option<&Pass>
@@ -22,46 +24,16 @@ pub fn pass_of(passes: &[Pass], actor: u32) -> Option<&Pass>
     None
 }
 
-fn is_act(moment: &Moment, entry: &Entry) -> bool
-    ensures { IsTrue result ↔ IsActOf entry.now moment.now }
-{
-    match moment {
-        Moment::Act { entry: other, .. } => other.is_same(entry),
-        Moment::Local { .. } => false,
-    }
-}
-
-// Whether the pass has the entry. The stamps rise, so it can stand in one place alone.
-fn pass_has(pass: &Pass, entry: &Entry) -> bool
-    ensures { IsTrue result ↔ Contains (entries_of pass.now) entry.now }
-{
-    let moments = pass.moments();
-    match moments.binary_search_by_key(&entry.stamp, Moment::stamp) {
-        Ok(at) => is_act(&moments[at], entry),
-        Err(_) => false,
-    }
-}
-
 // Whether the history of that place has the entry.
 fn place_has(kept: &AnyKept, entry: &Entry) -> bool
     ensures { IsTrue result ↔ Contains (history_of kept.now) entry.now }
 {
-    let history = kept.history();
-    match history.binary_search_by_key(&entry.stamp, |e| e.stamp) {
-        Ok(at) => history[at].is_same(entry),
-        Err(_) => false,
+    for other in kept.history() {
+        if other.is_same(entry) {
+            return true;
+        }
     }
-}
-
-// Whether a trail has the entry.
-fn is_known(passes: &[Pass], entry: &Entry) -> bool
-    requires { HaveDifferentActors passes.now }
-    ensures { IsTrue result ↔ Contains (trails passes.now) entry.now }
-{
-    match pass_of(passes, entry.actor) {
-        Some(pass) => pass_has(pass, entry),
-        None => false,
-    }
+    false
 }
 
 /// Whether the history of its place has the entry.
@@ -73,70 +45,93 @@ pub fn is_stored(kepts: &[AnyKept], entry: &Entry) -> bool
     at < kepts.len() && place_has(&kepts[at], entry)
 }
 
-// The first entry of a history that no trail has.
-fn first_unknown<'a>(history: &'a [Entry], passes: &[Pass]) -> Option<&'a Entry>
-    requires { HaveDifferentActors passes.now }
-    ensures { MatchOption result (All (Contains (trails passes.now)) history.now) (λ e. Contains history.now e.now
-        × (¬ Contains (trails passes.now) e.now)) }
+// The histories, in the order of the places.
+fn histories<'a>(alloc: Global, kepts: &'a [AnyKept]) -> Result<Vec<&'a [Entry]>, NoMemory>
+    ensures { IfOk result (λ v. map (λ h. h.now) v.items ≡ map history_of kepts.now) }
 {
-    for entry in history {
-        if !is_known(passes, entry) {
-            return Some(entry);
-        }
+    let mut lists = Vec::with_capacity(alloc, kepts.len())?;
+    for kept in kepts {
+        lists.push(kept.history())?;
     }
-    None
+    Ok(lists)
 }
 
-// The entry of the moment, if the history of its place lacks it.
-fn missing<'a>(moment: &'a Moment, kepts: &[AnyKept]) -> Option<&'a Entry>
-    requires { StandInOrder 0 kepts.now }
-    ensures { MatchOption result (IsStoredMoment kepts.now moment.now) (λ e. IsActOf e.now moment.now
-        × (¬ IsStored kepts.now e.now)) }
+// What comes in the list behind the entry, which is first. Else the first one, if it is stamped before the entry, and else the
+// entry: one that the moments and the histories do not both have.
+fn behind<'a>(list: &'a [Entry], entry: &'a Entry) -> Result<&'a [Entry], &'a Entry>
+    ensures { MatchResult result (λ rest. list.now ≡ entry.now ∷ rest.now) (λ x. IsBlocked list.now entry.now x.now) }
+{
+    let Some((first, rest)) = list.split_first() else {
+        return Err(entry);
+    };
+    if first.is_same(entry) {
+        return Ok(rest);
+    }
+    if first.stamp < entry.stamp {
+        return Err(first);
+    }
+    Err(entry)
+}
+
+// Takes the entry from the list of its place. Else answers one that the moments and the histories do not both have.
+fn take_entry<'a>(lists: &mut Vec<&'a [Entry]>, entry: &'a Entry) -> Option<&'a Entry>
+    ensures { MatchOption result (TakesEntry (map (λ h. h.now) lists.old.items) (map (λ h. h.now) lists.new.items) entry.now)
+        (λ x. IsBlocked (list_at (map (λ h. h.now) lists.old.items) entry.now.place.0) entry.now x.now) }
+{
+    let place = entry.place.0 as usize;
+    if place >= lists.len() {
+        return Some(entry);
+    }
+    match behind(lists[place], entry) {
+        Ok(rest) => {
+            lists[place] = rest;
+            None
+        }
+        Err(apart) => Some(apart),
+    }
+}
+
+// The same for a moment. A note has no entry.
+fn take_moment<'a>(lists: &mut Vec<&'a [Entry]>, moment: &'a Moment) -> Option<&'a Entry>
+    ensures { MatchOption result (TakesMoment (map (λ h. h.now) lists.old.items) (map (λ h. h.now) lists.new.items) moment.now)
+        (λ x. BlocksMoment (map (λ h. h.now) lists.old.items) moment.now x.now) }
 {
     match moment {
-        Moment::Act { entry, .. } => {
-            if is_stored(kepts, entry) {
-                None
-            } else {
-                Some(entry)
-            }
-        }
+        Moment::Act { entry, .. } => take_entry(lists, entry),
         Moment::Local { .. } => None,
     }
 }
 
-// The first entry of a trail that the history of its place lacks.
-fn first_missing<'a>(moments: &'a [Moment], kepts: &[AnyKept]) -> Option<&'a Entry>
-    requires { StandInOrder 0 kepts.now }
-    ensures { MatchOption result (All (IsStoredMoment kepts.now) moments.now) (λ e. Contains (trail_of moments.now) e.now
-        × (¬ IsStored kepts.now e.now)) }
+// The first entry that is left of a list.
+fn first_left<'a>(lists: &[&'a [Entry]]) -> Option<&'a Entry>
+    ensures { MatchOption result (All (λ h. h.now ≡ []) lists.now)
+        (λ x. (n : _) × (rest : _) × (list_at (map (λ h. h.now) lists.now) n ≡ x.now ∷ rest)) }
 {
-    for moment in moments {
-        if let Some(entry) = missing(moment, kepts) {
-            return Some(entry);
+    for list in lists {
+        if let Some((first, _)) = list.split_first() {
+            return Some(first);
         }
     }
     None
 }
 
-/// The first entry that trails and histories do not both have.
-pub fn first_apart<'a>(kepts: &'a [AnyKept], passes: &'a [Pass]) -> Option<&'a Entry>
+/// Walks along the moments, which are in order, and takes each entry from the front of its place's history. Where it comes through,
+/// and nothing is left, moments and histories have the same entries; else it answers the first entry that not both have.
+pub fn first_apart<'a>(
+    alloc: Global,
+    kepts: &'a [AnyKept],
+    order: &[Keyed<'a>],
+) -> Result<Option<&'a Entry>, NoMemory>
     requires places { StandInOrder 0 kepts.now }
-    requires actors { HaveDifferentActors passes.now }
-    ensures { MatchOption result
-        (All (λ k. All (Contains (trails passes.now)) (history_of k)) kepts.now
-        × All (λ p. All (IsStoredMoment kepts.now) (moments_of p)) passes.now)
-        (λ e. IsApart kepts.now passes.now e.now) }
+    requires order { IsInOrder (map moment_in order.now) }
+    ensures { IfOk result (λ apart. MatchOption apart (IsWalked kepts.now (map moment_in order.now))
+        (λ e. IsApartFrom kepts.now (map moment_in order.now) e.now)) }
 {
-    for kept in kepts {
-        if let Some(entry) = first_unknown(kept.history(), passes) {
-            return Some(entry);
+    let mut lists = histories(alloc, kepts)?;
+    for keyed in order {
+        if let Some(apart) = take_moment(&mut lists, keyed.moment) {
+            return Ok(Some(apart));
         }
     }
-    for pass in passes {
-        if let Some(entry) = first_missing(pass.moments(), kepts) {
-            return Some(entry);
-        }
-    }
-    None
+    Ok(first_left(lists.as_slice()))
 }

@@ -1,4 +1,5 @@
 use entry_words::Entry;
+use tect_ids::NoMemory;
 
 /// Why there is no one history.
 #[derive(Debug, Drop)]
@@ -15,4 +16,15 @@ pub enum GatherFault {
         /// `in_pass` if a history has it.
         in_place: Option<Entry>,
     },
+}
+
+impl From<NoMemory> for GatherFault {
+    ghost use Rattle.std.specs.Prelude.{◌≡◌};
+    ghost use Rattle.merge_runs.specs.declared.fault.GatherFault.TheVariants as faults;
+
+    ghost from_gives = { λ _ fault. fault ≡ faults.NoMemory };
+
+    fn from(_no_memory: NoMemory) -> GatherFault {
+        GatherFault::NoMemory
+    }
 }

@@ -1,16 +1,17 @@
 //! One history of all places and passes.
-ghost use Rattle.std.specs.Prelude.{◌≡◌, IfOk, IfErr, OnOk, OnErr, IsPermutation, All, Contains, Err, map};
+ghost use Rattle.std.specs.Prelude.{◌≡◌, IfOk, IfErr, OnOk, OnErr, IsPermutation, All, Err, map};
 ghost use Rattle.std.specs.List.{flat_map};
 ghost use Rattle.merge_runs.specs.Merged.{moments_of, trails, Agree, IsInOrder, HaveDifferentActors, StandInOrder};
 ghost use Rattle.merge_runs.specs.Merged.{RestrictsToTrails, RestrictsToHistories, IsStored};
-ghost use Rattle.merge_runs.specs.Splits.{IsFault, IsStoredMoment};
+ghost use Rattle.merge_runs.specs.Keyed.{moment_in, IsAt};
+ghost use Rattle.merge_runs.specs.Splits.{IsFault};
 ghost use Rattle.merge_runs.specs.MergedRuns.{IsOneHistory, IsSpot, moment_at};
-ghost use Rattle.place_kit.specs.Kept.{history_of};
 
 use crate::agree::first_apart;
 use crate::fault::GatherFault;
+use crate::keyed::Keyed;
 use crate::merged::Merged;
-use crate::sorted::{merged, spots};
+use crate::sorted::{moments, sorted_keyed, spots_of};
 use crate::split::split;
 use crate::spot::Spot;
 use entry_words::Moment;
@@ -51,9 +52,9 @@ fn gathered_order(
     ensures split { IfErr result (IsFault kepts.now passes.now) }
     ensures memory { OnErr result (Agree kepts.now passes.now → result ≡ Err GatherFault.NoMemory) }
 {
-    agreed(kepts, passes)?;
-    match spots(alloc, passes) {
-        Ok(order) => Ok(order),
+    let order = agreed(alloc, kepts, passes)?;
+    match spots_of(alloc, order.as_slice()) {
+        Ok(spots) => Ok(spots),
         Err(NoMemory) => Err(GatherFault::NoMemory),
     }
 }
@@ -82,24 +83,29 @@ pub fn gather_lent<'a>(
     ensures split { IfErr result (IsFault kepts.now passes.now) }
     ensures memory { OnErr result (Agree kepts.now passes.now → result ≡ Err GatherFault.NoMemory) }
 {
-    agreed(kepts, passes)?;
-    match merged(alloc, passes) {
+    let order = agreed(alloc, kepts, passes)?;
+    match moments(alloc, order.as_slice()) {
         Ok(entries) => Ok(entries),
         Err(NoMemory) => Err(GatherFault::NoMemory),
     }
 }
 
-// Whether trails and histories have the same entries.
-fn agreed(kepts: &[AnyKept], passes: &[Pass]) -> Result<(), GatherFault>
+// All moments of the passes in order, where trails and histories have the same entries.
+fn agreed<'a>(
+    alloc: Global,
+    kepts: &[AnyKept],
+    passes: &'a [Pass],
+) -> Result<Vec<Keyed<'a>>, GatherFault>
     requires places { StandInOrder 0 kepts.now }
     requires actors { HaveDifferentActors passes.now }
-    ensures here { OnOk result (All (λ k. All (Contains (trails passes.now)) (history_of k)) kepts.now) }
-    ensures there { OnOk result (All (λ p. All (IsStoredMoment kepts.now) (moments_of p)) passes.now) }
+    ensures one { IfOk result (λ v. IsOneHistory kepts.now passes.now (map moment_in v.items)) }
+    ensures spots { IfOk result (λ v. All (IsAt passes.now) v.items) }
     ensures split { IfErr result (IsFault kepts.now passes.now) }
-    ensures apart { OnErr result (¬ Agree kepts.now passes.now) }
+    ensures memory { OnErr result (Agree kepts.now passes.now → result ≡ Err GatherFault.NoMemory) }
 {
-    match first_apart(kepts, passes) {
+    let order = sorted_keyed(alloc, passes)?;
+    match first_apart(alloc, kepts, order.as_slice())? {
         Some(apart) => Err(split(kepts, passes, apart)),
-        None => Ok(()),
+        None => Ok(order),
     }
 }

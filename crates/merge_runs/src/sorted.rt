@@ -13,34 +13,14 @@ use std::alloc::Global;
 use tect_ids::NoMemory;
 
 /// All moments of the passes, in order.
-pub fn merged<'a>(alloc: Global, passes: &'a [Pass]) -> Result<Vec<&'a Moment>, NoMemory>
-    requires { HaveDifferentActors passes.now }
-    ensures all { IfOk result (λ v. IsPermutation (flat_map moments_of passes.now) (map (λ m. m.now) v.items)) }
-    ensures order { IfOk result (λ v. IsInOrder (map (λ m. m.now) v.items)) }
-{
-    let keyed = sorted_keyed(alloc, passes)?;
-    moments(alloc, keyed.as_slice())
-}
-
-/// Where all moments of the passes stand, in the order of the moments.
-pub fn spots(alloc: Global, passes: &[Pass]) -> Result<Vec<Spot>, NoMemory>
-    requires { HaveDifferentActors passes.now }
-    ensures all { IfOk result (λ v. IsPermutation (flat_map moments_of passes.now) (map (moment_at passes.now) v.items)) }
-    ensures order { IfOk result (λ v. IsInOrder (map (moment_at passes.now) v.items)) }
-    ensures spots { IfOk result (λ v. All (IsSpot passes.now) v.items) }
-{
-    let keyed = sorted_keyed(alloc, passes)?;
-    spots_of(alloc, keyed.as_slice())
-}
-
-fn sorted_keyed<'a>(alloc: Global, passes: &'a [Pass]) -> Result<Vec<Keyed<'a>>, NoMemory>
+pub fn sorted_keyed<'a>(alloc: Global, passes: &'a [Pass]) -> Result<Vec<Keyed<'a>>, NoMemory>
     requires { HaveDifferentActors passes.now }
     ensures all { IfOk result (λ v. IsPermutation (flat_map moments_of passes.now) (map moment_in v.items)) }
     ensures order { IfOk result (λ v. IsInOrder (map moment_in v.items)) }
     ensures spots { IfOk result (λ v. All (IsAt passes.now) v.items) }
 {
     let mut keyed = keyed_moments(alloc, passes)?;
-    keyed.sort_unstable_by_key(|k| key_of(k));
+    keyed.sort_by_key(|k| key_of(k))?;
     Ok(keyed)
 }
 
@@ -76,7 +56,8 @@ fn append<'a>(all: &mut Vec<Keyed<'a>>, passes: &'a [Pass], pass: usize) -> Resu
     Ok(())
 }
 
-fn moments<'a>(alloc: Global, keyed: &[Keyed<'a>]) -> Result<Vec<&'a Moment>, NoMemory>
+/// The moments alone.
+pub fn moments<'a>(alloc: Global, keyed: &[Keyed<'a>]) -> Result<Vec<&'a Moment>, NoMemory>
     ensures { IfOk result (λ v. map (λ m. m.now) v.items ≡ map moment_in keyed.now) }
 {
     let mut moments = Vec::with_capacity(alloc, keyed.len())?;
@@ -86,7 +67,8 @@ fn moments<'a>(alloc: Global, keyed: &[Keyed<'a>]) -> Result<Vec<&'a Moment>, No
     Ok(moments)
 }
 
-fn spots_of(alloc: Global, keyed: &[Keyed]) -> Result<Vec<Spot>, NoMemory>
+/// Where they stand.
+pub fn spots_of(alloc: Global, keyed: &[Keyed]) -> Result<Vec<Spot>, NoMemory>
     ensures { IfOk result (λ v. v.items ≡ map (λ k. k.at) keyed.now) }
 {
     let mut spots = Vec::with_capacity(alloc, keyed.len())?;

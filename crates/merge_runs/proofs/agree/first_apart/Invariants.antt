@@ -1,14 +1,10 @@
-use Rattle.std.specs.List.{All, AllWithin, Contains}
+use Rattle.std.proofs.Common.{◌≡◌, ℕ, ◌++◌, map, take}
 use Rattle.place_kit.specs.Kept.{history_of}
-use Rattle.merge_runs.specs.Merged.{moments_of, trails}
-use Rattle.merge_runs.specs.Splits.{IsStoredMoment}
+use Rattle.merge_runs.specs.Keyed.{moment_in}
+use Rattle.merge_runs.specs.Walks.{acted_at, list_at}
 use Rattle.merge_runs.proofs.agree.first_apart.Given as goal
 
-abbrev pub invariant-loop-kept : goal.invariant-loop-kept
-invariant-loop-kept l = AllWithin (λ k. All (Contains (trails l.passes)) (history_of k)) l.kepts 0 l.kept-index
-
-abbrev pub invariant-loop-pass : goal.invariant-loop-pass
-invariant-loop-pass l = record {
-  here : All (λ k. All (Contains (trails l.passes)) (history_of k)) l.kepts;
-  there : AllWithin (λ p. All (IsStoredMoment l.kepts) (moments_of p)) l.passes 0 l.pass-index;
-}
+-- what was taken at each place, and what is left, is the place's history
+abbrev pub invariant-loop-keyed : goal.invariant-loop-keyed
+invariant-loop-keyed l = (n : ℕ) → acted_at n (map moment_in (take l.keyed-index l.order)) ++ list_at (map (λ h. h.now) l.lists.items) n
+    ≡ list_at (map history_of l.kepts) n

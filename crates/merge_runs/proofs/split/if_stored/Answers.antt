@@ -1,6 +1,6 @@
 use Rattle.std.proofs.Common.{rules, sym}
 use Rattle.merge_runs.proofs.Places.{histories_from_stored}
-use Rattle.merge_runs.proofs.Search.{not_true}
+use Rattle.merge_runs.proofs.Known.{not_true}
 use Rattle.merge_runs.proofs.Splits.{not_in_histories}
 use Rattle.merge_runs.proofs.split.if_stored.Goals as goal
 
