@@ -5,7 +5,8 @@ use borrow.Author.Tests.{eqb-true}
 use Rattle.place_kit.specs.declared.any.AnyKept.{AnyKept}
 use Rattle.entry_words.specs.declared.entry.Entry.{Entry}
 use Rattle.passes.specs.declared.pass.Pass.{Pass}
-use Rattle.place_kit.specs.Kept.{history_of, place_of}
+use Rattle.place_kit.specs.Kept.{clock_of, history_of, place_of}
+use Rattle.place_kit.proofs.AllKinds.{kept_rising}
 use Rattle.entry_words.specs.Moments.{steps_count}
 use Rattle.place_kit.specs.Replay.{stamps_rise}
 use Rattle.merge_runs.specs.Merged.{HaveDifferentActors, StandInOrder, Agree, entries_of, trails, histories}
@@ -15,7 +16,7 @@ use Rattle.merge_runs.proofs.Strict.{actor_of_pass}
 use Rattle.merge_runs.proofs.Restricts.{place_kept}
 use Rattle.merge_runs.proofs.Trails.{owner_of}
 use Rattle.merge_runs.proofs.Places.{one_placed}
-use Rattle.merge_runs.proofs.Rising.{later, rises_kept}
+use Rattle.merge_runs.proofs.Rising.{later}
 use Rattle.merge_runs.proofs.Splits.{from_step}
 use Rattle.merge_runs.proofs.Distinct.{Distinct, distinct_flat}
 
@@ -33,7 +34,7 @@ distinct_stamps low high (x ∷ xs) h =
     (λ i. let r = later x.stamp high xs x w.1 i in absurd (omega arith), distinct_stamps x.stamp high xs w.1)
 
 distinct_kept : (k : AnyKept) → Distinct (history_of k)
-distinct_kept k = let r = rises_kept k in distinct_stamps 0 r.0 (history_of k) r.1
+distinct_kept k = distinct_stamps 0 (clock_of k) (history_of k) (kept_rising k)
 
 pub distinct_trails : (ps : List Pass) → HaveDifferentActors ps → Distinct (trails ps)
 distinct_trails ps d =

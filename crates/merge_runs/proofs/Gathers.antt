@@ -1,6 +1,6 @@
 -- Moments in order along which each entry was taken from its history are one history.
 use Rattle.std.proofs.Common.{◌≡◌, ◌+◌, inl, inr, List, Bor, Option, Some, None, MatchOption, sym, ◌∙◌, subst, arith, map}
-use Rattle.std.specs.List.{flat_map, filter, All}
+use Rattle.std.specs.List.{flat_map, filter}
 use Rattle.std.specs.List.Sorted.{IsPermutation}
 use Rattle.std.proofs.lemmas.List.Sorted.{IsPermutation-sym}
 use Rattle.place_kit.specs.declared.any.AnyKept.{AnyKept}

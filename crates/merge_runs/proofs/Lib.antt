@@ -16,5 +16,4 @@ pub mod Rising
 pub mod Walks
 pub mod Taking
 pub mod Gathers
-pub mod Laws
 pub mod Spots

@@ -7,12 +7,12 @@ use borrow.Author.Tests.{eq-eqb, eqb-true}
 use Rattle.entry_words.specs.declared.entry.Entry.{Entry}
 use Rattle.entry_words.specs.declared.entry.Moment.{Moment}
 use Rattle.place_kit.specs.declared.any.AnyKept.{AnyKept}
-use Rattle.place_kit.specs.declared.any.AnyKept.TheVariants.{Name, File}
 use Rattle.passes.specs.declared.pass.Pass.{Pass}
 use Rattle.entry_words.specs.Moments.{actor_of, all_of_actor, is_of}
 use Rattle.place_kit.specs.Replay.{all_at}
 use Rattle.tect_ids.specs.declared.ids.Place.{Place}
-use Rattle.place_kit.specs.Kept.{history_of, place_of}
+use Rattle.place_kit.specs.Kept.{history_of, label_of, place_of}
+use Rattle.place_kit.proofs.AllKinds.{kept_placed}
 use Rattle.merge_runs.specs.Merged.{IsInOrder, moments_of}
 use Rattle.merge_runs.proofs.Order.{In, both, same_order, order_rises}
 use Rattle.merge_runs.proofs.Members.{in_permutation, in_filter, filter_in, in_flat, flat_in, order_filter, count_of, one_only}
@@ -47,5 +47,4 @@ restrict_trail ps ms perm o c p here =
     (eq-eqb (actor_of z) p.actor (actor_in p.actor p.moments.items z p.known.own i)))
 
 pub place_kept : (k : AnyKept) (e : Entry) → In e (history_of k) → e.place.0 ≡ place_of k
-place_kept (Name k) e i = place_in k.label.place k.history.items e k.kept.placed i
-place_kept (File k) e i = place_in k.label.place k.history.items e k.kept.placed i
+place_kept k e i = place_in (label_of k).place (history_of k) e (kept_placed k) i

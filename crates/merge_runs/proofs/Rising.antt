@@ -3,9 +3,9 @@ use Rattle.std.proofs.Common.{◌≡◌, ℕ, zero, suc, ◌<◌, ◌≤◌, tru
 use Rattle.std.proofs.lemmas.List.{get_or_past}
 use borrow.Author.Tests.{ltb-true}
 use Rattle.place_kit.specs.declared.any.AnyKept.{AnyKept}
-use Rattle.place_kit.specs.declared.any.AnyKept.TheVariants.{Name, File}
 use Rattle.entry_words.specs.declared.entry.Entry.{Entry}
-use Rattle.place_kit.specs.Kept.{history_of}
+use Rattle.place_kit.specs.Kept.{clock_of, history_of}
+use Rattle.place_kit.proofs.AllKinds.{kept_rising}
 use Rattle.place_kit.specs.Replay.{stamps_rise}
 use Rattle.merge_runs.specs.Walks.{list_at, IsLacking}
 use Rattle.merge_runs.proofs.Order.{In, both}
@@ -55,11 +55,7 @@ not_in_rest high front (x ∷ rest) e r l (inr i) =
 abbrev pub Rises : List Entry → Type 0
 Rises es = (high : ℕ) × (stamps_rise 0 high es ≡ true)
 
-pub rises_kept : (k : AnyKept) → Rises (history_of k)
-rises_kept (Name k) = (k.clock, k.kept.rising)
-rises_kept (File k) = (k.clock, k.kept.rising)
-
 pub rises_at : (ks : List AnyKept) (n : ℕ) → Rises (list_at (map history_of ks) n)
 rises_at [] n = subst (λ es. Rises es) (sym (get_or_past {X = List Entry} [] n [] (omega arith))) (0, refl)
-rises_at (k ∷ ks) zero = rises_kept k
+rises_at (k ∷ ks) zero = (clock_of k, kept_rising k)
 rises_at (k ∷ ks) (suc n) = rises_at ks n

@@ -1,6 +1,6 @@
 -- Where moments stand among passes.
 use Rattle.std.proofs.Common.{◌≡◌, ℕ, zero, suc, ◌+◌, ◌<◌, List, [], ◌∷◌, ◌++◌, length, map, take, refl, sym, ◌∙◌, ap, subst, arith}
-use Rattle.std.proofs.Common.{append-nil, append_assoc, slice_index_or}
+use Rattle.std.proofs.Common.{append-nil, append_assoc}
 use Rattle.std.specs.List.{flat_map, All}
 use Rattle.std.proofs.lemmas.List.Elements.{All-head, All-tail}
 use Rattle.passes.specs.declared.pass.Pass.{Pass}
@@ -23,12 +23,7 @@ flat_more (p ∷ ps) (suc n) l =
     let a = append_assoc (moments_of p) (flat_map moments_of (take n ps)) (moments_at ps n) in
     rw e (ap (λ ms. moments_of p ++ ms) m ∙ sym a)
 
--- the pass at that place has those moments
-pub moments_there : (ps : List Pass) (n : ℕ) (p : Pass) → n < length ps → p ≡ slice_index_or ps n p → moments_of p ≡ moments_at ps n
-moments_there [] n p l e = absurd (omega arith)
-moments_there (q ∷ ps) zero p l e = ap moments_of e
-moments_there (q ∷ ps) (suc n) p l e = moments_there ps n p (omega arith) e
-
+-- each stands where it says
 pub at_moments : (ps : List Pass) (ks : List Keyed) → All (IsAt ps) ks → map (moment_at ps) (map (λ k. k.at) ks) ≡ map moment_in ks
 at_moments ps [] a = refl
 at_moments ps (k ∷ ks) a =

@@ -1,5 +1,5 @@
 -- What the code of the walk does to its lists.
-use Rattle.std.proofs.Common.{◌≡◌, ℕ, zero, suc, ◌+◌, ◌<◌, ◌≤◌, Bool, true, false, inl, inr, List, [], ◌∷◌, ◌++◌, Bor, refl, sym, ◌∙◌}
+use Rattle.std.proofs.Common.{◌≡◌, ℕ, zero, suc, ◌+◌, ◌<◌, ◌≤◌, Bool, true, false, List, [], ◌∷◌, ◌++◌, Bor, refl, sym, ◌∙◌}
 use Rattle.std.proofs.Common.{ap, subst, arith, eqb, length, get_or, map, take, set, append-nil, append_assoc}
 use Rattle.std.specs.List.{All}
 use Rattle.std.proofs.lemmas.List.{get_or_past, get_or-map, get_or-set_same, get_or-set_other, map-set, length-map, map_more, take_all}
@@ -14,7 +14,7 @@ use Rattle.place_kit.specs.Kept.{history_of}
 use Rattle.merge_runs.specs.declared.keyed.Keyed.{Keyed}
 use Rattle.merge_runs.specs.Keyed.{moment_in}
 use Rattle.merge_runs.specs.Merged.{StandInOrder, IsInOrder}
-use Rattle.merge_runs.specs.Walks.{acted_at, list_at, IsWalked, IsLacking, TakesEntry, TakesMoment, BlocksMoment, IsApartFrom}
+use Rattle.merge_runs.specs.Walks.{acted_at, list_at, IsWalked, TakesEntry, TakesMoment, BlocksMoment, IsApartFrom}
 use Rattle.merge_runs.proofs.Acts.{acted_append}
 use Rattle.merge_runs.proofs.Walks.{blocked_apart, left_apart}
 
@@ -36,13 +36,6 @@ takes_entry ls e l rest h at q =
       list_read ls p l h at ∙ q ∙ ap (λ es. e ∷ es) (sym same),
       λ k ne. ap (λ xs. list_at xs k) s ∙ get_or-set_other (lent ls) p k rest.now [] ne,
     )
-
--- beyond the places there is nothing
-pub lacking_beyond : (ls : List (Bor (List Entry))) (e : Entry) → length ls ≤ e.place.0 → IsLacking (list_at (lent ls) e.place.0) e
-lacking_beyond ls e l x rest q =
-    let n = length-map ls (λ (h : Bor (List Entry)). h.now) in
-    let z : [] ≡ x ∷ rest = sym (get_or_past (lent ls) e.place.0 [] (omega arith)) ∙ q in
-    absurd cc
 
 all_empty : (ls : List (Bor (List Entry))) → All (λ h. h.now ≡ []) ls → (n : ℕ) → list_at (lent ls) n ≡ []
 all_empty [] a n = get_or_past {X = List Entry} [] n [] (omega arith)

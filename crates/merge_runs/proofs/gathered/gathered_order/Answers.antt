@@ -1,4 +1,4 @@
-use Rattle.std.proofs.Common.{◌≡◌, List, sym, ◌∙◌, ap, subst, map}
+use Rattle.std.proofs.Common.{List, sym, ◌∙◌, ap, subst, map}
 use Rattle.std.specs.List.{All}
 use Rattle.entry_words.specs.declared.entry.Moment.{Moment}
 use Rattle.merge_runs.specs.declared.keyed.Keyed.{Keyed}
