@@ -19,14 +19,14 @@ struct Client {
     made: u64,
 }
 
-/// What a command comes to: its transactions, and its answer.
+/// The answer of a command that was done.
 enum Answer {
     Done,
     Node(Node),
     Entries(u64),
 }
 
-/// A file: how many entries name it.
+/// A file: how many entries name it, as `tect` counts its holds.
 struct File {
     holds: u32,
 }

@@ -22,7 +22,8 @@ counts_code =
 
 abbrev pub whole_code : Coded WholeStore
 whole_code =
-    code_by (Counts × Store) (coded× counts_code store_code) (λ w. (w.counts, w.store)) (λ p. record { counts = p.0; store = p.1 }) (λ _. refl)
+    code_by (Counts × Store) (coded× counts_code store_code) (λ w. (w.counts, w.store))
+    (λ p. record { counts = p.0; store = p.1 }) (λ _. refl)
 
 -- these are all shards of the store that they are together, each of its place's layer
 pub record AreAllShards (c : Counts) (ms : List AnyMachine) : Type 0 where

@@ -17,7 +17,7 @@ pub enum LentMachine<'a> {
 
 impl LentMachine<'_> {
     /// Adds the identifiers of what the shard has of a layer, rising: of its directories, or of its files. A shard of another
-    /// layer has none.
+    /// layer has none. For want of memory some of them may have been added, behind what was there.
     pub fn add_ids(&self, layer: Layer, ids: &mut Vec<u64>) -> Result<(), NoMemory>
         ensures { OnOk result (ids.new.items ≡ ids.old.items ++ ids_of layer (alone (lent_as self.now))) }
     {
@@ -33,7 +33,8 @@ impl LentMachine<'_> {
         }
     }
 
-    /// Adds the lines that a dump shows of what has that identifier in that layer: none where the shard does not have it.
+    /// Adds the lines that a dump shows of what has that identifier in that layer: none where the shard does not have it. For
+    /// want of memory some of them may have been added, behind what was there.
     pub fn add_lines(
         &self,
         layer: Layer,

@@ -24,6 +24,7 @@ pub enum AnyMachine {
 
 impl AnyMachine {
     /// A shard of a layer before anything was done. Only a name shard can have the root directory; else there is nothing in it.
+    /// The layer is one of those that have shards. A file shard takes no memory.
     pub fn opening(alloc: Global, layer: Layer, rooted: bool) -> Result<AnyMachine, NoMemory>
         requires { is_kept layer ≡ true }
         ensures state { IfOk result (λ machine. alone machine ≡ opening_of layer rooted) }
@@ -36,7 +37,7 @@ impl AnyMachine {
         }
     }
 
-    /// What `step` would reply. It changes nothing.
+    /// What `step` would reply to a request of the shard's layer. It changes nothing.
     pub fn reply(&self, req: &AnyReq) -> Result<AnyReply, NoMemory>
         requires { layer_of self.now ≡ request_layer req.now }
         ensures { IfOk result (λ reply. reply ≡ store_reply (alone self.now) req.now) }

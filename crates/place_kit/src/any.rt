@@ -112,8 +112,9 @@ impl AnyKept {
         }
     }
 
-    /// The part of a commit for which the machine is needed, as a kept machine does it. Beside the reply it gives the receipt of the
-    /// history, with which the same entry goes into the pass, and nothing else can.
+    /// The part of a commit for which the machine is needed: does the transaction, and adds its entry to the history, stamped
+    /// above both clocks. This is the atomic step of a commit, the part that is done under the place's lock where it has one.
+    /// Beside the reply it gives the receipt of the history, with which the same entry goes into the pass, and nothing else can.
     ///
     /// It may be refused for want of memory. Then nothing is changed.
     #[tactic(auto, using(crate::proofs::AllKinds::served))]

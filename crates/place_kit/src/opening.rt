@@ -16,7 +16,8 @@ impl Kept<NameShard> {
         place: Place,
         has_root: bool,
     ) -> Result<Kept<NameShard>, NoMemory>
-        ensures label { IfOk result (λ kept. kept.label ≡ record { place = place; layer = layers.Names; rooted = has_root; folded = false }) }
+        ensures label { IfOk result (λ kept. kept.label ≡ record
+            { place = place; layer = layers.Names; rooted = has_root; folded = false }) }
         ensures state { IfOk result (λ kept. kept.machine ≡ name_opening has_root) }
         ensures history { IfOk result (λ kept. (kept.history ≡ record { items = []; spare = 0 }) × (kept.clock ≡ 0)) }
     {

@@ -122,6 +122,8 @@ pub fn run_race<R: Threads + Wait + Sync, S: Source, K: Sink, G: Gate + Sync>(
 /// `race --workers N`, N from 1 to 64 in decimal digits without a leading zero, for [`run_race`]. At any others nothing is
 /// read, and the answer is `Usage` with a line that names the modes.
 ///
+/// What is written is what the sink took: one that gathers, as `tect_edge::StdSink`, is to be flushed behind the call.
+///
 /// It is a whole program, to be called once: the memory of the plan, and of the store and its history, is left to the end of the
 /// process, since to give it back piece by piece takes time and gains nothing there.
 pub fn run<R: Threads + Wait + Sync, S: Source, K: Sink, G: Gate + Sync>(

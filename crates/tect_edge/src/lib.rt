@@ -2,8 +2,8 @@
 //! of workers.
 //!
 //! A [`Source`] gives bytes and a [`Sink`] takes them. Each may tell contracts which bytes: a source those that
-//! are left, a sink those that were written. A call that fails moves no byte and raises the count of faults.
-//! Where they are not told, contracts say nothing about them.
+//! are left, a sink those that it took, be they written or held to be written. A `take` or `put` that fails moves no byte and
+//! raises the count of faults. Where they are not told, contracts say nothing about them.
 //!
 //! | Type | What it is |
 //! |---|---|

@@ -7,7 +7,7 @@ use crate::source::Failed;
 
 /// Where bytes go to.
 pub trait Sink {
-    /// The bytes that were written, where the sink tells them.
+    /// The bytes that were taken, where the sink tells them.
     ghost written: { Self → Option (List ℕ) };
 
     /// How often the sink failed, by a count that never falls.

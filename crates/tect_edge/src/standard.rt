@@ -73,7 +73,8 @@ impl<R: Read> Source for StdSource<R> {
 
 /// A writer of std with a count of its failures, and up to 65,536 bytes that it is still to be given. It tells the bytes that
 /// the writer holds, where the writer tells them, and those that are held here behind them.
-/// A call of the writer that takes nothing is a failure.
+/// A call of the writer that takes nothing is a failure. A sink that is dropped tries to write out what it holds, and nobody
+/// hears whether that failed: call `flush` before.
 #[derive(Drop)]
 pub struct StdSink<W: Write + Drop> {
     gathered: BufWriter<W>,
@@ -110,7 +111,7 @@ impl<W: Write + Drop> StdSink<W> {
         self.gathered.get_ref()
     }
 
-    /// Writes out what is held, so that the writer holds all that was put. It takes no memory.
+    /// Writes out what is held, so that the writer holds all that was put, and flushes the writer. It takes no memory.
     ///
     /// After `Failed`, what the writer did not take is still held, and one fault more is counted, up to the count's last value.
     pub fn flush(&mut self) -> Result<(), Failed>
@@ -135,8 +136,8 @@ impl<W: Write + Drop> Sink for StdSink<W> {
 
     ghost faults = { λ s. s.faults };
 
-    /// Holds the piece where there is room for it, once what was held before it is written out; a piece as long as the whole
-    /// room is given to the writer itself. It takes no memory.
+    /// Holds the piece. Where there is no room for it, what is held is written out first; a piece as long as the whole room then
+    /// goes to the writer itself. It takes no memory.
     ///
     /// Fails where the writer does or takes none of a nonempty piece, and then counts one fault more, up to the count's last
     /// value: nothing of the piece was taken, and nothing that was held is lost. An empty piece is taken without a call of the
