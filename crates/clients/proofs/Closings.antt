@@ -1,6 +1,6 @@
 -- the fields of a client after what its calls did
-use Rattle.std.proofs.Common.{◌≡◌, ◌≢◌, ◌⊎◌, inl, inr, ℕ, ◌+◌, ◌<◌, ◌^◌, true, false, Option, Some, None, IsSome, IsNone, [], ◌∷◌, ◌++◌}
-use Rattle.std.proofs.Common.{length, refl, sym, ap, ◌∙◌, subst, arith, is_some}
+use Rattle.std.proofs.Common.{◌≡◌, ◌≢◌, ◌⊎◌, inl, ℕ, ◌+◌, ◌<◌, ◌^◌, true, false, Option, Some, None, IsSome, IsNone, [], ◌∷◌, ◌++◌}
+use Rattle.std.proofs.Common.{length, refl, sym, ap, ◌∙◌, subst, arith}
 use Rattle.std.specs.Prelude.{Result, Ok, Err, IsOk, OnOk, is_err, ◌==◌, vec_len}
 use Rattle.tect_ids.specs.declared.ids.Counts.{Counts}
 use Rattle.tect_ids.specs.declared.ids.OpId.{OpId}
@@ -29,15 +29,15 @@ use Rattle.clients.specs.ActorCalls.{looked, left_behind}
 use Rattle.clients.specs.Turns.{turned_by}
 use Rattle.clients.specs.declared.client.Client.TheInside.{Inside}
 use Rattle.clients.specs.declared.steps.Step.{Step}
-use Rattle.clients.specs.Lives.{ClientLife, events_in, state_in, op_in, IsLife, RefusesNext}
+use Rattle.clients.specs.Lives.{ClientLife, events_in, state_in, IsLife, RefusesNext}
 use Rattle.clients.specs.Refused.{IsGoing}
 use Rattle.clients.specs.ClientInside.{life_of, told_actor, StandsAs, IsClient}
-use Rattle.clients.specs.Steps.{Tried, Unasked, Did, Denied, OwnStep, WentAstray}
+use Rattle.clients.specs.Steps.{Tried, Unasked, Did, Denied, OwnStep}
 use Rattle.clients.specs.PassSteps.{Finishes, StepEnds, TookStep, after_try}
 use Rattle.clients.proofs.Prompts.{prompt_push, prompt_step}
-use Rattle.clients.proofs.Stages.{own_events, Stage, ended_none, runs_op}
+use Rattle.clients.proofs.Stages.{own_events, Stage, ended_none}
 use Rattle.clients.proofs.OwnSteps.{life_at, step_stage, own_step}
-use Rattle.clients.proofs.Stands.{stands_runs, stands_idle, stands_stop, stands_some, stands_op, stands_counts, stands_stopped}
+use Rattle.clients.proofs.Stands.{stands_runs, stands_idle, stands_stop, stands_op}
 use Rattle.clients.proofs.Stands.{stands_serial}
 use Rattle.clients.proofs.Stands.{seen_step}
 use Rattle.clients.proofs.Lives.{is_life, life_noted, events_noted, goes_noted, stage_of, client_of, serial_few}

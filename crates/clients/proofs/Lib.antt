@@ -13,3 +13,4 @@ pub mod RefusedSteps
 pub mod Closings
 pub mod Following
 pub mod Few
+pub mod Reserved

@@ -16,12 +16,12 @@ use Rattle.world_runs.specs.Limits.{OwnLimits}
 use Rattle.world_runs.specs.OwnRuns.{OwnRun, own_state}
 use Rattle.world_runs.specs.Refusals.{AreOfRefused}
 use Rattle.world_runs.specs.Smooth.{OwnEndsAtOnce}
-use Rattle.clients.specs.ActorState.{ActorState, op_of}
+use Rattle.clients.specs.ActorState.{ActorState}
 use Rattle.clients.specs.declared.client.Client.TheInside.{Inside}
 use Rattle.clients.specs.Lives.{events_in, state_in, op_in, IsLife}
 use Rattle.clients.specs.Refused.{IsGoing, RunsIn}
 use Rattle.clients.specs.ClientInside.{life_of, told_actor, IsFullOnce, StandsAs, IsClient}
-use Rattle.clients.proofs.Growing.{transactions-few, serials-few}
+use Rattle.clients.proofs.Growing.{serials-few}
 use Rattle.clients.proofs.Stages.{own_events, Stage}
 use Rattle.clients.proofs.OwnSteps.{life_at}
 

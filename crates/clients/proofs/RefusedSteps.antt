@@ -9,10 +9,10 @@ use Rattle.entry_words.specs.declared.entry.Refused.{Refused}
 use Rattle.entry_words.specs.Moments.{running_in}
 use Rattle.world_runs.specs.declared.event.Event.{Event}
 use Rattle.world_runs.specs.declared.event.Event.TheVariants.{Own}
-use Rattle.world_runs.specs.declared.event.Happening.TheVariants.{Ended, Stopped}
+use Rattle.world_runs.specs.declared.event.Happening.TheVariants.{Ended}
 use Rattle.world_runs.specs.Events.{events_of}
 use Rattle.program_calls.specs.declared.turned.Turned.TheVariants as turns
-use Rattle.clients.specs.Lives.{ClientLife, events_in, state_in, op_in, IsLife, stopped_with}
+use Rattle.clients.specs.Lives.{ClientLife, events_in, state_in, op_in, IsLife}
 use Rattle.clients.specs.Steps.{Unasked, OwnStep, ended_with, end_events}
 use Rattle.clients.proofs.Begins.{refused_by, refused_answer}
 

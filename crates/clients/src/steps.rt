@@ -39,7 +39,6 @@ pub fn end<P: Programs + Drop>(actor: &mut Actor<P>, pass: &mut Pass, answer: An
 }
 
 /// The same answer once more, or that memory is wanting.
-#[tactic(auto, using(tect_ids::proofs::Clones::same_answer))]
 fn again(answer: &Answer) -> Answer
     ensures { (result ≡ answer.now) ⊎ (result ≡ Answer.NoMemory) }
 {
@@ -50,7 +49,6 @@ fn again(answer: &Answer) -> Answer
 }
 
 /// The command ends with that answer, and with the one that tells of it where memory is wanting to tell the answer twice.
-#[tactic(auto, using(tect_ids::proofs::Clones::same_answer))]
 fn end_with<P: Programs + Drop>(actor: &mut Actor<P>, pass: &mut Pass, answer: Answer) -> Answer
     requires { pass.old.running ≡ Some (op_of actor.old) }
     ensures actor { actor.new ≡ let_go actor.old }

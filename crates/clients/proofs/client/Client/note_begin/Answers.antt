@@ -2,7 +2,25 @@ use Rattle.std.proofs.Common.{◌∙◌, sym, refl}
 use Rattle.std.specs.Prelude.{IsOk}
 use Rattle.passes.specs.Commits.{IsFullForBegin}
 use Rattle.clients.proofs.Closings.{at_ok, ok_no_err, refuses_here, same_full, begun_client}
+use Rattle.clients.proofs.Reserved.{reserved_pass}
 use Rattle.clients.proofs.client.Client.note_begin.Goals as goal
+
+pub invariant_of-self : goal.invariant_of-self
+invariant_of-self g c = reserved_pass g.P.Programs.rules c.self.inside c.self.invariant c.reserve_begin.new.self
+    c.in_err-reserve_begin.ensures.moments c.in_err-reserve_begin.ensures.same.4 c.in_err-reserve_begin.ensures.same.1
+    c.in_err-reserve_begin.ensures.same.0
+
+pub invariant_of-self-in_err-noted : goal.invariant_of-self-in_err-noted
+invariant_of-self-in_err-noted g c = reserved_pass g.P.Programs.rules c.self.inside c.self.invariant c.reserve_begin.new.self
+    c.in_ok-reserve_begin.ensures.moments c.in_ok-reserve_begin.ensures.same.4 c.in_ok-reserve_begin.ensures.same.1
+    c.in_ok-reserve_begin.ensures.same.0
+
+pub invariant_of-self-in_err-begin : goal.invariant_of-self-in_err-begin
+invariant_of-self-in_err-begin g c = rw c.in_err-begin.ensures.err (
+    reserved_pass g.P.Programs.rules c.self.inside c.self.invariant c.reserve_begin.new.self
+    c.in_ok-reserve_begin.ensures.moments c.in_ok-reserve_begin.ensures.same.4 c.in_ok-reserve_begin.ensures.same.1
+    c.in_ok-reserve_begin.ensures.same.0
+    )
 
 pub unreachable-requires : goal.unreachable-requires
 unreachable-requires g c =

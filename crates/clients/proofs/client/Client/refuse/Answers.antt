@@ -8,7 +8,15 @@ use Rattle.clients.specs.ActorState.{next_op_of, op_of}
 use Rattle.clients.specs.ClientInside.{told_actor}
 use Rattle.clients.proofs.Begins.{refused_client}
 use Rattle.clients.proofs.Closings.{idle_here, goes_here, few_here, full_here, actor_idle}
+use Rattle.clients.proofs.Reserved.{reserved_refused}
 use Rattle.clients.proofs.client.Client.refuse.Goals as goal
+
+pub invariant_of-self : goal.invariant_of-self
+invariant_of-self g c =
+    let a = c.self.inside in
+    reserved_refused g.P.Programs.rules a c.self.invariant
+    (record { counts = a.counts; actor = a.actor; pass = a.pass; refused = c.reserve.new.self; transactions = a.transactions })
+    c.in_err-reserve.ensures.items c.in_err-reserve.ensures.len (omega (arith, c.in_err-reserve.ensures.capacity))
 
 pub invariant_of-self-2 : goal.invariant_of-self-2
 invariant_of-self-2 g c =

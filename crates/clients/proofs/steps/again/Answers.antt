@@ -1,0 +1,6 @@
+use Rattle.std.proofs.Common.{inl}
+use Rattle.tect_ids.proofs.Clones.{same_answer}
+use Rattle.clients.proofs.steps.again.Goals as goal
+
+pub returns-in-Ok : goal.returns-in-Ok
+returns-in-Ok c = inl (same_answer c.args.answer.now c.in-Ok.same c.in-Ok.ensures.cases)
