@@ -9,14 +9,9 @@ use Rattle.place_kit.specs.Started.{AreStarted}
 use Rattle.race_ends.specs.declared.ended.EndedPart.{EndedPart}
 use Rattle.race_ends.specs.declared.fault.RaceFault.{RaceFault}
 use Rattle.race_ends.specs.declared.fault.RaceFault.TheVariants.{NoMemory, Split, Astray}
-use Rattle.race_ends.specs.Faults.{IsLossOf, IsRaceFault, IsSplitOf}
+use Rattle.race_ends.specs.Faults.{IsRaceFault, IsSplitOf}
 use Rattle.race_ends.specs.HaveRun.{HaveRun, clocks_of}
 use Rattle.race_ends.proofs.Gathered.{are_of_clients}
-
-pub loss_is_fault : {S : Type 0} (P : Programs S) (plan : Plan) (fault : RaceFault) → IsLossOf plan.counts fault → IsRaceFault P plan fault
-loss_is_fault P plan NoMemory loss = tt
-loss_is_fault P plan (Split actor step in_pass in_place) loss = absurd loss
-loss_is_fault P plan (Astray want found) loss = loss
 
 module _ {S : Type 0} (P : Programs S) (plan : Plan) (ps : List Pass) (ended : List EndedPart) (last : List ReportLine)
     (run : HaveRun P plan.counts plan.clients plan.lines ps ended last) (ks : List AnyKept) (started : AreStarted plan.counts ks) where

@@ -9,8 +9,8 @@ use Rattle.std.proofs.lemmas.Option.{slice_get_within, same_Some}
 use Rattle.racers.specs.declared.racer.Racer.{Racer}
 use Rattle.tect_race.specs.declared.workers.Worker.{Worker}
 use Rattle.tect_race.specs.Ready.{AreAssigned, AreCollected, CanBeCollected}
-use Rattle.tect_race.proofs.Shares.{IsShare, some_at, set_cases, share_last, share_less, share_more, share_some, share_stayed, share_stays}
-use Rattle.tect_race.proofs.Shares.{together, at_end, not_end}
+use Rattle.list_laws.proofs.Shares.{IsShare, some_at, set_cases, share_last, share_less, share_more, share_some, share_stayed, share_stays}
+use Rattle.list_laws.proofs.Shares.{together, at_end, not_end}
 
 module _ {S : Type 0} (w : ℕ) (pos : 0 < w) (rs : List (Racer S)) where
   abbrev at : ℕ

@@ -1,5 +1,5 @@
 -- What the workers of all batches came to.
-use Rattle.std.proofs.Common.{◌≡◌, ℕ, ◌<◌, Result, Ok, Err, IsOk, IfOk, IfErr, List, Vec, [], ◌∷◌, ◌++◌, length, get_or, sym, subst}
+use Rattle.std.proofs.Common.{◌≡◌, ℕ, ◌<◌, Result, Ok, Err, IsOk, IfOk, IfErr, List, Vec, [], ◌∷◌, length, get_or, sym, subst}
 use Rattle.std.specs.declared.alloc.Global.{Global}
 use Rattle.std.specs.List.{All, AllZip, AllByRecursion, flat_map}
 use Rattle.std.proofs.lemmas.List.Elements.{All-nil, All-cons, All-head, All-tail, All-from_recursion}
@@ -12,15 +12,7 @@ use Rattle.race_ends.specs.declared.fault.RaceFault.{RaceFault}
 use Rattle.race_ends.specs.Faults.{IsLossOf}
 use Rattle.tect_race.specs.Workers.{WorkerEnds}
 use Rattle.tect_race.specs.Batches.{BatchCame, AreBatches, ended_workers}
-use Rattle.tect_race.proofs.Collecting.{zip_from}
-
-all_front : {A : Type 0} → (P : A → Type 0) (xs ys : List A) → All P (xs ++ ys) → All P xs
-all_front P [] ys all = All-nil P
-all_front P (x ∷ xs) ys all = All-cons P x xs (All-head P x (xs ++ ys) all) (all_front P xs ys (All-tail P x (xs ++ ys) all))
-
-all_back : {A : Type 0} → (P : A → Type 0) (xs ys : List A) → All P (xs ++ ys) → All P ys
-all_back P [] ys all = all
-all_back P (x ∷ xs) ys all = all_back P xs ys (All-tail P x (xs ++ ys) all)
+use Rattle.list_laws.proofs.Pairs.{zip_from, zip_append, all_front, all_back}
 
 -- what all workers meet those of each batch meet
 pub each_batch : {S : Type 0} (P : Worker S → Type 0) (bs : List (Vec (Worker S) Global)) → All P
@@ -31,13 +23,6 @@ each_batch P (b ∷ bs) all =
     All-cons (λ (b : Vec (Worker _) Global). All P b.items) b bs
     (all_front P b.items (flat_map (λ (b : Vec (Worker _) Global). b.items) bs) all)
     (each_batch P bs (all_back P b.items (flat_map (λ (b : Vec (Worker _) Global). b.items) bs) all))
-
-pub zip_append : {A B : Type 0} → (R : A → B → Type 0) (xs us : List A) (ys vs : List B) → AllZip R xs ys → AllZip R us vs
-    → AllZip R (xs ++ us) (ys ++ vs)
-zip_append R [] us [] vs z w = w
-zip_append R [] us (y ∷ ys) vs z w = absurd z
-zip_append R (x ∷ xs) us [] vs z w = absurd z
-zip_append R (x ∷ xs) us (y ∷ ys) vs z w = (z.0, zip_append R xs us ys vs z.1 w)
 
 pub if_both : {A E : Type 0} → {P Q S : A → Type 0} → (o : Result A E) → ((v : A) → P v → Q v → S v) → IfOk o P → IfOk o Q → IfOk o S
 if_both (Ok v) f h k = f v h k

@@ -1,55 +1,20 @@
 -- The clients of all workers, before and behind some lines.
-use Rattle.std.proofs.Common.{◌≡◌, ℕ, zero, suc, ◌+◌, ◌*◌, ◌/◌, ◌%◌, ◌<◌, ◌↔◌, Some, Result, Ok, Err, IfOk, List, [], ◌∷◌, ◌++◌, length}
-use Rattle.std.proofs.Common.{get_or, refl, sym, ap, subst, ◌∙◌, arith, slice_get}
-use Rattle.std.specs.List.{AllZip, All}
-use Rattle.std.proofs.lemmas.Option.{slice_get_within, slice_get-get_or, get_or_from_slice_get}
+use Rattle.std.proofs.Common.{◌≡◌, ℕ, ◌+◌, ◌*◌, ◌/◌, ◌%◌, ◌<◌, ◌↔◌, Some, List, [], ◌∷◌, length}
+use Rattle.std.proofs.Common.{sym, ap, subst, ◌∙◌, arith, slice_get}
+use Rattle.std.specs.List.{AllZip}
+use Rattle.std.proofs.lemmas.Option.{slice_get_within}
 use Rattle.std.proofs.Math.Nat.{mod-lt}
 use Rattle.tect_ids.specs.declared.ids.Counts.{Counts}
 use Rattle.tect_ids.specs.declared.script.Line.{Line}
 use Rattle.program_forms.specs.Kinds.{Programs}
 use Rattle.racers.specs.declared.racer.Racer.{Racer}
 use Rattle.tect_race.specs.declared.workers.Worker.{Worker}
-use Rattle.tect_race.specs.Lines.{Ran}
-use Rattle.tect_race.specs.Workers.{WorkerRan, WorkerEnds, WorkersRan, RacersRan}
-use Rattle.tect_race.specs.Ready.{IsWorker, AreRacers, AreWorkers, AreAssigned, CanBeCollected}
-use Rattle.tect_race.proofs.Shares.{also_at, same_at, share_within, some_at, stands}
-
--- ---- lists place by place
-
-pub zip_length : {A B : Type 0} → (R : A → B → Type 0) (xs : List A) (ys : List B) → AllZip R xs ys → length ys ≡ length xs
-zip_length R [] [] z = refl
-zip_length R [] (y ∷ ys) z = absurd z
-zip_length R (x ∷ xs) [] z = absurd z
-zip_length R (x ∷ xs) (y ∷ ys) z = ap suc (zip_length R xs ys z.1)
-
-pub zip_at : {A B : Type 0} → (R : A → B → Type 0) (xs : List A) (ys : List B) (n : ℕ) (x : A) (y : B) → AllZip R xs ys
-    → slice_get xs n ≡ Some x → slice_get ys n ≡ Some y → R x y
-zip_at R [] [] n x y z e f = (let l = slice_get_within {A = _} [] n x e in absurd (omega arith))
-zip_at R [] (b ∷ ys) n x y z e f = absurd z
-zip_at R (a ∷ xs) [] n x y z e f = absurd z
-zip_at R (a ∷ xs) (b ∷ ys) zero x y z e f = subst (λ v. R v y) (same_at (a ∷ xs) 0 a x refl e)
-    (subst (λ w. R a w) (same_at (b ∷ ys) 0 b y refl f) z.0)
-zip_at R (a ∷ xs) (b ∷ ys) (suc n) x y z e f = zip_at R xs ys n x y z.1 e f
-
-pub zip_from : {A B : Type 0} → (R : A → B → Type 0) (xs : List A) (ys : List B) → length ys ≡ length xs
-    → ((n : ℕ) (x : A) (y : B) → slice_get xs n ≡ Some x → slice_get ys n ≡ Some y → R x y) → AllZip R xs ys
-zip_from R [] [] l h = tt
-zip_from R [] (y ∷ ys) l h = absurd (omega arith)
-zip_from R (x ∷ xs) [] l h = absurd (omega arith)
-zip_from R (x ∷ xs) (y ∷ ys) l h = (h 0 x y refl refl, zip_from R xs ys (omega arith) (λ n a b e f. h (suc n) a b e f))
-
-pub zip_push : {A B : Type 0} → (R : A → B → Type 0) (xs : List A) (ys : List B) (x : A) (y : B) → AllZip R xs ys → R x y
-    → AllZip R (xs ++ x ∷ []) (ys ++ y ∷ [])
-zip_push R [] [] x y z r = (r, tt)
-zip_push R [] (b ∷ ys) x y z r = absurd z
-zip_push R (a ∷ xs) [] x y z r = absurd z
-zip_push R (a ∷ xs) (b ∷ ys) x y z r = (z.0, zip_push R xs ys x y z.1 r)
-
-pub all_at : {A : Type 0} → (P : A → Type 0) (xs : List A) (n : ℕ) (x : A) → All P xs → slice_get xs n ≡ Some x → P x
-all_at P xs n x all e = subst P (get_or_from_slice_get xs n x x e) (all n x (slice_get_within xs n x e))
-
-pub all_from : {A : Type 0} → (P : A → Type 0) (xs : List A) → ((n : ℕ) (x : A) → slice_get xs n ≡ Some x → P x) → All P xs
-all_from P xs h = λ n d l. h n (get_or xs n d) (slice_get-get_or xs n d l)
+use Rattle.racer_stories.specs.Lines.{Ran, RacersRan}
+use Rattle.tect_race.specs.Workers.{WorkerRan, WorkerEnds, WorkersRan}
+use Rattle.tect_race.specs.Ready.{IsWorker, AreWorkers, AreAssigned, CanBeCollected}
+use Rattle.racer_stories.specs.Ready.{AreRacers}
+use Rattle.list_laws.proofs.Pairs.{zip_length, zip_at, zip_from, all_at, all_from}
+use Rattle.list_laws.proofs.Shares.{also_at, share_within, some_at, stands}
 
 -- ---- the clients before and after the lines
 
@@ -134,7 +99,3 @@ ended_ready P counts names w ls ks later cs ds workers z =
           let c = also_at ds cs k d e (sym same) in
           (zip_at (WorkerEnds P counts names w ls later) cs ds k c.0 d z c.1 e).ready);
     }
-
-pub if_ok : {A E : Type 0} → {P Q : A → Type 0} → (o : Result A E) → ((v : A) → P v → Q v) → IfOk o P → IfOk o Q
-if_ok (Ok v) f h = f v h
-if_ok (Err e) f h = tt

@@ -16,13 +16,14 @@ use Rattle.passes.specs.declared.pass.Pass.{Pass}
 use Rattle.racers.specs.declared.racer.Racer.{Racer}
 use Rattle.race_ends.specs.declared.ended.EndedPart.{EndedPart}
 use Rattle.race_ends.specs.HaveRun.{HaveRun}
-use Rattle.tect_race.specs.Workers.{RacersRan, AllClosed}
-use Rattle.tect_race.specs.Passes.{IsPassOf}
+use Rattle.racer_stories.specs.Lines.{RacersRan}
+use Rattle.racer_stories.specs.Closed.{AllClosed}
+use Rattle.racer_stories.specs.Passes.{IsPassOf}
 use Rattle.tect_race.specs.Progress.{Stood, HasCome}
-use Rattle.tect_race.specs.Ready.{AreRacers, IsOfClient}
+use Rattle.racer_stories.specs.Ready.{AreRacers, IsOfClient}
 use Rattle.tect_race.specs.declared.rounds.Progress.{Progress}
 use Rattle.tect_race.proofs.Looping.{stood_on, run_ended}
-use Rattle.tect_race.proofs.Parts.{lines_to, drop_more, all_more}
+use Rattle.list_laws.proofs.Parts.{lines_to, drop_more, all_more}
 
 -- a line of the script is of a client, if it is no dump
 of_client : (n : ℕ) (line : Line) → IsLineOf n line → (line ≡ lines.Dump → ⊥) → IsOfClient n line

@@ -1,13 +1,13 @@
 -- Workers that are cut into batches, one after another.
 use Rattle.std.proofs.Common.{◌≡◌, ℕ, ◌+◌, ◌≤◌, Bool, true, false, cond, ◌&&◌, ◌||◌, List, Vec, [], ◌∷◌, ◌++◌, length, filter}
-use Rattle.std.proofs.Common.{length-append, append_assoc, refl, sym, ap, ◌∙◌, arith, max, lit≤}
+use Rattle.std.proofs.Common.{length-append, append_assoc, refl, sym, ap, ◌∙◌, arith, lit≤}
 use Rattle.std.specs.declared.alloc.Global.{Global}
 use Rattle.std.specs.List.{All, flat_map}
 use Rattle.std.proofs.lemmas.List.Elements.{All-push}
 use Rattle.tect_ids.specs.declared.script.Line.{Line}
 use Rattle.tect_race.specs.declared.workers.Worker.{Worker}
-use Rattle.tect_race.specs.Batches.{has_line, busy_count, AreBatches}
-use Rattle.tect_race.proofs.Endings.{flat_map-snoc}
+use Rattle.tect_race.specs.Batches.{has_line, busy_count}
+use Rattle.list_laws.proofs.Pairs.{flat_map-snoc}
 
 abbrev pub one_if : Bool → ℕ
 one_if true = 1
@@ -42,19 +42,6 @@ both true true h = (refl, refl)
 both true false h = absurd (cc)
 both false true h = absurd (cc)
 both false false h = absurd (cc)
-
-batches_are : (n m : ℕ) (busy : Bool) → (busy ≡ false → n ≡ 0) → n + one_if busy ≡ m → n + 1 ≡ max 1 m
-batches_are n m true first count = omega arith
-batches_are n m false first count = let z : n ≡ 0 = first refl in omega arith
-
-pub cut_none : {S : Type 0} (worker_count : ℕ) (ls : List Line) → IsCut {S = S} worker_count ls [] [] [] false
-cut_none worker_count ls = record {
-  joined = refl;
-  alone = λ k d l. absurd (omega arith);
-  last = refl;
-  count = refl;
-  first = λ h. refl;
-}
 
 module _ {S : Type 0} (worker_count : ℕ) (ls : List Line) where
   one_count : (c : Worker S) → busy_count worker_count ls (c ∷ []) ≡ one_if (has_line worker_count ls c)
@@ -135,11 +122,3 @@ module _ {S : Type 0} (worker_count : ℕ) (ls : List Line) where
           count = omega arith;
           first = λ h. (let f : busy ≡ false = not_yet busy b h in let t : busy ≡ true = two.0 in absurd (cc));
         }
-
-    -- the last batch is done too
-    pub cut_all : AreBatches worker_count ls cs (done ++ batch ∷ [])
-    cut_all = record {
-      joined = whole;
-      alone = all_done;
-      count = longer ∙ batches_are (length done) (busy_count worker_count ls cs) busy is.first is.count;
-    }

@@ -18,9 +18,9 @@ use Rattle.passes.specs.declared.pass.Pass.{Pass}
 use Rattle.race_runs.specs.Stories.{Part, Story, SilentAfter, all_moments, all_events}
 use Rattle.racers.specs.declared.racer.Racer.{Racer}
 use Rattle.racers.specs.Lives.{busy_in}
-use Rattle.tect_race.specs.Passes.{IsPassOf}
-use Rattle.tect_race.specs.Workers.{Closed}
-use Rattle.tect_race.specs.Standing.{Stands, all_silent}
+use Rattle.racer_stories.specs.Passes.{IsPassOf}
+use Rattle.racer_stories.specs.Closed.{Closed}
+use Rattle.racer_stories.specs.Standing.{Stands, all_silent}
 use Rattle.race_ends.specs.HaveRun.{HasStory}
 
 silent_parts : (before : List Event) (ps : List Part) (p : Part) → AreOfRefused before (all_silent ps p) → SilentAfter before ps p

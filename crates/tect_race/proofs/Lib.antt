@@ -1,17 +1,11 @@
-pub mod Shares
-pub mod RacerLines
 pub mod WorkerLines
 pub mod Losses
 pub mod Assigning
-pub mod Parts
 pub mod Collecting
 pub mod Batching
-pub mod Endings
 pub mod Cutting
-pub mod Stories
 pub mod Dumps
 pub mod Finished
 pub mod Looping
 pub mod Coming
 pub mod Crossing
-pub mod Playing

@@ -22,17 +22,18 @@ use Rattle.race_ends.specs.HaveRun.{clocks_of, HasStory, HaveAnswers, HaveRun}
 use Rattle.whole_runs.specs.Standing.{IsInState}
 use Rattle.tect_ids.specs.Places.{HasPlaces}
 use Rattle.program_forms.specs.Kinds.{Programs}
-use Rattle.tect_race.specs.Lines.{Ran}
-use Rattle.tect_race.specs.Workers.{RacersRan, AllClosed, Closed}
-use Rattle.tect_race.specs.Done.{AreNew, IsScript}
-use Rattle.tect_race.specs.Ready.{AreRacers, IsReady, IsOfClient}
-use Rattle.tect_race.specs.Passes.{IsPassOf}
-use Rattle.tect_race.specs.Progress.{Stood}
-use Rattle.tect_race.specs.Standing.{Stands, AllStand, HaveEnded, last_clock, first_answers, later_parts}
-use Rattle.tect_race.proofs.Dumps.{all_grown, all_dumped, all_told, all_parts, ended_on, last_is}
-use Rattle.tect_race.proofs.Collecting.{zip_length, zip_at}
+use Rattle.racer_stories.specs.Lines.{Ran, RacersRan}
+use Rattle.racer_stories.specs.Closed.{AllClosed, Closed}
+use Rattle.racer_stories.specs.Done.{AreNew, IsScript}
+use Rattle.racer_stories.specs.Ready.{AreRacers, IsReady, IsOfClient}
+use Rattle.racer_stories.specs.Passes.{IsPassOf}
+use Rattle.tect_race.specs.Progress.{Stood, HaveEnded}
+use Rattle.racer_stories.specs.Standing.{Stands, AllStand, last_clock, first_answers, later_parts}
+use Rattle.racer_stories.proofs.Dumps.{all_grown, all_dumped, all_told, all_parts, last_is}
+use Rattle.tect_race.proofs.Dumps.{ended_on}
+use Rattle.list_laws.proofs.Pairs.{zip_length, zip_at}
 use Rattle.tect_race.proofs.Finished.{finished}
-use Rattle.tect_race.proofs.Shares.{also_at}
+use Rattle.list_laws.proofs.Shares.{also_at}
 
 -- ---- before the first line
 

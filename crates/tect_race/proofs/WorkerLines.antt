@@ -13,11 +13,12 @@ use Rattle.clients.specs.Lives.{state_in}
 use Rattle.racers.specs.declared.racer.Racer.{Racer}
 use Rattle.tect_race.specs.declared.workers.Worker.{Worker}
 use Rattle.racers.specs.Lines.{Plays}
-use Rattle.tect_race.specs.Lines.{Ran, PlaysOrRests}
+use Rattle.racer_stories.specs.Lines.{Ran, PlaysOrRests}
 use Rattle.tect_race.specs.Workers.{WorkerPlays, WorkerRan}
-use Rattle.tect_race.specs.Ready.{IsReady, IsWorker, IsOfClient}
-use Rattle.tect_race.proofs.RacerLines.{adds_actor, ran_none, ran_on, ready_on}
-use Rattle.tect_race.proofs.Shares.{also_at, same_at, set_cases, stands, place_share, place_slot}
+use Rattle.racer_stories.specs.Ready.{IsReady, IsOfClient}
+use Rattle.tect_race.specs.Ready.{IsWorker}
+use Rattle.racer_stories.proofs.RacerLines.{adds_actor, ran_none, ran_on, ready_on}
+use Rattle.list_laws.proofs.Shares.{also_at, same_at, set_cases, stands, place_share, place_slot}
 
 pub worker_ran_none : {S : Type 0} (P : Programs S) (names : List (List ℕ)) (c : Worker S) → WorkerRan P names [] c c
 worker_ran_none P names c = record {

@@ -1,9 +1,5 @@
-pub mod Lines
 pub mod Workers
 pub mod Ready
 pub mod Faults
-pub mod Standing
-pub mod Done
 pub mod Progress
 pub mod Batches
-pub mod Passes

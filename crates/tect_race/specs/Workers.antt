@@ -1,16 +1,14 @@
 -- What the racers of a worker do in lines of the script.
-use Rattle.std.specs.Prelude.{◌≡◌, ℕ, max, Result, Ok, Err, List, [], ◌++◌, length, Some, slice_get}
+use Rattle.std.specs.Prelude.{◌≡◌, ℕ, Result, Ok, Err, List, length, Some, slice_get}
 use Rattle.std.specs.List.{AllZip}
 use Rattle.program_forms.specs.Kinds.{Programs}
-use Rattle.clients.specs.Lives.{IsLife}
 use Rattle.tect_ids.specs.declared.ids.Counts.{Counts}
 use Rattle.tect_ids.specs.declared.script.Line.{Line}
-use Rattle.tect_ids.specs.declared.script.ReportLine.{ReportLine}
 use Rattle.racers.specs.declared.racer.Racer.{Racer}
 use Rattle.tect_race.specs.declared.workers.Worker.{Worker}
 use Rattle.race_ends.specs.declared.fault.RaceFault.{RaceFault}
 use Rattle.race_ends.specs.Faults.{IsLossOf}
-use Rattle.tect_race.specs.Lines.{Ran, PlaysOrRests}
+use Rattle.racer_stories.specs.Lines.{Ran, PlaysOrRests}
 use Rattle.tect_race.specs.Ready.{IsWorker}
 
 -- one line: it is of one of the racers, or of none
@@ -47,21 +45,3 @@ pub record WorkerCame {S : Type 0} (P : Programs S) (counts : Counts) (names : L
 -- all workers
 abbrev pub WorkersRan : {S : Type 0} → Programs S → List (List ℕ) → List Line → List (Worker S) → List (Worker S) → Type 0
 WorkersRan P names ls = AllZip (WorkerRan P names ls)
-
--- all racers
-abbrev pub RacersRan : {S : Type 0} → Programs S → List (List ℕ) → List Line → List (Racer S) → List (Racer S) → Type 0
-RacersRan P names ls = AllZip (Ran P names ls)
-
--- A part ends: the clock is raised, and the answers are taken out.
-pub record Closed {S : Type 0} (P : Programs S) (clock : ℕ) (old new : Racer S) : Type 0 where
-  pub client : new.client ≡ record old.client { clock = max old.client.clock clock }
-  pub answers : new.answers.items ≡ []
-  pub life : IsLife P new.client
-
--- and added to others
-pub record Ended {S : Type 0} (P : Programs S) (clock : ℕ) (old new : Racer S) (before after : List ReportLine) : Type 0 where
-  pub closed : Closed P clock old new
-  pub told : after ≡ before ++ old.answers.items
-
-abbrev pub AllClosed : {S : Type 0} → Programs S → ℕ → List (Racer S) → List (Racer S) → Type 0
-AllClosed P clock = AllZip (Closed P clock)

@@ -1,6 +1,6 @@
 ghost use Rattle.std.specs.Prelude.{◌≡◌, ◌<◌, ◌≤◌, ◌^◌, ◌+◌, ◌∷◌, IfOk, IfErr, OnOk, map};
 ghost use Rattle.std.specs.List.{All, Contains, flat_map};
-ghost use Rattle.tect_race.specs.Workers.{AllClosed, Ended};
+ghost use Rattle.racer_stories.specs.Closed.{AllClosed, Ended};
 
 use entry_words::CLOCK_LIMIT;
 use program_calls::Programs;

@@ -2,10 +2,10 @@ ghost use Rattle.std.specs.Prelude.{◌≡◌, ◌+◌, ◌<◌, ◌≤◌, Some
 ghost use Rattle.tect_ids.specs.Places.{HasPlaces};
 ghost use Rattle.race_ends.specs.Faults.{IsLossOf};
 ghost use Rattle.race_ends.specs.HaveRun.{HaveRun};
-ghost use Rattle.tect_race.specs.Done.{AreNew, IsScript};
+ghost use Rattle.racer_stories.specs.Done.{AreNew, IsScript};
 ghost use Rattle.tect_race.specs.Progress.{HasCome};
 ghost use Rattle.std.specs.List.{AllZip};
-ghost use Rattle.tect_race.specs.Passes.{IsPassOf};
+ghost use Rattle.racer_stories.specs.Passes.{IsPassOf};
 
 use crate::part_ends::end_part;
 use crate::threads::run_part;

@@ -2,8 +2,10 @@ ghost use Rattle.std.specs.Prelude.{◌≡◌, ◌<◌, ◌≤◌, IfOk, IfErr, 
 ghost use Rattle.std.specs.List.{All, flat_map};
 ghost use Rattle.tect_ids.specs.Places.{HasPlaces};
 ghost use Rattle.tect_race.specs.Batches.{is_of_worker, has_line, AreBatches, BatchCame, ended_workers};
-ghost use Rattle.tect_race.specs.Ready.{IsWorker, IsOfClient, AreWorkers, AreRacers};
-ghost use Rattle.tect_race.specs.Workers.{WorkersRan, RacersRan};
+ghost use Rattle.tect_race.specs.Ready.{IsWorker, AreWorkers};
+ghost use Rattle.racer_stories.specs.Ready.{IsOfClient, AreRacers};
+ghost use Rattle.tect_race.specs.Workers.{WorkersRan};
+ghost use Rattle.racer_stories.specs.Lines.{RacersRan};
 ghost use Rattle.race_ends.specs.Faults.{IsLossOf};
 
 use crate::workers::{Shared, Worker, assign, collect, run_worker};

@@ -1,5 +1,6 @@
 ghost use Rattle.std.specs.Prelude.{◌≡◌, ◌<◌, ◌≤◌, List, [], ◌∷◌, IfOk, IfErr, OnOk, length, drop, slice_range};
-ghost use Rattle.tect_race.specs.Ready.{AreAssigned, CanBeCollected, IsWorker, IsOfClient};
+ghost use Rattle.tect_race.specs.Ready.{AreAssigned, CanBeCollected, IsWorker};
+ghost use Rattle.racer_stories.specs.Ready.{IsOfClient};
 ghost use Rattle.std.specs.List.{All};
 ghost use Rattle.tect_ids.specs.declared.script.Line.{Line as ScriptLine};
 ghost use Rattle.tect_race.specs.Workers.{WorkerPlays, WorkerCame};

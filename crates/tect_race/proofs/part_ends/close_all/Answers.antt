@@ -2,8 +2,9 @@ use Rattle.std.proofs.Common.{◌≡◌, ◌+◌, ◌<◌, ◌∷◌, ◌++◌, 
 use Rattle.std.specs.List.{flat_map}
 use Rattle.std.proofs.lemmas.List.{take_more}
 use Rattle.racers.specs.declared.racer.Racer.{Racer}
-use Rattle.tect_race.specs.Workers.{AllClosed, Closed}
-use Rattle.tect_race.proofs.Endings.{zip_on, drop_on, get_left, flat_map-snoc}
+use Rattle.racer_stories.specs.Closed.{AllClosed, Closed}
+use Rattle.racer_stories.proofs.Endings.{zip_on, drop_on, get_left}
+use Rattle.list_laws.proofs.Pairs.{flat_map-snoc}
 use Rattle.tect_race.proofs.part_ends.close_all.Goals as goal
 
 pub racers-preserved : goal.racers-preserved

@@ -1,6 +1,6 @@
 use Rattle.std.proofs.Common.{◌≡◌, take, drop}
 use Rattle.std.specs.List.{flat_map}
-use Rattle.tect_race.specs.Workers.{AllClosed}
+use Rattle.racer_stories.specs.Closed.{AllClosed}
 use Rattle.tect_race.proofs.part_ends.close_all.Given as goal
 
 abbrev pub invariant-racers : goal.invariant-racers

@@ -1,8 +1,8 @@
 use Rattle.std.proofs.Common.{ℕ, List, length, sym, subst}
 use Rattle.tect_ids.specs.declared.script.Line.{Line}
 use Rattle.tect_ids.specs.declared.script.Plan.{Plan}
-use Rattle.tect_race.specs.Done.{IsScript}
-use Rattle.tect_race.proofs.Playing.{script_of}
+use Rattle.racer_stories.specs.Done.{IsScript}
+use Rattle.racer_stories.proofs.Playing.{script_of}
 use Rattle.tect_race.proofs.racing.race.Goals as goal
 
 pub run_script-requires-clause-script : goal.run_script-requires-clause-script

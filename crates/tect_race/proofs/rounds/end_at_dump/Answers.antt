@@ -3,12 +3,12 @@ use Rattle.std.specs.List.{All, flat_map}
 use Rattle.std.proofs.lemmas.List.{with_items_is}
 use Rattle.racers.specs.declared.racer.Racer.{Racer}
 use Rattle.race_ends.specs.declared.ended.EndedPart.{EndedPart}
-use Rattle.tect_race.specs.Workers.{AllClosed, Closed}
+use Rattle.racer_stories.specs.Closed.{AllClosed, Closed}
 use Rattle.tect_race.specs.Progress.{Stood}
-use Rattle.tect_race.specs.Ready.{IsOfClient}
+use Rattle.racer_stories.specs.Ready.{IsOfClient}
 use Rattle.tect_race.proofs.Coming.{come_on}
-use Rattle.tect_race.proofs.Collecting.{zip_length}
-use Rattle.tect_race.proofs.Parts.{none_yet}
+use Rattle.list_laws.proofs.Pairs.{zip_length}
+use Rattle.list_laws.proofs.Parts.{none_yet}
 use Rattle.std.proofs.lemmas.Option.{slice_get_within}
 use Rattle.tect_race.proofs.rounds.end_at_dump.Goals as goal
 

@@ -2,10 +2,10 @@ use Rattle.std.proofs.Common.{◌≡◌, ◌≤◌, List, length, sym, ap, subst
 use Rattle.std.specs.List.{All, AllZip, flat_map}
 use Rattle.std.proofs.lemmas.List.{with_items_is}
 use Rattle.racers.specs.declared.racer.Racer.{Racer}
-use Rattle.tect_race.specs.Passes.{IsPassOf}
-use Rattle.tect_race.specs.Workers.{AllClosed, Closed}
+use Rattle.racer_stories.specs.Passes.{IsPassOf}
+use Rattle.racer_stories.specs.Closed.{AllClosed, Closed}
 use Rattle.tect_race.proofs.Coming.{come_to_end}
-use Rattle.tect_race.proofs.Collecting.{zip_length}
+use Rattle.list_laws.proofs.Pairs.{zip_length}
 use Rattle.tect_race.proofs.rounds.end_script.Goals as goal
 
 pub returns-clause-run : goal.returns-clause-run

@@ -1,4 +1,4 @@
-use Rattle.tect_race.proofs.Endings.{new_on}
+use Rattle.racer_stories.proofs.Endings.{new_on}
 use Rattle.tect_race.proofs.rounds.new_racers.Goals as goal
 
 pub each-preserved : goal.each-preserved

@@ -1,4 +1,4 @@
-use Rattle.tect_race.specs.Done.{AreNew}
+use Rattle.racer_stories.specs.Done.{AreNew}
 use Rattle.tect_race.proofs.rounds.new_racers.Given as goal
 
 abbrev pub invariant-each : goal.invariant-each

@@ -3,10 +3,10 @@ use Rattle.std.proofs.lemmas.Bool.{false≢true}
 use Rattle.tect_ids.specs.declared.script.Line.{Line}
 use Rattle.race_ends.specs.declared.ended.EndedPart.{EndedPart}
 use Rattle.tect_race.specs.Progress.{Stood, HasCome}
-use Rattle.tect_race.specs.Ready.{IsOfClient}
+use Rattle.racer_stories.specs.Ready.{IsOfClient}
 use Rattle.tect_race.proofs.Coming.{come_past}
 use Rattle.tect_race.proofs.Looping.{stood_new}
-use Rattle.tect_race.proofs.Parts.{none_yet}
+use Rattle.list_laws.proofs.Parts.{none_yet}
 use Rattle.tect_race.proofs.rounds.run_script.Goals as goal
 use Rattle.tect_race.proofs.rounds.run_script.Goals.{then-matches+in_ok-progress, else-matches, in-Dump, in_default}
 

@@ -1,5 +1,5 @@
-use Rattle.tect_race.proofs.Collecting.{zip_push}
-use Rattle.tect_race.specs.Passes.{IsPassOf}
+use Rattle.list_laws.proofs.Pairs.{zip_push}
+use Rattle.racer_stories.specs.Passes.{IsPassOf}
 use Rattle.std.proofs.Common.{List, sym, subst, ◌∙◌}
 use Rattle.std.specs.List.{AllZip}
 use Rattle.std.proofs.lemmas.Iterator.Adapters.{YieldsList-from_vec}

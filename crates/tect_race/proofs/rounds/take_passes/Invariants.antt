@@ -1,5 +1,5 @@
 use Rattle.std.specs.List.{AllZip}
-use Rattle.tect_race.specs.Passes.{IsPassOf}
+use Rattle.racer_stories.specs.Passes.{IsPassOf}
 use Rattle.tect_race.proofs.rounds.take_passes.Given as goal
 
 abbrev pub invariant-racers : goal.invariant-racers

@@ -3,9 +3,10 @@ use Rattle.std.proofs.lemmas.List.{take_all, take_more}
 use Rattle.std.proofs.lemmas.List.Elements.{All-get_or}
 use Rattle.tect_ids.specs.declared.script.Line.{Line}
 use Rattle.tect_race.specs.Workers.{WorkerRan}
-use Rattle.tect_race.specs.Ready.{IsOfClient, IsWorker}
+use Rattle.racer_stories.specs.Ready.{IsOfClient}
+use Rattle.tect_race.specs.Ready.{IsWorker}
 use Rattle.tect_race.proofs.WorkerLines.{worker_ran_none, worker_ran_on, worker_ready_on}
-use Rattle.tect_race.proofs.Parts.{length_part, next_line}
+use Rattle.list_laws.proofs.Parts.{length_part, next_line}
 use Rattle.tect_race.proofs.workers.run_worker.Goals as goal
 
 pub lines-init : goal.lines-init

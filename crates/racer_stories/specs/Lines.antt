@@ -1,5 +1,6 @@
 -- What a racer does in lines of the script.
 use Rattle.std.specs.Prelude.{◌≡◌, ◌≢◌, ℕ, ◌⊎◌, List, filter}
+use Rattle.std.specs.List.{AllZip}
 use Rattle.tect_ids.specs.declared.script.Line.{Line}
 use Rattle.tect_ids.specs.declared.script.Line.TheVariants as lines
 use Rattle.program_forms.specs.Kinds.{Programs}
@@ -18,6 +19,10 @@ pub record Ran {S : Type 0} (P : Programs S) (names : List (List ℕ)) (ls : Lis
   pub adds : Adds P names old new news more
   pub does : DoesLines old.client.actor (busy_in P old.client) (filter (line_concerns old.client.actor) ls) (news_events news more)
       (busy_in P new.client)
+
+-- all racers
+abbrev pub RacersRan : {S : Type 0} → Programs S → List (List ℕ) → List Line → List (Racer S) → List (Racer S) → Type 0
+RacersRan P names ls = AllZip (Ran P names ls)
 
 -- It did the line if that is its own, and else nothing.
 abbrev pub PlaysOrRests : {S : Type 0} → Programs S → List (List ℕ) → Line → Racer S → Racer S → Type 0

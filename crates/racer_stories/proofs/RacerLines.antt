@@ -30,8 +30,8 @@ use Rattle.racers.specs.Lives.{busy_in, news_events}
 use Rattle.racers.specs.Lines.{Adds, Plays}
 use Rattle.racers.specs.Steps.{Grows}
 use Rattle.racers.proofs.Growths.{added_events, grows_actor, grows_both, grows_counts, grows_events, grows_none, grows_state}
-use Rattle.tect_race.specs.Lines.{Ran, PlaysOrRests}
-use Rattle.tect_race.specs.Ready.{IsReady}
+use Rattle.racer_stories.specs.Lines.{Ran, PlaysOrRests}
+use Rattle.racer_stories.specs.Ready.{IsReady}
 
 -- ---- growths
 

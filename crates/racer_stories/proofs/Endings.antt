@@ -1,19 +1,14 @@
 -- Parts that end, client by client; and clients that begin.
 use Rattle.std.proofs.Common.{◌≡◌, ℕ, zero, suc, ◌+◌, ◌<◌, ◌≤◌, Some, List, [], ◌∷◌, ◌++◌, length, length-append, set, take, drop, get_or}
-use Rattle.std.proofs.Common.{refl, sym, ap, subst, ◌∙◌, arith, inl, inr, slice_get, append_assoc}
-use Rattle.std.specs.List.{AllZip, flat_map}
+use Rattle.std.proofs.Common.{refl, sym, ap, subst, ◌∙◌, arith, inl, inr, slice_get}
+use Rattle.std.specs.List.{AllZip}
 use Rattle.std.proofs.lemmas.Bool.{cases_lt}
-use Rattle.std.proofs.lemmas.List.{append-nil}
 use Rattle.std.proofs.lemmas.Option.{slice_get_within}
 use Rattle.tect_ids.specs.declared.ids.Counts.{Counts}
 use Rattle.clients.specs.Lives.{idle_life}
 use Rattle.racers.specs.declared.racer.Racer.{Racer}
-use Rattle.tect_race.specs.Done.{AreNew}
-use Rattle.tect_race.proofs.Shares.{at_end, not_end, same_at}
-
-pub flat_map-snoc : {A B : Type 0} → (f : A → List B) (xs : List A) (x : A) → flat_map f (xs ++ x ∷ []) ≡ flat_map f xs ++ f x
-flat_map-snoc f [] x = append-nil (f x)
-flat_map-snoc f (y ∷ ys) x = ap (λ l. f y ++ l) (flat_map-snoc f ys x) ∙ sym (append_assoc (f y) (flat_map f ys) (f x))
+use Rattle.racer_stories.specs.Done.{AreNew}
+use Rattle.list_laws.proofs.Shares.{at_end, not_end, same_at}
 
 -- the item at i is changed, and those behind it are not yet
 module _ {S : Type 0} (R : Racer S → Racer S → Type 0) where

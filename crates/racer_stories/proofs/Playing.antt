@@ -8,7 +8,7 @@ use Rattle.tect_ids.specs.declared.script.Plan.{Plan}
 use Rattle.program_forms.specs.Kinds.{Programs}
 use Rattle.whole_runs.specs.ClientStates.{ClientStates, FitStatesFrom, with_state, state_left_at, all_idle}
 use Rattle.race_runs.specs.Gathered.{IsLineOf}
-use Rattle.tect_race.specs.Done.{IsScript}
+use Rattle.racer_stories.specs.Done.{IsScript}
 use Rattle.whole_runs.specs.Playable.{IsWithin, IsPlayable}
 
 asked : {S : Type 0} (P : Programs S) (n : ℕ) (states : ClientStates) (ls : List Line) → FitStatesFrom P states ls

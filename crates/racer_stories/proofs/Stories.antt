@@ -25,12 +25,12 @@ use Rattle.race_runs.specs.Stories.{Part, Story, Timely, Answers, all_moments, a
 use Rattle.race_runs.proofs.Growing.{no_part, with_part}
 use Rattle.racers.specs.declared.racer.Racer.{Racer}
 use Rattle.racers.specs.Lives.{busy_in, news_events}
-use Rattle.tect_race.specs.Lines.{Ran}
-use Rattle.tect_race.specs.Standing.{Stands, all_silent, last_clock}
+use Rattle.racer_stories.specs.Lines.{Ran}
+use Rattle.racer_stories.specs.Standing.{Stands, all_silent, last_clock}
 use Rattle.noted_runs.proofs.Following.{does_lines-append}
 use Rattle.racers.proofs.Growths.{both_news}
 use Rattle.whole_runs.proofs.OwnLines.{own_lines-append}
-use Rattle.tect_race.proofs.RacerLines.{adds_actor, adds_counts, adds_moments, adds_silent, adds_events}
+use Rattle.racer_stories.proofs.RacerLines.{adds_actor, adds_counts, adds_moments, adds_silent, adds_events}
 
 -- ---- one list for all parts
 

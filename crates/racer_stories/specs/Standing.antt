@@ -1,6 +1,6 @@
 -- How far the clients of a race have come, each with its story so far.
-use Rattle.std.specs.Prelude.{◌≡◌, ℕ, ◌≤◌, None, List, [], ◌∷◌, ◌++◌, filter, map, length}
-use Rattle.std.specs.List.{All, AllZip, flat_map}
+use Rattle.std.specs.Prelude.{◌≡◌, ℕ, ◌≤◌, None, List, [], ◌∷◌, ◌++◌, filter, length}
+use Rattle.std.specs.List.{All, AllZip}
 use Rattle.tect_ids.specs.declared.ids.Counts.{Counts}
 use Rattle.tect_ids.specs.declared.script.Line.{Line}
 use Rattle.tect_ids.specs.declared.script.ReportLine.{ReportLine}
@@ -15,7 +15,6 @@ use Rattle.clients.specs.Lives.{events_in}
 use Rattle.race_runs.specs.Stories.{Part, Story, Timely, Answers, all_moments, all_events, with_dumps}
 use Rattle.racers.specs.declared.racer.Racer.{Racer}
 use Rattle.racers.specs.Lives.{busy_in}
-use Rattle.race_ends.specs.declared.ended.EndedPart.{EndedPart}
 
 -- the events of the ops that were refused
 abbrev pub all_silent : List Part → Part → List Event
@@ -55,8 +54,3 @@ first_answers (p ∷ ps) = p.answers
 abbrev pub later_parts : List Part → List Part
 later_parts [] = []
 later_parts (p ∷ ps) = ps
-
--- the answers of the parts that ended are those of the clients' parts, client by client
-abbrev pub HaveEnded : List EndedPart → List (List Part) → Type 0
-HaveEnded [] parts = Unit {0}
-HaveEnded (e ∷ es) parts = (e.answers.items ≡ flat_map first_answers parts) × HaveEnded es (map later_parts parts)

@@ -1,0 +1,5 @@
+pub mod RacerLines
+pub mod Stories
+pub mod Dumps
+pub mod Endings
+pub mod Playing

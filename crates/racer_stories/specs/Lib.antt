@@ -1,0 +1,6 @@
+pub mod Lines
+pub mod Ready
+pub mod Closed
+pub mod Standing
+pub mod Done
+pub mod Passes
