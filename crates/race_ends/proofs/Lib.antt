@@ -8,3 +8,4 @@ pub mod Told
 pub mod Gathered
 pub mod Ends
 pub mod Losses
+pub mod EndedParts

@@ -2,3 +2,4 @@ pub mod HaveRun
 pub mod Told
 pub mod Raced
 pub mod Faults
+pub mod EndedParts

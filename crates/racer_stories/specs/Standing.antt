@@ -3,7 +3,6 @@ use Rattle.std.specs.Prelude.{◌≡◌, ℕ, ◌≤◌, None, List, [], ◌∷�
 use Rattle.std.specs.List.{All, AllZip}
 use Rattle.tect_ids.specs.declared.ids.Counts.{Counts}
 use Rattle.tect_ids.specs.declared.script.Line.{Line}
-use Rattle.tect_ids.specs.declared.script.ReportLine.{ReportLine}
 use Rattle.entry_words.specs.Moments.{stamp_of}
 use Rattle.world_runs.specs.declared.event.Event.{Event}
 use Rattle.program_forms.specs.Kinds.{Programs}
@@ -45,12 +44,3 @@ pub record Stands {S : Type 0} (P : Programs S) (counts : Counts) (names : List 
 
 abbrev pub AllStand : {S : Type 0} → Programs S → Counts → List (List ℕ) → List Line → List ℕ → List (Racer S) → List Story → Type 0
 AllStand P counts names done clocks = AllZip (Stands P counts names done clocks)
-
--- the answers of a client's first part, and its parts behind that
-abbrev pub first_answers : List Part → List ReportLine
-first_answers [] = []
-first_answers (p ∷ ps) = p.answers
-
-abbrev pub later_parts : List Part → List Part
-later_parts [] = []
-later_parts (p ∷ ps) = ps

@@ -4,7 +4,6 @@ pub mod Assigning
 pub mod Collecting
 pub mod Batching
 pub mod Cutting
-pub mod Dumps
 pub mod Finished
 pub mod Looping
 pub mod Coming

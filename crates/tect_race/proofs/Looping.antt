@@ -12,13 +12,13 @@ use Rattle.entry_words.specs.Moments.{stamp_of}
 use Rattle.whole_runs.specs.ClientStates.{all_idle}
 use Rattle.clients.specs.Lives.{ClientLife, idle_life, events_in, state_in}
 use Rattle.passes.specs.declared.pass.Pass.{Pass}
-use Rattle.race_runs.specs.Stories.{Story, Part}
-use Rattle.race_runs.specs.Gathered.{IsLineOf, is_dump, answers_now, part_of, rest_of}
+use Rattle.race_runs.specs.Stories.{Story}
+use Rattle.race_runs.specs.Gathered.{IsLineOf, is_dump}
 use Rattle.race_runs.proofs.Growing.{no_story, dumped}
 use Rattle.racers.specs.declared.racer.Racer.{Racer}
 use Rattle.racers.specs.Lives.{busy_in}
 use Rattle.race_ends.specs.declared.ended.EndedPart.{EndedPart}
-use Rattle.race_ends.specs.HaveRun.{clocks_of, HasStory, HaveAnswers, HaveRun}
+use Rattle.race_ends.specs.HaveRun.{clocks_of, HasStory, HaveRun}
 use Rattle.whole_runs.specs.Standing.{IsInState}
 use Rattle.tect_ids.specs.Places.{HasPlaces}
 use Rattle.program_forms.specs.Kinds.{Programs}
@@ -27,10 +27,11 @@ use Rattle.racer_stories.specs.Closed.{AllClosed, Closed}
 use Rattle.racer_stories.specs.Done.{AreNew, IsScript}
 use Rattle.racer_stories.specs.Ready.{AreRacers, IsReady, IsOfClient}
 use Rattle.racer_stories.specs.Passes.{IsPassOf}
-use Rattle.tect_race.specs.Progress.{Stood, HaveEnded}
-use Rattle.racer_stories.specs.Standing.{Stands, AllStand, last_clock, first_answers, later_parts}
+use Rattle.race_ends.specs.EndedParts.{HaveEnded}
+use Rattle.tect_race.specs.Progress.{Stood}
+use Rattle.racer_stories.specs.Standing.{Stands, AllStand, last_clock}
 use Rattle.racer_stories.proofs.Dumps.{all_grown, all_dumped, all_told, all_parts, last_is}
-use Rattle.tect_race.proofs.Dumps.{ended_on}
+use Rattle.race_ends.proofs.EndedParts.{ended_on, have_answers, clocks-append, length_clocks}
 use Rattle.list_laws.proofs.Pairs.{zip_length, zip_at}
 use Rattle.tect_race.proofs.Finished.{finished}
 use Rattle.list_laws.proofs.Shares.{also_at}
@@ -144,14 +145,6 @@ ready_all P counts ls k rs ts closed racers = record {
 lengths_of : (n m : ℕ) (ss : List Story) → n ≡ m → AllByRecursion (λ s. length s.ended ≡ n) ss → AllByRecursion (λ s. length s.ended ≡ m) ss
 lengths_of n m ss e l = subst (λ k. AllByRecursion (λ (s : Story). length s.ended ≡ k) ss) e l
 
-clocks-append : (es : List EndedPart) (e : EndedPart) → clocks_of (es ++ e ∷ []) ≡ clocks_of es ++ e.clock ∷ []
-clocks-append [] e = refl
-clocks-append (x ∷ xs) e = ap (λ l. x.clock ∷ l) (clocks-append xs e)
-
-length_clocks : (es : List EndedPart) → length (clocks_of es) ≡ length es
-length_clocks [] = refl
-length_clocks (x ∷ xs) = ap suc (length_clocks xs)
-
 module _ {S : Type 0} (P : Programs S) (counts : Counts) (names : List (List ℕ)) (ls : List Line) (clocks : List ℕ) (k : ℕ)
     (low : k < 2 ^ 63) where
   all_finished : (rs ts : List (Racer S)) (ps : List Pass) (ss : List Story) → AllStand P counts names ls clocks rs ss → AllClosed P k rs ts
@@ -166,47 +159,6 @@ module _ {S : Type 0} (P : Programs S) (counts : Counts) (names : List (List ℕ
   all_finished (x ∷ rs) ts ps [] a r high of = absurd a
   all_finished (x ∷ rs) (t ∷ ts) (p ∷ ps) (s ∷ ss) a r high of =
       (finished P counts names ls clocks k x t s a.0 r.0 high.0 low p of.0, all_finished rs ts ps ss a.1 r.1 high.1 of.1)
-
-later_is : (ps : List Part) → later_parts ps ≡ elim ps [ [] ↦ [] | p ∷ qs ↦ qs ]
-later_is [] = refl
-later_is (p ∷ ps) = refl
-
-rests_of : (ss : List Story) → map later_parts (map (λ s. s.ended) ss) ≡ map (λ s. s.ended) (map rest_of ss)
-rests_of [] = refl
-rests_of (s ∷ ss) = ap (λ e. e ∷ map later_parts (map (λ (u : Story). u.ended) ss)) (later_is s.ended) ∙ ap (λ l. (rest_of s).ended ∷ l)
-    (rests_of ss)
-
-lasts_of : (ss : List Story) → flat_map (λ s. s.last.answers) (map rest_of ss) ≡ flat_map (λ s. s.last.answers) ss
-lasts_of [] = refl
-lasts_of (s ∷ ss) = ap (λ x. (s.last).answers ++ x) (lasts_of ss)
-
-rest_length : (ps : List Part) (n : ℕ) → length ps ≡ suc n → length (later_parts ps) ≡ n
-rest_length [] n e = absurd (omega arith)
-rest_length (p ∷ ps) n e = omega arith
-
-rest_lengths : (n : ℕ) (ss : List Story) → AllByRecursion (λ s. length s.ended ≡ suc n) ss
-    → AllByRecursion (λ s. length s.ended ≡ n) (map rest_of ss)
-rest_lengths n [] l = tt
-rest_lengths n (s ∷ ss) l = (ap (λ (e : List Part). length e) (sym (later_is s.ended)) ∙ rest_length s.ended n l.0, rest_lengths n ss l.1)
-
-first_is : (ps : List Part) (last : Part) (n : ℕ) → length ps ≡ suc n
-    → first_answers ps ≡ (let p : Part = elim ps [ [] ↦ last | p ∷ qs ↦ p ] in p.answers)
-first_is [] last n e = absurd (omega arith)
-first_is (p ∷ ps) last n e = refl
-
-firsts_of : (n : ℕ) (ss : List Story) → AllByRecursion (λ s. length s.ended ≡ suc n) ss
-    → flat_map first_answers (map (λ s. s.ended) ss) ≡ answers_now ss
-firsts_of n [] l = refl
-firsts_of n (s ∷ ss) l = ap (λ x. x ++ flat_map first_answers (map (λ (u : Story). u.ended) ss)) (first_is s.ended s.last n l.0) ∙ ap
-    (λ x. (part_of s).answers ++ x) (firsts_of n ss l.1)
-
-have_answers : (es : List EndedPart) (last : List ReportLine) (ss : List Story) → AllByRecursion (λ s. length s.ended ≡ length es) ss
-    → HaveEnded es (map (λ s. s.ended) ss) → last ≡ flat_map (λ s. s.last.answers) ss → HaveAnswers es last ss
-have_answers [] last ss l h f = f
-have_answers (x ∷ xs) last ss l h f = (
-  h.0 ∙ firsts_of (length xs) ss l,
-  have_answers xs last (map rest_of ss) (rest_lengths (length xs) ss l) (subst (HaveEnded xs) (rests_of ss) h.1) (f ∙ sym (lasts_of ss)),
-)
 
 module _ {S : Type 0} (P : Programs S) (counts : Counts) (names : List (List ℕ)) (done left part : List Line) (clock : ℕ)
     (rs ts us : List (Racer S)) (es : List EndedPart)

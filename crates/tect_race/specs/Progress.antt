@@ -1,22 +1,18 @@
 -- How far a race has come in its script.
-use Rattle.std.specs.Prelude.{◌≡◌, ℕ, ◌≤◌, List, [], ◌∷◌, length, map, take, drop, count_by, slice_range}
-use Rattle.std.specs.List.{All, flat_map}
+use Rattle.std.specs.Prelude.{◌≡◌, ℕ, ◌≤◌, List, length, map, take, drop, count_by, slice_range}
+use Rattle.std.specs.List.{All}
 use Rattle.tect_ids.specs.declared.ids.Counts.{Counts}
 use Rattle.tect_ids.specs.declared.script.Line.{Line}
 use Rattle.program_forms.specs.Kinds.{Programs}
 use Rattle.race_runs.specs.Gathered.{is_dump}
-use Rattle.race_runs.specs.Stories.{Part, Story}
+use Rattle.race_runs.specs.Stories.{Story}
 use Rattle.racers.specs.declared.racer.Racer.{Racer}
+use Rattle.race_ends.specs.EndedParts.{HaveEnded}
 use Rattle.race_ends.specs.HaveRun.{clocks_of}
 use Rattle.race_ends.specs.declared.ended.EndedPart.{EndedPart}
 use Rattle.racer_stories.specs.Ready.{AreRacers, IsOfClient}
-use Rattle.racer_stories.specs.Standing.{AllStand, last_clock, first_answers, later_parts}
+use Rattle.racer_stories.specs.Standing.{AllStand, last_clock}
 use Rattle.tect_race.specs.declared.rounds.Progress.{Progress}
-
--- the answers of the parts that ended are those of the clients' parts, client by client
-abbrev pub HaveEnded : List EndedPart → List (List Part) → Type 0
-HaveEnded [] parts = Unit {0}
-HaveEnded (e ∷ es) parts = (e.answers.items ≡ flat_map first_answers parts) × HaveEnded es (map later_parts parts)
 
 -- These lines are done, and ended parts at their dumps, the last one at that clock. All clients are ready for the lines that are left.
 pub record Stood {S : Type 0} (P : Programs S) (counts : Counts) (names : List (List ℕ)) (done left : List Line) (clock : ℕ)

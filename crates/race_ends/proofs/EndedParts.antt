@@ -1,12 +1,15 @@
--- The answers of the parts that ended.
-use Rattle.std.proofs.Common.{◌≡◌, ℕ, suc, ◌+◌, List, [], ◌∷◌, ◌++◌, length, map, refl, sym, ap}
-use Rattle.std.proofs.Common.{subst, ◌∙◌, arith}
+-- The answers of the parts that ended, when one more ends and at the end.
+use Rattle.std.proofs.Common.{◌≡◌, ℕ, suc, ◌+◌, List, [], ◌∷◌, ◌++◌, length, map, refl, sym, ap, subst, ◌∙◌, arith}
 use Rattle.std.specs.List.{AllByRecursion, flat_map}
+use Rattle.tect_ids.specs.declared.script.ReportLine.{ReportLine}
 use Rattle.race_runs.specs.Stories.{Part, Story}
+use Rattle.race_runs.specs.Gathered.{answers_now, part_of, rest_of}
 use Rattle.race_runs.proofs.Growing.{dumped}
 use Rattle.race_ends.specs.declared.ended.EndedPart.{EndedPart}
-use Rattle.racer_stories.specs.Standing.{first_answers, later_parts}
-use Rattle.tect_race.specs.Progress.{HaveEnded}
+use Rattle.race_ends.specs.EndedParts.{HaveEnded, first_answers, later_parts}
+use Rattle.race_ends.specs.HaveRun.{clocks_of, HaveAnswers}
+
+-- ---- one more part
 
 rest : Story → Story
 rest s = record s { ended = later_parts s.ended }
@@ -74,4 +77,55 @@ ended_on (x ∷ xs) e ss l h f = (
   h.0 ∙ sym (firsts_stay (length xs) ss l),
   subst (HaveEnded (xs ++ e ∷ [])) (sym (laters_stay (length xs) ss l))
       (ended_on xs e (map rest ss) (lengths_later (length xs) ss l) (subst (HaveEnded xs) (rests_are ss) h.1) (f ∙ sym (lasts_stay ss))),
+)
+
+pub clocks-append : (es : List EndedPart) (e : EndedPart) → clocks_of (es ++ e ∷ []) ≡ clocks_of es ++ e.clock ∷ []
+clocks-append [] e = refl
+clocks-append (x ∷ xs) e = ap (λ l. x.clock ∷ l) (clocks-append xs e)
+
+pub length_clocks : (es : List EndedPart) → length (clocks_of es) ≡ length es
+length_clocks [] = refl
+length_clocks (x ∷ xs) = ap suc (length_clocks xs)
+
+-- ---- the last part
+
+later_is : (ps : List Part) → later_parts ps ≡ elim ps [ [] ↦ [] | p ∷ qs ↦ qs ]
+later_is [] = refl
+later_is (p ∷ ps) = refl
+
+rests_of : (ss : List Story) → map later_parts (map (λ s. s.ended) ss) ≡ map (λ s. s.ended) (map rest_of ss)
+rests_of [] = refl
+rests_of (s ∷ ss) = ap (λ e. e ∷ map later_parts (map (λ (u : Story). u.ended) ss)) (later_is s.ended) ∙ ap (λ l. (rest_of s).ended ∷ l)
+    (rests_of ss)
+
+lasts_of : (ss : List Story) → flat_map (λ s. s.last.answers) (map rest_of ss) ≡ flat_map (λ s. s.last.answers) ss
+lasts_of [] = refl
+lasts_of (s ∷ ss) = ap (λ x. (s.last).answers ++ x) (lasts_of ss)
+
+rest_length : (ps : List Part) (n : ℕ) → length ps ≡ suc n → length (later_parts ps) ≡ n
+rest_length [] n e = absurd (omega arith)
+rest_length (p ∷ ps) n e = omega arith
+
+rest_lengths : (n : ℕ) (ss : List Story) → AllByRecursion (λ s. length s.ended ≡ suc n) ss
+    → AllByRecursion (λ s. length s.ended ≡ n) (map rest_of ss)
+rest_lengths n [] l = tt
+rest_lengths n (s ∷ ss) l = (ap (λ (e : List Part). length e) (sym (later_is s.ended)) ∙ rest_length s.ended n l.0, rest_lengths n ss l.1)
+
+first_is : (ps : List Part) (last : Part) (n : ℕ) → length ps ≡ suc n
+    → first_answers ps ≡ (let p : Part = elim ps [ [] ↦ last | p ∷ qs ↦ p ] in p.answers)
+first_is [] last n e = absurd (omega arith)
+first_is (p ∷ ps) last n e = refl
+
+firsts_of : (n : ℕ) (ss : List Story) → AllByRecursion (λ s. length s.ended ≡ suc n) ss
+    → flat_map first_answers (map (λ s. s.ended) ss) ≡ answers_now ss
+firsts_of n [] l = refl
+firsts_of n (s ∷ ss) l = ap (λ x. x ++ flat_map first_answers (map (λ (u : Story). u.ended) ss)) (first_is s.ended s.last n l.0) ∙ ap
+    (λ x. (part_of s).answers ++ x) (firsts_of n ss l.1)
+
+pub have_answers : (es : List EndedPart) (last : List ReportLine) (ss : List Story) → AllByRecursion (λ s. length s.ended ≡ length es) ss
+    → HaveEnded es (map (λ s. s.ended) ss) → last ≡ flat_map (λ s. s.last.answers) ss → HaveAnswers es last ss
+have_answers [] last ss l h f = f
+have_answers (x ∷ xs) last ss l h f = (
+  h.0 ∙ firsts_of (length xs) ss l,
+  have_answers xs last (map rest_of ss) (rest_lengths (length xs) ss l) (subst (HaveEnded xs) (rests_of ss) h.1) (f ∙ sym (lasts_of ss)),
 )
