@@ -9,37 +9,38 @@ use Rattle.std.specs.Ordering.{is_le, eq_by_cmp}
 use Rattle.std.specs.Cmp.{IsTotalOrder}
 use Rattle.std.specs.FinMap.{find, put}
 use Rattle.std.specs.FinMap.Entries.{below_all}
+use Rattle.std.proofs.lemmas.List.{append_assoc}
 use Rattle.std.proofs.lemmas.List.Elements.{All-nil, All-cons, All-head, All-tail, All-append}
 use Rattle.ordered_rows.specs.Pairs.{IsRising, without}
 use Rattle.ordered_rows.specs.Pages.{joined, IsPageOf}
 
 module _ {K V : Type 0} (R : K → K → Ordering) (k : K) where
-  Below : List (K × V) → Type 0
+  abbrev Below : List (K × V) → Type 0
   Below es = All (λ e. R k e.0 ≡ Greater) es
 
-  Above : List (K × V) → Type 0
+  abbrev Above : List (K × V) → Type 0
   Above es = All (λ e. R k e.0 ≡ Less) es
 
   -- what stands before pairs that are all less stays apart from them
   find_past : (front rest : List (K × V)) → Below front → find R k (front ++ rest) ≡ find R k rest
   find_past [] rest below = refl
   find_past (e ∷ front) rest below =
-      grind (arith, All-head (λ (e : K × V). R k e.0 ≡ Greater) e front below, find_past front rest (All-tail _ e front below))
+      grind (arith, All-head (λ (e : K × V). R k e.0 ≡ Greater) e front below, find_past front rest (All-tail (λ (x : K × V). R k x.0 ≡ Greater) e front below))
 
   put_past : (front rest : List (K × V)) (v : V) → Below front → put R k v (front ++ rest) ≡ front ++ put R k v rest
   put_past [] rest v below = refl
   put_past (e ∷ front) rest v below =
-      grind (arith, All-head (λ (e : K × V). R k e.0 ≡ Greater) e front below, put_past front rest v (All-tail _ e front below))
+      grind (arith, All-head (λ (e : K × V). R k e.0 ≡ Greater) e front below, put_past front rest v (All-tail (λ (x : K × V). R k x.0 ≡ Greater) e front below))
 
   without_past : (front rest : List (K × V)) → Below front → without R k (front ++ rest) ≡ front ++ without R k rest
   without_past [] rest below = refl
   without_past (e ∷ front) rest below =
-      grind (arith, All-head (λ (e : K × V). R k e.0 ≡ Greater) e front below, without_past front rest (All-tail _ e front below))
+      grind (arith, All-head (λ (e : K × V). R k e.0 ≡ Greater) e front below, without_past front rest (All-tail (λ (x : K × V). R k x.0 ≡ Greater) e front below))
 
   find_none : (back : List (K × V)) → Above back → find R k back ≡ None
   find_none [] above = refl
   find_none (e ∷ back) above =
-      grind (arith, All-head (λ (e : K × V). R k e.0 ≡ Less) e back above, find_none back (All-tail _ e back above))
+      grind (arith, All-head (λ (e : K × V). R k e.0 ≡ Less) e back above, find_none back (All-tail (λ (x : K × V). R k x.0 ≡ Less) e back above))
 
   find_before : (es back : List (K × V)) → Above back → find R k (es ++ back) ≡ find R k es
   find_before [] back above = find_none back above
@@ -56,7 +57,7 @@ module _ {K V : Type 0} (R : K → K → Ordering) (k : K) where
   without_none : (back : List (K × V)) → Above back → without R k back ≡ back
   without_none [] above = refl
   without_none (e ∷ back) above =
-      grind (arith, All-head (λ (e : K × V). R k e.0 ≡ Less) e back above, without_none back (All-tail _ e back above))
+      grind (arith, All-head (λ (e : K × V). R k e.0 ≡ Less) e back above, without_none back (All-tail (λ (x : K × V). R k x.0 ≡ Less) e back above))
 
   without_before : (es back : List (K × V)) → Above back → without R k (es ++ back) ≡ without R k es ++ back
   without_before [] back above = without_none back above
@@ -64,19 +65,23 @@ module _ {K V : Type 0} (R : K → K → Ordering) (k : K) where
 
 -- the list in three: the pages before a place, the one there, those behind it
 pub joined_parts : {X : Type 0} (pages : List (List X)) (i : ℕ) → i < length pages
-    → joined pages ≡ joined (take i pages) ++ get_or pages i [] ++ joined (drop (suc i) pages)
+    → joined pages ≡ joined (take i pages) ++ (get_or pages i [] ++ joined (drop (suc i) pages))
 joined_parts [] i lt = absurd (omega arith)
 joined_parts (p ∷ pages) zero lt = refl
-joined_parts (p ∷ pages) (suc i) lt = grind (arith, joined_parts pages i (omega arith))
+joined_parts (p ∷ pages) (suc i) lt =
+    ap (λ rest. p ++ rest) (joined_parts pages i (omega arith))
+    ∙ sym (append_assoc p (joined (take i pages)) (get_or pages i [] ++ joined (drop (suc i) pages)))
 
 pub joined_set : {X : Type 0} (pages : List (List X)) (i : ℕ) (page : List X) → i < length pages
-    → joined (set pages i page) ≡ joined (take i pages) ++ page ++ joined (drop (suc i) pages)
+    → joined (set pages i page) ≡ joined (take i pages) ++ (page ++ joined (drop (suc i) pages))
 joined_set [] i page lt = absurd (omega arith)
 joined_set (p ∷ pages) zero page lt = refl
-joined_set (p ∷ pages) (suc i) page lt = grind (arith, joined_set pages i page (omega arith))
+joined_set (p ∷ pages) (suc i) page lt =
+    ap (λ rest. p ++ rest) (joined_set pages i page (omega arith))
+    ∙ sym (append_assoc p (joined (take i pages)) (page ++ joined (drop (suc i) pages)))
 
 module _ {K V : Type 0} (R : K → K → Ordering) (k : K) (pages : List (List (K × V))) (i : ℕ) (here : IsPageOf R k pages i) where
-  page : List (K × V)
+  abbrev page : List (K × V)
   page = get_or pages i []
 
   pub find_page : find R k (joined pages) ≡ find R k (get_or pages i [])
