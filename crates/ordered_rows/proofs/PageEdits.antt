@@ -1,4 +1,4 @@
--- pages as code keeps them, when a page is changed, split or joined
+-- pages as code keeps them, when a page is changed, split or pairs
 use Rattle.std.proofs.Common.{◌≡◌, ◌≢◌, ℕ, zero, suc, ◌+◌, ◌<◌, ◌≤◌, List, [], ◌∷◌, ◌++◌, length, get_or, set, take, drop, map, Vec, vec_capacity}
 use Rattle.std.proofs.Common.{Result, Ok, Err, OnOk, Bool, subst, inl, inr, ◌⊎◌, refl, sym, ap, ◌∙◌, arith}
 use Rattle.std.specs.Prelude.{All}
@@ -8,20 +8,21 @@ use Rattle.std.proofs.lemmas.List.{append-nil, append_assoc, length-set, length-
 use Rattle.std.proofs.lemmas.List.{get_or-set_other, length-append, set-get_or}
 use Rattle.std.proofs.lemmas.List.Edits.{length-insert, length-remove, get_or-remove_below, get_or-remove_above}
 use Rattle.std.proofs.lemmas.List.Elements.{All-cons, All-append, All-set, All-take, All-drop}
-use Rattle.ordered_rows.specs.Pages.{joined, page_at, shown, HaveRoom, IsPaged, IsPageSize, ArePages, HaveLost, AreJoinable}
-use Rattle.ordered_rows.proofs.Held.{map-insert, map-remove}
+use Rattle.ordered_rows.specs.Pages.{page_at, shown, HaveRoom, IsPaged, IsPageSize, ArePages, HaveLost, AreJoinable}
+use Rattle.ordered_rows.specs.Pairs.{pairs}
+use Rattle.ordered_rows.proofs.Shown.{map-insert, map-remove}
 
 pub always : {T E P : Type 0} (r : Result T E) → P → OnOk r P
 always (Ok x) p = p
 always (Err e) p = tt
 
-get_or_any : {X : Type 0} (xs : List X) (k : ℕ) (d e : X) → k < length xs → get_or xs k d ≡ get_or xs k e
+pub get_or_any : {X : Type 0} (xs : List X) (k : ℕ) (d e : X) → k < length xs → get_or xs k d ≡ get_or xs k e
 get_or_any [] k d e lt = absurd (omega arith)
 get_or_any (x ∷ xs) zero d e lt = refl
 get_or_any (x ∷ xs) (suc k) d e lt = get_or_any xs k d e (omega arith)
 
 -- the same number, or another
-either : (k i : ℕ) → (k ≡ i) ⊎ (k ≢ i)
+pub either : (k i : ℕ) → (k ≡ i) ⊎ (k ≢ i)
 either zero zero = inl refl
 either zero (suc i) = inr (λ e. omega (arith, e))
 either (suc k) zero = inr (λ e. omega (arith, e))
@@ -57,13 +58,13 @@ module _ {X : Type 0} where
       (All-cons P page (drop i pages) here (All-drop P i pages all))
 
   -- a page is split
-  joined_split : (pages : List (List X)) (i : ℕ) (a b : List X) → i < length pages → joined (insert (set pages i a) (suc i) b)
-      ≡ joined (set pages i (a ++ b))
+  joined_split : (pages : List (List X)) (i : ℕ) (a b : List X) → i < length pages → pairs (insert (set pages i a) (suc i) b)
+      ≡ pairs (set pages i (a ++ b))
   joined_split [] i a b lt = absurd (omega arith)
-  joined_split (p ∷ pages) zero a b lt = sym (append_assoc a b (joined pages))
+  joined_split (p ∷ pages) zero a b lt = sym (append_assoc a b (pairs pages))
   joined_split (p ∷ pages) (suc i) a b lt = ap (λ rest. p ++ rest) (joined_split pages i a b (omega arith))
 
-  -- the other pages, where one is split or two are joined
+  -- the other pages, where one is split or two are pairs
   abbrev Others : ℕ → List (List X) → ℕ → Type 0
   Others n pages i = (k : ℕ) (d : List X) → k < length pages → k ≢ i → IsSized n (get_or pages k d)
 
@@ -83,12 +84,12 @@ module _ {X : Type 0} where
       paged_of (n + 1) (insert (set pages i a) (suc i) b) count (All-insert (IsSized (n + 1)) (set pages i a) (suc i) b (size b b_least b_most)
       (sized_set (n + 1) pages i a lt (size a a_least a_most) others))
 
-  -- two neighbours are joined
+  -- two neighbours are pairs
   joined_merge : (pages : List (List X)) (i : ℕ) → suc i < length pages
-      → joined (set (remove pages (suc i)) i (page_at pages i ++ page_at pages (suc i))) ≡ joined pages
+      → pairs (set (remove pages (suc i)) i (page_at pages i ++ page_at pages (suc i))) ≡ pairs pages
   joined_merge [] i lt = absurd (omega arith)
   joined_merge (p ∷ []) i lt = absurd (omega arith)
-  joined_merge (p ∷ q ∷ pages) zero lt = append_assoc p q (joined pages)
+  joined_merge (p ∷ q ∷ pages) zero lt = append_assoc p q (pairs pages)
   joined_merge (p ∷ q ∷ pages) (suc i) lt = ap (λ rest. p ++ rest) (joined_merge (q ∷ pages) i (omega arith))
 
   -- the pages without the one behind place i, but for the one there
@@ -117,7 +118,7 @@ module _ {X A : Type 0} (pages : List (Vec X A)) where
   pub shown_insert : (i : ℕ) (w : Vec X A) → shown (insert pages i w) ≡ insert (shown pages) i w.items
   shown_insert i w = map-insert (λ (v : Vec X A). v.items) pages i w
 
-  count_shown : length (shown pages) ≡ length pages
+  pub count_shown : length (shown pages) ≡ length pages
   count_shown = length-map pages (λ (v : Vec X A). v.items)
 
   module _ (i : ℕ) (lt : i < length pages) (v : Vec X A) (is : v ≡ get_or pages i v) where
@@ -152,13 +153,13 @@ module _ {X A : Type 0} (pages : List (Vec X A)) where
 
     -- the page, changed, is split
     pub split_joined : (w u : Vec X A) (page : List X) (n : ℕ) → w.items ++ u.items ≡ page → n ≡ suc i
-        → joined (shown (insert (set pages i w) n u)) ≡ joined (set (shown pages) i page)
+        → pairs (shown (insert (set pages i w) n u)) ≡ pairs (set (shown pages) i page)
     split_joined w u page n parts next =
-        ap (λ n. joined (shown (insert (set pages i w) n u))) next
-        ∙ ap joined (map-insert (λ (x : Vec X A). x.items) (set pages i w) (suc i) u
+        ap (λ n. pairs (shown (insert (set pages i w) n u))) next
+        ∙ ap pairs (map-insert (λ (x : Vec X A). x.items) (set pages i w) (suc i) u
         ∙ ap (λ p. insert p (suc i) u.items) (shown_set i w w.items refl))
         ∙ joined_split (shown pages) i w.items u.items (rw count_shown lt)
-        ∙ ap (λ p. joined (set (shown pages) i p)) parts
+        ∙ ap (λ p. pairs (set (shown pages) i p)) parts
 
     pub split_pages : (w u : Vec X A) (n : ℕ) → n ≡ suc i → Others (length (shown pages) + 1) (shown pages) i → HaveRoom pages
         → 65 ≤ vec_capacity w → 65 ≤ vec_capacity u → 16 ≤ length w.items → length w.items ≤ 64 → 16 ≤ length u.items
@@ -204,7 +205,7 @@ module _ {X A : Type 0} (pages : List (Vec X A)) where
               room_set w (λ two. room) (omega (arith, same, rw (← is) at cap));
         }
 
--- two neighbours are joined: the right one is taken out, and lies beside the others
+-- two neighbours are pairs: the right one is taken out, and lies beside the others
 module _ {X A : Type 0} (old : List (Vec X A)) (i : ℕ) (j : AreJoinable old i) (pages : List (Vec X A)) (are : pages ≡ remove old (suc i))
     (v r : Vec X A) (is : v ≡ get_or pages i v) (was : r ≡ get_or old (suc i) r) where
   count_left : length pages + 1 ≡ length old
@@ -249,11 +250,11 @@ module _ {X A : Type 0} (old : List (Vec X A)) (i : ℕ) (j : AreJoinable old i)
       subst (λ p. Others (length old) p i) (sym shown_left) (others_left (length old) (shown old) i suc_in
       (λ k in_range. j.others k (rw (count_shown old) at in_range)))
 
-  all_joined : joined (set (shown pages) i (v.items ++ r.items)) ≡ joined (shown old)
+  all_joined : pairs (set (shown pages) i (v.items ++ r.items)) ≡ pairs (shown old)
   all_joined = rw (shown_left, ← left_is, ← right_is) (joined_merge (shown old) i suc_in)
 
-  pub merged_joined : (w : Vec X A) → w.items ≡ v.items ++ r.items → joined (shown (set pages i w)) ≡ joined (shown old)
-  merged_joined w whole = ap joined (shown_set pages i w (v.items ++ r.items) whole) ∙ all_joined
+  pub merged_joined : (w : Vec X A) → w.items ≡ v.items ++ r.items → pairs (shown (set pages i w)) ≡ pairs (shown old)
+  merged_joined w whole = ap pairs (shown_set pages i w (v.items ++ r.items) whole) ∙ all_joined
 
   pub merged_pages : (w : Vec X A) → w.items ≡ v.items ++ r.items → length v.items + length r.items ≤ 64 → vec_capacity v ≤ vec_capacity w
       → ArePages (set pages i w)
@@ -275,7 +276,7 @@ module _ {X A : Type 0} (old : List (Vec X A)) (i : ℕ) (j : AreJoinable old i)
       }
 
   pub spread_joined : (w u : Vec X A) (n : ℕ) → w.items ++ u.items ≡ v.items ++ r.items → n ≡ suc i
-      → joined (shown (insert (set pages i w) n u)) ≡ joined (shown old)
+      → pairs (shown (insert (set pages i w) n u)) ≡ pairs (shown old)
   spread_joined w u n parts next = split_joined pages i left_in v is w u (v.items ++ r.items) n parts next ∙ all_joined
 
   pub spread_pages : (w u : Vec X A) (n : ℕ) → n ≡ suc i → w.items ++ u.items ≡ v.items ++ r.items
@@ -290,7 +291,7 @@ module _ {X A : Type 0} (old : List (Vec X A)) (i : ℕ) (j : AreJoinable old i)
       (omega (arith, sum, many, w_most, u_most)) (omega (arith, sum, most, w_most, u_most))
       (omega (arith, sum, many, w_most, u_most)) (omega (arith, sum, most, w_most, u_most))
 
--- a page that has lost a pair is joined with a neighbour, or is the only one
+-- a page that has lost a pair is pairs with a neighbour, or is the only one
 module _ {X A : Type 0} (pages : List (Vec X A)) (i : ℕ) (lost : HaveLost pages i) where
   pub joins_right : suc i < length pages → AreJoinable pages i
   joins_right lt =
@@ -329,7 +330,7 @@ module _ {X A : Type 0} (pages : List (Vec X A)) (i : ℕ) (lost : HaveLost page
   }
 
 pub sole_goes : {X A : Type 0} (pages : List (Vec X A)) (i : ℕ) → i < length pages → length pages ≤ 1
-    → length (page_at (shown pages) i) ≡ 0 → (joined (shown (remove pages i)) ≡ joined (shown pages)) × ArePages (remove pages i)
+    → length (page_at (shown pages) i) ≡ 0 → (pairs (shown (remove pages i)) ≡ pairs (shown pages)) × ArePages (remove pages i)
 sole_goes [] i lt one none = absurd (omega (arith, lt))
 sole_goes (p ∷ []) (suc i) lt one none = absurd (omega (arith, lt))
 sole_goes (p ∷ q ∷ pages) i lt one none = absurd (omega (arith, one))

@@ -1,11 +1,9 @@
 -- Rows in pages, each a list of pairs.
-use Rattle.std.specs.Prelude.{◌≡◌, ◌≢◌, ◌+◌, ℕ, suc, ◌<◌, ◌≤◌, List, [], map, flat_map, length, slice_index_or, take, drop, All, Vec, vec_capacity}
+use Rattle.std.specs.Prelude.{◌≡◌, ◌≢◌, ◌+◌, ℕ, suc, ◌<◌, ◌≤◌, List, [], ◌∷◌, map, length, slice_index_or, take, drop, All, Vec, vec_capacity}
+use Rattle.ordered_rows.specs.Pairs.{pairs, IsRising}
+use Rattle.std.specs.Prelude.{Bool, true}
 use Rattle.std.specs.declared.cmp.Ordering.{Ordering}
 use Rattle.std.specs.declared.cmp.Ordering.TheVariants.{Less, Greater}
-
--- the pairs of all pages, page by page
-abbrev pub joined : {X : Type 0} → List (List X) → List X
-joined pages = flat_map (λ page. page) pages
 
 -- the page at a place
 abbrev pub page_at : {X : Type 0} → List (List X) → ℕ → List X
@@ -42,7 +40,7 @@ pub record HaveLost {X A : Type 0} (pages : List (Vec X A)) (i : ℕ) : Type 0 w
   pub least : 2 ≤ length pages → 15 ≤ length (page_at (shown pages) i)
   pub room : 2 ≤ length pages → HaveRoom pages
 
--- pages of which two neighbours are to be joined
+-- pages of which two neighbours are to be pairs
 pub record AreJoinable {X A : Type 0} (pages : List (Vec X A)) (i : ℕ) : Type 0 where
   pub in_range : suc i < length pages
   pub others : (k : ℕ) → k < length pages → k ≢ i → k ≢ suc i → IsPageSize (length pages) (length (page_at (shown pages) k))
@@ -50,9 +48,20 @@ pub record AreJoinable {X A : Type 0} (pages : List (Vec X A)) (i : ℕ) : Type 
   pub least : 31 ≤ length (page_at (shown pages) i) + length (page_at (shown pages) (suc i))
   pub room : HaveRoom pages
 
+-- the pages of rows, and how many pairs they have
+pub record AreRows {K V A : Type 0} (R : K → K → Ordering) (pages : List (Vec (K × V) A)) (count : ℕ) : Type 0 where
+  pub paged : ArePages pages
+  pub rising : IsRising R (pairs (shown pages))
+  pub counted : count ≡ length (pairs (shown pages))
+
+-- whether the first key of a page passes the test p
+unfoldable pub starts : {K V : Type 0} → (K → Bool) → List (K × V) → Bool
+starts p [] = true
+starts p (e ∷ page) = p e.0
+
 -- The pair with key k is in page i if it is in any, or would go there: all keys of the pages before it are less, and all of
 -- those behind it greater.
 pub record IsPageOf {K V : Type 0} (R : K → K → Ordering) (k : K) (pages : List (List (K × V))) (i : ℕ) : Type 0 where
   pub in_range : i < length pages
-  pub front : All (λ e. R k e.0 ≡ Greater) (joined (take i pages))
-  pub back : All (λ e. R k e.0 ≡ Less) (joined (drop (suc i) pages))
+  pub front : All (λ e. R k e.0 ≡ Greater) (pairs (take i pages))
+  pub back : All (λ e. R k e.0 ≡ Less) (pairs (drop (suc i) pages))

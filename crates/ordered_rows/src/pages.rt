@@ -1,6 +1,7 @@
 ghost use Rattle.std.specs.Prelude.{◌≡◌, ◌<◌, ◌≤◌, ◌∷◌, [], length, set, slice_index_or, vec_capacity, IfOk, IfErr, OnOk, OnErr};
 ghost use Rattle.std.specs.List.{insert, remove};
-ghost use Rattle.ordered_rows.specs.Pages.{joined, page_at, shown, HaveRoom, ArePages, HaveLost, AreJoinable};
+ghost use Rattle.ordered_rows.specs.Pages.{page_at, shown, HaveRoom, ArePages, HaveLost, AreJoinable};
+ghost use Rattle.ordered_rows.specs.Pairs.{pairs};
 
 use crate::moves::{level, move_end};
 use std::alloc::AllocError;
@@ -37,8 +38,8 @@ pub(crate) fn insert_at<T>(pages: &mut Vec<Vec<T>>, i: usize, j: usize, value: T
     requires pages { ArePages pages.old.items }
     requires page { i < length pages.old.items }
     requires place { j ≤ length (page_at (shown pages.old.items) i) }
-    ensures stored { OnOk result (joined (shown pages.new.items)
-        ≡ joined (set (shown pages.old.items) i (insert (page_at (shown pages.old.items) i) j value))) }
+    ensures stored { OnOk result (pairs (shown pages.new.items)
+        ≡ pairs (set (shown pages.old.items) i (insert (page_at (shown pages.old.items) i) j value))) }
     ensures unchanged { OnErr result (shown pages.new.items ≡ shown pages.old.items) }
     ensures handed_back { IfErr result (λ back. back ≡ value) }
     ensures pages { ArePages pages.new.items }
@@ -73,8 +74,8 @@ fn insert_split<T>(pages: &mut Vec<Vec<T>>, i: usize, j: usize, value: T) -> Res
     requires page { i < length pages.old.items }
     requires place { j ≤ length (page_at (shown pages.old.items) i) }
     requires full { length (page_at (shown pages.old.items) i) ≡ 64 }
-    ensures stored { OnOk result (joined (shown pages.new.items)
-        ≡ joined (set (shown pages.old.items) i (insert (page_at (shown pages.old.items) i) j value))) }
+    ensures stored { OnOk result (pairs (shown pages.new.items)
+        ≡ pairs (set (shown pages.old.items) i (insert (page_at (shown pages.old.items) i) j value))) }
     ensures unchanged { OnErr result (shown pages.new.items ≡ shown pages.old.items) }
     ensures handed_back { IfErr result (λ back. back ≡ value) }
     ensures pages { ArePages pages.new.items }
@@ -112,8 +113,8 @@ fn split_with<T>(pages: &mut Vec<Vec<T>>, i: usize, j: usize, value: T, mut uppe
     requires spare { length pages.old.items < vec_capacity pages.old }
     requires empty { upper.items ≡ [] }
     requires upper_room { 65 ≤ vec_capacity upper }
-    ensures stored { joined (shown pages.new.items)
-        ≡ joined (set (shown pages.old.items) i (insert (page_at (shown pages.old.items) i) j value)) }
+    ensures stored { pairs (shown pages.new.items)
+        ≡ pairs (set (shown pages.old.items) i (insert (page_at (shown pages.old.items) i) j value)) }
     ensures pages { ArePages pages.new.items }
 {
     let page = &mut pages[i];
@@ -128,8 +129,8 @@ pub(crate) fn take_at<T>(pages: &mut Vec<Vec<T>>, i: usize, j: usize) -> T
     requires page { i < length pages.old.items }
     requires place { j < length (page_at (shown pages.old.items) i) }
     ensures value { result ≡ slice_index_or (page_at (shown pages.old.items) i) j result }
-    ensures others { joined (shown pages.new.items)
-        ≡ joined (set (shown pages.old.items) i (remove (page_at (shown pages.old.items) i) j)) }
+    ensures others { pairs (shown pages.new.items)
+        ≡ pairs (set (shown pages.old.items) i (remove (page_at (shown pages.old.items) i) j)) }
     ensures pages { ArePages pages.new.items }
 {
     let value = pages[i].remove(j);
@@ -142,7 +143,7 @@ pub(crate) fn take_at<T>(pages: &mut Vec<Vec<T>>, i: usize, j: usize) -> T
 // Joins the page with its right neighbour, or the last page with its left one. A sole page goes where it is empty.
 fn mend<T>(pages: &mut Vec<Vec<T>>, i: usize)
     requires { HaveLost pages.old.items i }
-    ensures same { joined (shown pages.new.items) ≡ joined (shown pages.old.items) }
+    ensures same { pairs (shown pages.new.items) ≡ pairs (shown pages.old.items) }
     ensures pages { ArePages pages.new.items }
 {
     if i + 1 < pages.len() {
@@ -158,7 +159,7 @@ fn mend<T>(pages: &mut Vec<Vec<T>>, i: usize)
 // differ by at most one.
 fn join<T>(pages: &mut Vec<Vec<T>>, i: usize)
     requires { AreJoinable pages.old.items i }
-    ensures same { joined (shown pages.new.items) ≡ joined (shown pages.old.items) }
+    ensures same { pairs (shown pages.new.items) ≡ pairs (shown pages.old.items) }
     ensures pages { ArePages pages.new.items }
 {
     let mut right = pages.remove(i + 1);

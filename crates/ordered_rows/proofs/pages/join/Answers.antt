@@ -1,6 +1,7 @@
 use Rattle.std.proofs.Common.{◌≡◌, suc, ◌+◌, ◌++◌, length, get_or, set, sym, ap, ◌∙◌, arith}
 use Rattle.std.specs.List.{insert, remove}
-use Rattle.ordered_rows.specs.Pages.{joined, shown, ArePages}
+use Rattle.ordered_rows.specs.Pages.{shown, ArePages}
+use Rattle.ordered_rows.specs.Pairs.{pairs}
 use Rattle.ordered_rows.proofs.PageEdits.{most, left_room, right_room, merged_joined, merged_pages, spread_joined, spread_pages}
 use Rattle.ordered_rows.proofs.pages.join.Goals as goal
 
@@ -50,7 +51,7 @@ returns-else-len-le-MOST-clause-same g c =
     let right = c.remove-right in
     let last : c.insert.new.self.items ≡ insert (set right.new.self.items c.args.i c.level.new.left) (c.args.i + 1) c.level.new.right =
     rw c.unwrap-else-len-le-MOST.ensures at c.insert.ensures.items in
-    ap (λ p. joined (shown p)) last
+    ap (λ p. pairs (shown p)) last
     ∙ spread_joined c.args.pages.now.items c.args.i c.requires right.new.self.items (rw next at right.ensures.items)
     c.index_mut-page.result.now right.result c.index_mut-page.ensures.value (rw next at right.ensures.value) c.level.new.left
     c.level.new.right (c.args.i + 1) c.level.ensures.joined next

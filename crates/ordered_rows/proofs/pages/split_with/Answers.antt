@@ -2,7 +2,8 @@ use Rattle.std.proofs.Common.{◌≡◌, suc, ◌++◌, ◌+◌, length, take, d
 use Rattle.std.specs.List.{insert}
 use Rattle.std.proofs.lemmas.List.{take-append-drop, length-take, length-drop}
 use Rattle.std.proofs.lemmas.List.Edits.{length-insert}
-use Rattle.ordered_rows.specs.Pages.{joined, page_at, shown, ArePages}
+use Rattle.ordered_rows.specs.Pages.{page_at, shown, ArePages}
+use Rattle.ordered_rows.specs.Pairs.{pairs}
 use Rattle.ordered_rows.proofs.PageEdits.{shown_at, split_joined, split_pages, split_others}
 use Rattle.ordered_rows.proofs.pages.split_with.Goals as goal
 
@@ -20,7 +21,7 @@ returns-clause-stored g c =
     ∙ ap (λ p. insert p c.args.j c.args.value) (sym (shown_at pages c.args.i c.requires.page page is)) in
     let last : c.insert-2.new.self.items ≡ insert (set pages c.args.i lower) (c.args.i + 1) upper =
     rw c.unwrap-2.ensures at c.insert-2.ensures.items in
-    ap (λ p. joined (shown p)) last
+    ap (λ p. pairs (shown p)) last
     ∙ split_joined pages c.args.i c.requires.page page is lower upper _ (c.args.i + 1) parts (omega arith)
 
 pub returns-clause-pages : goal.returns-clause-pages

@@ -2,7 +2,8 @@ use Rattle.std.proofs.Common.{◌≡◌, ◌+◌, ◌<◌, ◌≤◌, length, se
 use Rattle.std.specs.List.{remove}
 use Rattle.std.proofs.lemmas.List.{get_or-set_same}
 use Rattle.std.proofs.lemmas.List.Edits.{length-remove}
-use Rattle.ordered_rows.specs.Pages.{joined, page_at, shown}
+use Rattle.ordered_rows.specs.Pages.{page_at, shown}
+use Rattle.ordered_rows.specs.Pairs.{pairs}
 use Rattle.ordered_rows.proofs.PageEdits.{shown_at, shown_set, size_at, pages_set, have_lost}
 use Rattle.ordered_rows.proofs.pages.take_at.Goals as goal
 
@@ -22,7 +23,7 @@ returns-then-len-lt-LEAST-clause-others g c =
     let pages = c.args.pages.now.items in
     let page = c.index_mut.result.now in
     let here = shown_at pages c.args.i c.requires.page page c.index_mut.ensures.value in
-    c.mend.ensures.same ∙ ap joined (shown_set pages c.args.i c.remove-value.new.self _ (c.remove-value.ensures.items
+    c.mend.ensures.same ∙ ap pairs (shown_set pages c.args.i c.remove-value.new.self _ (c.remove-value.ensures.items
     ∙ ap (λ p. remove p c.args.j) (sym here)))
 
 pub returns-else-len-lt-LEAST-clause-others : goal.returns-else-len-lt-LEAST-clause-others
@@ -30,7 +31,7 @@ returns-else-len-lt-LEAST-clause-others g c =
     let pages = c.args.pages.now.items in
     let page = c.index_mut.result.now in
     let here = shown_at pages c.args.i c.requires.page page c.index_mut.ensures.value in
-    ap joined (shown_set pages c.args.i c.remove-value.new.self _ (c.remove-value.ensures.items ∙ ap (λ p. remove p c.args.j) (sym here)))
+    ap pairs (shown_set pages c.args.i c.remove-value.new.self _ (c.remove-value.ensures.items ∙ ap (λ p. remove p c.args.j) (sym here)))
 
 pub returns-else-len-lt-LEAST-clause-pages : goal.returns-else-len-lt-LEAST-clause-pages
 returns-else-len-lt-LEAST-clause-pages g c =
