@@ -1,6 +1,6 @@
 -- what is found in a page, and what a change of the page makes of all pairs
 use Rattle.std.proofs.Common.{◌≡◌, ℕ, zero, suc, ◌+◌, ◌-◌, ◌<◌, ◌≤◌, List, [], ◌∷◌, ◌++◌, length, get_or, set, take, drop, map, Vec, Some, None}
-use Rattle.std.proofs.Common.{Option, is_some, Result, Ok, Err, IfOk, T, vec_capacity, if◌then◌else◌, true, false, Bool, refl, sym, ap, ◌∙◌, arith}
+use Rattle.std.proofs.Common.{◌⊎◌, inl, Option, is_some, Result, Ok, Err, IfOk, T, vec_capacity, if◌then◌else◌, true, refl, sym, ap, ◌∙◌, arith}
 use Rattle.std.specs.Prelude.{All}
 use Rattle.std.specs.List.{insert, remove}
 use Rattle.std.specs.declared.cmp.Ordering.{Ordering}
@@ -201,3 +201,8 @@ pub shown_from : {X A : Type 0} (pages : List (Vec X A)) (n : ℕ) → shown (ta
 shown_from {X} {A} pages n =
     ap shown (take_all (length pages - n) (drop n pages) (omega (arith, length-drop n pages)))
     ∙ sym (drop-map (λ (v : Vec X A). v.items) n pages)
+
+-- what is lent under one name is lent alike where each write leaves the same
+pub lent_alike : {G D E : Type 0} (name : G) (f h : E → D) → ((w : E) → f w ≡ h w)
+    → ◌≡◌ {A = (G × (E → D)) ⊎ D} (inl (name, f)) (inl (name, h))
+lent_alike name f h same = λ n. inl (name, λ w. same w n)

@@ -1,10 +1,10 @@
 -- pages as code keeps them, when a page is changed, split or pairs
-use Rattle.std.proofs.Common.{◌≡◌, ◌≢◌, ℕ, zero, suc, ◌+◌, ◌<◌, ◌≤◌, List, [], ◌∷◌, ◌++◌, length, get_or, set, take, drop, map, Vec, vec_capacity}
-use Rattle.std.proofs.Common.{Result, Ok, Err, OnOk, Bool, subst, inl, inr, ◌⊎◌, refl, sym, ap, ◌∙◌, arith}
+use Rattle.std.proofs.Common.{◌≡◌, ◌≢◌, ℕ, zero, suc, ◌+◌, ◌<◌, ◌≤◌, List, [], ◌∷◌, ◌++◌, length, get_or, set, take, drop, Vec, vec_capacity}
+use Rattle.std.proofs.Common.{Result, Ok, Err, OnOk, subst, inl, inr, ◌⊎◌, refl, sym, ap, ◌∙◌, arith}
 use Rattle.std.specs.Prelude.{All}
 use Rattle.std.proofs.lemmas.Bool.{cases_lt}
 use Rattle.std.specs.List.{insert, remove}
-use Rattle.std.proofs.lemmas.List.{append-nil, append_assoc, length-set, length-map, get_or-map, map-set, map-append, get_or-set_same}
+use Rattle.std.proofs.lemmas.List.{append-nil, append_assoc, length-set, length-map, get_or-map, map-set, get_or-set_same}
 use Rattle.std.proofs.lemmas.List.{get_or-set_other, length-append, set-get_or}
 use Rattle.std.proofs.lemmas.List.Edits.{length-insert, length-remove, get_or-remove_below, get_or-remove_above}
 use Rattle.std.proofs.lemmas.List.Elements.{All-cons, All-append, All-set, All-take, All-drop}

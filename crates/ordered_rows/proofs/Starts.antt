@@ -1,15 +1,14 @@
 -- pages by their first keys
 use Rattle.std.proofs.Common.{◌≡◌, ℕ, zero, suc, ◌<◌, ◌≤◌, ◌-◌, List, [], ◌∷◌, ◌++◌, length, get_or, take, drop, T, subst}
-use Rattle.std.proofs.Common.{true, false, not, inl, inr, ◌⊎◌, refl, sym, ap, ◌∙◌, arith, Bool}
+use Rattle.std.proofs.Common.{true, false, inl, inr, ◌⊎◌, refl, sym, ap, ◌∙◌, arith, Bool}
 use Rattle.std.specs.Prelude.{All, Some, None, slice_get}
-use Rattle.std.specs.List.{AllWithin, filter}
+use Rattle.std.specs.List.{AllWithin}
 use Rattle.std.specs.List.Sorted.{IsPartitionedBy, IsPartitionPoint}
 use Rattle.std.specs.declared.cmp.Ordering.{Ordering}
 use Rattle.std.specs.declared.cmp.Ordering.TheVariants.{Less, Greater}
-use Rattle.std.specs.Ordering.{is_le, eq_by_cmp}
+use Rattle.std.specs.Ordering.{is_le}
 use Rattle.std.specs.Cmp.{IsTotalOrder, alike_right}
 use Rattle.std.specs.FinMap.Entries.{below_all}
-use Rattle.std.proofs.lemmas.List.{append_assoc}
 use Rattle.std.proofs.lemmas.Bool.{cases_eq}
 use Rattle.std.proofs.lemmas.List.Elements.{All-nil, All-cons, All-head, All-tail, All-append, All-weaker}
 use Rattle.ordered_rows.specs.Pairs.{pairs, IsRising, IsDownwardClosed, pairs_past}

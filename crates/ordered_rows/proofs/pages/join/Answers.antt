@@ -1,6 +1,6 @@
-use Rattle.std.proofs.Common.{◌≡◌, suc, ◌+◌, ◌++◌, length, get_or, set, sym, ap, ◌∙◌, arith}
-use Rattle.std.specs.List.{insert, remove}
-use Rattle.ordered_rows.specs.Pages.{shown, ArePages}
+use Rattle.std.proofs.Common.{◌≡◌, suc, ◌+◌, set, ap, ◌∙◌, arith}
+use Rattle.std.specs.List.{insert}
+use Rattle.ordered_rows.specs.Pages.{shown}
 use Rattle.ordered_rows.specs.Pairs.{pairs}
 use Rattle.ordered_rows.proofs.PageEdits.{most, left_room, right_room, merged_joined, merged_pages, spread_joined, spread_pages}
 use Rattle.ordered_rows.proofs.pages.join.Goals as goal

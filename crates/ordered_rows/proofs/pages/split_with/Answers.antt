@@ -1,8 +1,8 @@
-use Rattle.std.proofs.Common.{◌≡◌, suc, ◌++◌, ◌+◌, length, take, drop, set, sym, ap, ◌∙◌, arith}
+use Rattle.std.proofs.Common.{◌≡◌, ◌++◌, ◌+◌, length, take, set, sym, ap, ◌∙◌, arith}
 use Rattle.std.specs.List.{insert}
 use Rattle.std.proofs.lemmas.List.{take-append-drop, length-take, length-drop}
 use Rattle.std.proofs.lemmas.List.Edits.{length-insert}
-use Rattle.ordered_rows.specs.Pages.{page_at, shown, ArePages}
+use Rattle.ordered_rows.specs.Pages.{page_at, shown}
 use Rattle.ordered_rows.specs.Pairs.{pairs}
 use Rattle.ordered_rows.proofs.PageEdits.{shown_at, split_joined, split_pages, split_others}
 use Rattle.ordered_rows.proofs.pages.split_with.Goals as goal

@@ -1,8 +1,7 @@
-use Rattle.std.proofs.Common.{◌≡◌, ◌+◌, ◌<◌, ◌≤◌, length, set, vec_len, sym, ap, ◌∙◌, arith}
+use Rattle.std.proofs.Common.{◌+◌, ◌≤◌, length, vec_len, sym, ap, ◌∙◌, arith}
 use Rattle.std.specs.List.{remove}
 use Rattle.std.proofs.lemmas.List.{get_or-set_same}
 use Rattle.std.proofs.lemmas.List.Edits.{length-remove}
-use Rattle.ordered_rows.specs.Pages.{page_at, shown}
 use Rattle.ordered_rows.specs.Pairs.{pairs}
 use Rattle.ordered_rows.proofs.PageEdits.{shown_at, shown_set, size_at, pages_set, have_lost}
 use Rattle.ordered_rows.proofs.pages.take_at.Goals as goal

@@ -1,12 +1,7 @@
-use Rattle.std.proofs.Common.{◌≡◌, ◌+◌, length, Some, None, refl, sym, ap, ◌∙◌, arith}
-use Rattle.std.specs.FinMap.{find, put}
-use Rattle.std.specs.FinMap.Entries.{is_sorted-put, is_sorted-where_key}
-use Rattle.std.specs.List.{insert, remove}
-use Rattle.std.proofs.lemmas.List.Edits.{length-insert, length-remove}
-use Rattle.ordered_rows.specs.Pairs.{pairs}
+use Rattle.std.proofs.Common.{◌≡◌, sym}
 use Rattle.ordered_rows.proofs.PageEdits.{count_shown}
-use Rattle.ordered_rows.specs.Pages.{page_at, shown, IsPageOf, AreRows}
-use Rattle.ordered_rows.specs.Places.{IsAt, IsGap}
+use Rattle.ordered_rows.specs.Pages.{shown, IsPageOf}
+use Rattle.ordered_rows.specs.Places.{IsAt}
 use Rattle.ordered_rows.proofs.InPages.{same_at, page_rises, v_found, v_absent}
 use Rattle.ordered_rows.proofs.paged.Rows.get.Goals as goal
 

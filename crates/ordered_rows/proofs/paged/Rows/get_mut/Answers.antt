@@ -1,11 +1,10 @@
-use Rattle.std.proofs.Common.{rules, ◌≡◌, inr, refl, sym, ap, ◌∙◌, slice_set}
+use Rattle.std.proofs.Common.{◌≡◌, inr, refl, sym, ap, slice_set}
 use Rattle.std.specs.Vec.{with_item}
-use Rattle.std.specs.FinMap.{find}
-use Rattle.ordered_rows.specs.Pairs.{pairs, set_value}
+use Rattle.ordered_rows.specs.Pairs.{set_value}
 use Rattle.ordered_rows.specs.Pages.{shown, IsPageOf}
 use Rattle.ordered_rows.specs.Places.{IsAt}
 use Rattle.ordered_rows.proofs.PageEdits.{count_shown}
-use Rattle.ordered_rows.proofs.InPages.{same_at, page_rises, v_found, v_absent, v_set, v_rows}
+use Rattle.ordered_rows.proofs.InPages.{lent_alike, same_at, page_rises, v_found, v_absent, v_set, v_rows}
 use Rattle.ordered_rows.proofs.paged.Rows.get_mut.Goals as goal
 
 pub place_in-requires : goal.place_in-requires
@@ -38,7 +37,7 @@ returns-in-Ok g c =
     ≡ set_value R k w c.args.self.now =
     λ w. rw c.self.view_is at (v_set R total k pages i of c.index_mut.result.now c.index_mut.ensures.value rising c.in-Ok.j e at
     c.index_mut-in-Ok.ensures.value w (with_item c.index_mut.result.now c.in-Ok.j (e.0, w)) refl) in (
-      search (rules, written),
+      lent_alike _ _ _ written,
       record {
         writes_back = tt;
         value = sym (rw c.self.view_is at found);

@@ -1,5 +1,3 @@
-use Rattle.std.proofs.Common.{length}
-use Rattle.std.specs.Prelude.{All}
 use Rattle.ordered_rows.proofs.InPages.{none_empty}
 use Rattle.ordered_rows.proofs.paged.Rows.iter.Goals as goal
 

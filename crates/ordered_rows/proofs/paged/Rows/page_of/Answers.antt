@@ -1,7 +1,6 @@
 use Rattle.std.proofs.Common.{◌≡◌, true, false, rules, length, ◌≤◌, Vec, Global, arith}
 use Rattle.std.specs.Ordering.{is_le}
 use Rattle.std.proofs.lemmas.Fn.{always_returns_same}
-use Rattle.std.proofs.lemmas.List.{length-map}
 use Rattle.ordered_rows.specs.Pairs.{pairs, IsRising}
 use Rattle.ordered_rows.specs.Pages.{starts, shown, IsPaged}
 use Rattle.ordered_rows.proofs.Shown.{partitioned_map, parted_map}

@@ -1,11 +1,11 @@
-use Rattle.std.proofs.Common.{◌≡◌, ◌+◌, length, Some, None, refl, sym, ap, ◌∙◌, arith}
-use Rattle.std.specs.FinMap.{find, put}
-use Rattle.std.specs.FinMap.Entries.{is_sorted-put, is_sorted-where_key}
-use Rattle.std.specs.List.{insert, remove}
-use Rattle.std.proofs.lemmas.List.Edits.{length-insert, length-remove}
+use Rattle.std.proofs.Common.{◌≡◌, ◌+◌, length, sym, ap, ◌∙◌, arith}
+use Rattle.std.specs.FinMap.{put}
+use Rattle.std.specs.FinMap.Entries.{is_sorted-put}
+use Rattle.std.specs.List.{insert}
+use Rattle.std.proofs.lemmas.List.Edits.{length-insert}
 use Rattle.ordered_rows.specs.Pairs.{pairs}
-use Rattle.ordered_rows.specs.Pages.{page_at, shown, IsPageOf, AreRows}
-use Rattle.ordered_rows.specs.Places.{IsAt, IsGap}
+use Rattle.ordered_rows.specs.Pages.{page_at, shown, IsPageOf}
+use Rattle.ordered_rows.specs.Places.{IsGap}
 use Rattle.ordered_rows.proofs.InPages.{put_gap_there, length_set}
 use Rattle.ordered_rows.proofs.paged.Rows.put_new.Goals as goal
 

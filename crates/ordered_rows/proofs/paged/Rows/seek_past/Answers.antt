@@ -1,14 +1,11 @@
-use Rattle.std.proofs.Common.{◌≡◌, ◌<◌, ◌≤◌, ◌-◌, get_or, refl, ◌++◌, suc, rules, length, true, false, Vec, Global, take, drop, sym, ap, ◌∙◌, arith}
+use Rattle.std.proofs.Common.{◌≡◌, ◌<◌, ◌≤◌, ◌-◌, get_or, ◌++◌, suc, rules, length, true, false, Vec, Global, take, drop, sym, ap, ◌∙◌, arith}
 use Rattle.std.specs.Prelude.{All}
-use Rattle.std.specs.List.Sorted.{IsPartitionPoint}
 use Rattle.std.proofs.lemmas.Fn.{always_returns_same}
-use Rattle.std.proofs.lemmas.List.{take_all, drop-map}
 use Rattle.std.proofs.lemmas.List.Elements.{All-take, All-drop}
 use Rattle.ordered_rows.specs.Pairs.{pairs, pairs_past, IsRising}
 use Rattle.ordered_rows.specs.Pages.{starts, shown, page_at, IsPaged}
 use Rattle.ordered_rows.proofs.Shown.{partitioned_map, parted_map}
 use Rattle.ordered_rows.proofs.PageEdits.{count_shown, shown_at}
-use Rattle.ordered_rows.proofs.Ranges.{passes_front}
 use Rattle.ordered_rows.proofs.Searched.{rising_page}
 use Rattle.ordered_rows.proofs.InPages.{none_empty, shown_from}
 use Rattle.ordered_rows.proofs.Starts.{starts_parted, past_first, past_pages}

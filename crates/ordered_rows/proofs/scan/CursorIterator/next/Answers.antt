@@ -1,4 +1,4 @@
-use Rattle.std.proofs.Common.{Vec, Global, ◌≤◌, length, ◌∷◌, arith}
+use Rattle.std.proofs.Common.{◌≤◌, length, ◌∷◌, arith}
 use Rattle.std.specs.Prelude.{All}
 use Rattle.std.proofs.lemmas.List.Elements.{All-head, All-rest}
 use Rattle.ordered_rows.proofs.scan.CursorIterator.next.Goals as goal
