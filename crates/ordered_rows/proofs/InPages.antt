@@ -66,14 +66,20 @@ module _ {K V : Type 0} (R : K → K → Ordering) (o : IsTotalOrder R) (k : K) 
   same_below : (es : List (K × V)) → All (λ e. R k e.0 ≡ Greater) es → valued es ≡ es
   same_below [] below = refl
   same_below (e ∷ es) below =
-      grind (arith, All-head (λ (x : K × V). R k x.0 ≡ Greater) e es below,
-      same_below es (All-tail (λ (x : K × V). R k x.0 ≡ Greater) e es below))
+      grind (
+        arith,
+        All-head (λ (x : K × V). R k x.0 ≡ Greater) e es below,
+        same_below es (All-tail (λ (x : K × V). R k x.0 ≡ Greater) e es below),
+      )
 
   same_above : (es : List (K × V)) → All (λ e. R k e.0 ≡ Less) es → valued es ≡ es
   same_above [] above = refl
   same_above (e ∷ es) above =
-      grind (arith, All-head (λ (x : K × V). R k x.0 ≡ Less) e es above,
-      same_above es (All-tail (λ (x : K × V). R k x.0 ≡ Less) e es above))
+      grind (
+        arith,
+        All-head (λ (x : K × V). R k x.0 ≡ Less) e es above,
+        same_above es (All-tail (λ (x : K × V). R k x.0 ≡ Less) e es above),
+      )
 
   pages_above : (pages : List (List (K × V))) → All (λ e. R k e.0 ≡ Less) (pairs pages) → map valued pages ≡ pages
   pages_above [] above = refl

@@ -99,8 +99,10 @@ module _ {X : Type 0} where
     where
       inside : k < length (remove pages (suc i))
       inside = in_range
+
       count : length (remove pages (suc i)) + 1 ≡ length pages
       count = length-remove pages (suc i) lt
+
       by_side : (k < suc i) ⊎ (suc i ≤ k) → IsSized n (get_or (remove pages (suc i)) k d)
       by_side (inl less) =
           rw (get_or-remove_below pages (suc i) d k less lt, get_or_any pages k d [] (omega (arith, less, lt)))

@@ -122,6 +122,7 @@ module _ {K V : Type 0} (R : K → K → Ordering) where
           drop_rises zero q r = r
           drop_rises (suc n) [] r = r
           drop_rises (suc n) (page ∷ q) r = drop_rises n q (rising_back R page (pairs q) r)
+
           fails_from : (n : ℕ) (q : List (List (K × V))) → n ≤ length q → AllWithin (λ page. starts p page ≡ false) q n (length q)
               → All (λ page. starts p page ≡ false) (drop n q)
           fails_from zero q le within = λ k d lt. within k d (omega arith) lt
@@ -150,11 +151,12 @@ module _ {K : Type 0} (R : K → K → Ordering) (o : IsTotalOrder R) (k : K) wh
       (λ page. starts (λ x. is_le (R x k)) page ≡ false) pages n → i ≡ n - 1 → IsPageOf R k pages i
   page_of_point {V} pages paged rising n i le some point is = by_point n refl
     where
-
       fails : All (λ (e : K × V). is_le (R e.0 k) ≡ false) (pairs (drop n pages))
       fails = behind_fails R (λ x. is_le (R x k)) (up_to_closed R o k) pages paged rising n le point
+
       greater : (es : List (K × V)) → All (λ (e : K × V). is_le (R e.0 k) ≡ false) es → All (λ e. R k e.0 ≡ Less) es
       greater es all = All-weaker (λ (e : K × V). is_le (R e.0 k) ≡ false) (λ e. R k e.0 ≡ Less) (λ e f. above_of e.0 f) es all
+
       by_point : (m : ℕ) → n ≡ m → IsPageOf R k pages i
       by_point zero e =
           let first : i ≡ 0 = omega (arith, is, e) in

@@ -6,10 +6,11 @@ ghost use Rattle.ordered_rows.specs.Pairs.{pairs};
 use crate::moves::{level, move_end};
 use std::alloc::AllocError;
 
-
 // The most values of a page, the least where there are two pages or more, and the room that each has then.
 const MOST: usize = 64;
+
 const LEAST: usize = 16;
+
 const ROOM: usize = MOST + 1;
 
 // Makes the first page, of one value. Where memory is wanting the value comes back and nothing changes.
