@@ -1,10 +1,10 @@
--- pages as code keeps them, when a page is changed, split or pairs
+-- pages as code keeps them, when a page is changed, split or joined
 use Rattle.std.proofs.Common.{◌≡◌, ◌≢◌, ℕ, zero, suc, ◌+◌, ◌<◌, ◌≤◌, List, [], ◌∷◌, ◌++◌, length, get_or, set, take, drop, Vec, vec_capacity}
 use Rattle.std.proofs.Common.{Result, Ok, Err, OnOk, subst, inl, inr, ◌⊎◌, refl, sym, ap, ◌∙◌, arith}
 use Rattle.std.specs.Prelude.{All}
 use Rattle.std.proofs.lemmas.Bool.{cases_lt}
 use Rattle.std.specs.List.{insert, remove}
-use Rattle.std.proofs.lemmas.List.{append-nil, append_assoc, length-set, length-map, get_or-map, map-set, get_or-set_same}
+use Rattle.std.proofs.lemmas.List.{append_assoc, length-set, length-map, get_or-map, map-set, get_or-set_same}
 use Rattle.std.proofs.lemmas.List.{get_or-set_other, length-append, set-get_or}
 use Rattle.std.proofs.lemmas.List.Edits.{length-insert, length-remove, get_or-remove_below, get_or-remove_above}
 use Rattle.std.proofs.lemmas.List.Elements.{All-cons, All-append, All-set, All-take, All-drop}
@@ -64,7 +64,7 @@ module _ {X : Type 0} where
   joined_split (p ∷ pages) zero a b lt = sym (append_assoc a b (pairs pages))
   joined_split (p ∷ pages) (suc i) a b lt = ap (λ rest. p ++ rest) (joined_split pages i a b (omega arith))
 
-  -- the other pages, where one is split or two are pairs
+  -- the other pages, where one is split or two are joined
   abbrev Others : ℕ → List (List X) → ℕ → Type 0
   Others n pages i = (k : ℕ) (d : List X) → k < length pages → k ≢ i → IsSized n (get_or pages k d)
 
@@ -84,7 +84,7 @@ module _ {X : Type 0} where
       paged_of (n + 1) (insert (set pages i a) (suc i) b) count (All-insert (IsSized (n + 1)) (set pages i a) (suc i) b (size b b_least b_most)
       (sized_set (n + 1) pages i a lt (size a a_least a_most) others))
 
-  -- two neighbours are pairs
+  -- two neighbours are joined
   joined_merge : (pages : List (List X)) (i : ℕ) → suc i < length pages
       → pairs (set (remove pages (suc i)) i (page_at pages i ++ page_at pages (suc i))) ≡ pairs pages
   joined_merge [] i lt = absurd (omega arith)
@@ -207,7 +207,7 @@ module _ {X A : Type 0} (pages : List (Vec X A)) where
               room_set w (λ two. room) (omega (arith, same, rw (← is) at cap));
         }
 
--- two neighbours are pairs: the right one is taken out, and lies beside the others
+-- two neighbours are joined: the right one is taken out, and lies beside the others
 module _ {X A : Type 0} (old : List (Vec X A)) (i : ℕ) (j : AreJoinable old i) (pages : List (Vec X A)) (are : pages ≡ remove old (suc i))
     (v r : Vec X A) (is : v ≡ get_or pages i v) (was : r ≡ get_or old (suc i) r) where
   count_left : length pages + 1 ≡ length old
@@ -292,53 +292,3 @@ module _ {X A : Type 0} (old : List (Vec X A)) (i : ℕ) (j : AreJoinable old i)
       (omega (arith, w_keeps, left_room)) (omega (arith, u_keeps, right_room))
       (omega (arith, sum, many, w_most, u_most)) (omega (arith, sum, most, w_most, u_most))
       (omega (arith, sum, many, w_most, u_most)) (omega (arith, sum, most, w_most, u_most))
-
--- a page that has lost a pair is pairs with a neighbour, or is the only one
-module _ {X A : Type 0} (pages : List (Vec X A)) (i : ℕ) (lost : HaveLost pages i) where
-  pub joins_right : suc i < length pages → AreJoinable pages i
-  joins_right lt =
-      let other = lost.others (suc i) lt (λ e. omega (arith, e)) in
-      let two : 2 ≤ length pages = omega (arith, lt) in
-      record {
-        in_range = lt;
-        others = λ k in_range o p. lost.others k in_range o;
-        most = omega (arith, lost.most, other.most);
-        least = omega (arith, lost.least two, other.least two);
-        room = lost.room two;
-      }
-
-  pub joins_left : (l : ℕ) → suc l ≡ i → AreJoinable pages l
-  joins_left l next =
-      let lt : l < length pages = omega (arith, next, lost.in_range) in
-      let other = lost.others l lt (λ e. omega (arith, e, next)) in
-      let two : 2 ≤ length pages = omega (arith, next, lost.in_range) in
-      record {
-        in_range = omega (arith, next, lost.in_range);
-        others = λ k in_range o p. lost.others k in_range (λ e. p (e ∙ sym next));
-        most = rw next (omega (arith, lost.most, other.most));
-        least = rw next (omega (arith, lost.least two, other.least two));
-        room = lost.room two;
-      }
-
-  pub sole_stays : length pages ≤ 1 → 1 ≤ length (page_at (shown pages) i) → ArePages pages
-  sole_stays one some = record {
-    paged =
-        λ k d in_range. let inside : k < length pages = rw (count_shown pages) at in_range in
-        let same : k ≡ i = omega (arith, one, inside, lost.in_range) in
-        rw (same, get_or_any (shown pages) i d [] (rw (count_shown pages) lost.in_range), count_shown pages)
-        record { some = some; most = omega (arith, lost.most); least = λ two. absurd (omega (arith, one, two)) };
-    room =
-        λ two. absurd (omega (arith, one, two));
-  }
-
-pub sole_goes : {X A : Type 0} (pages : List (Vec X A)) (i : ℕ) → i < length pages → length pages ≤ 1
-    → length (page_at (shown pages) i) ≡ 0 → (pairs (shown (remove pages i)) ≡ pairs (shown pages)) × ArePages (remove pages i)
-sole_goes [] i lt one none = absurd (omega (arith, lt))
-sole_goes (p ∷ []) (suc i) lt one none = absurd (omega (arith, lt))
-sole_goes (p ∷ q ∷ pages) i lt one none = absurd (omega (arith, one))
-sole_goes {X = X} (p ∷ []) zero lt one none =
-    (sym (append-nil p.items ∙ empty_of p.items none), record { paged = λ k d lt. absurd (omega (arith, lt)); room = λ two. absurd (omega (arith, two)) })
-  where
-    empty_of : (xs : List X) → length xs ≡ 0 → xs ≡ []
-    empty_of [] e = refl
-    empty_of (x ∷ xs) e = absurd (omega (arith, e))

@@ -40,7 +40,7 @@ pub record HaveLost {X A : Type 0} (pages : List (Vec X A)) (i : ℕ) : Type 0 w
   pub least : 2 ≤ length pages → 15 ≤ length (page_at (shown pages) i)
   pub room : 2 ≤ length pages → HaveRoom pages
 
--- pages of which two neighbours are to be pairs
+-- pages of which two neighbours are to be joined
 pub record AreJoinable {X A : Type 0} (pages : List (Vec X A)) (i : ℕ) : Type 0 where
   pub in_range : suc i < length pages
   pub others : (k : ℕ) → k < length pages → k ≢ i → k ≢ suc i → IsPageSize (length pages) (length (page_at (shown pages) k))

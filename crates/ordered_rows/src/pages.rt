@@ -124,7 +124,7 @@ fn split_with<T>(pages: &mut Vec<Vec<T>>, i: usize, j: usize, value: T, mut uppe
     pages.insert(i + 1, upper).unwrap();
 }
 
-// Takes the value at that place of that page away. Takes no memory.
+// Takes the value at that place of that page away. It takes no memory.
 pub(crate) fn take_at<T>(pages: &mut Vec<Vec<T>>, i: usize, j: usize) -> T
     requires pages { ArePages pages.old.items }
     requires page { i < length pages.old.items }
