@@ -1,10 +1,12 @@
-ghost use Rattle.std.specs.Prelude.{◌≡◌, ◌==◌, ◌<◌, Bool, [], length, Some, None, IsSome, IfSome, IsOk, IfOk, IfErr, OnOk, OnErr, option_map, slice_get};
+ghost use Rattle.std.specs.Prelude.{◌≡◌, ◌==◌, ◌<◌, Bool, [], length, Some, None};
+ghost use Rattle.std.specs.Prelude.{IsSome, IfSome, IsOk, IfOk, IfErr, OnOk, OnErr, option_map, slice_get};
 ghost use Rattle.std.specs.Option.{option_copied, option_copied_mut};
 ghost use Rattle.std.specs.Ordering.{is_le};
 ghost use Rattle.std.specs.FinMap.{find, put};
 ghost use Rattle.std.specs.Fn.{FnReturnsAt};
 ghost use Rattle.std.specs.Borrow.{LendsIf, sem};
-ghost use Rattle.ordered_rows.specs.Pairs.{pairs, left, pair_of, set_value, IsRising, without, pairs_after, pairs_past, ComputesTest, IsDownwardClosed};
+ghost use Rattle.ordered_rows.specs.Pairs.{pairs, left, pair_of, set_value, IsRising, without, pairs_after, pairs_past};
+ghost use Rattle.ordered_rows.specs.Pairs.{ComputesTest, IsDownwardClosed};
 ghost use Rattle.ordered_rows.specs.Pages.{page_at, starts, IsPaged, IsPageOf};
 ghost use Rattle.ordered_rows.specs.Places.{IsAt, IsGap};
 ghost use Rattle.ordered_rows.specs.contracts.paged.Rows.{the_row};
