@@ -5,6 +5,8 @@ use Rattle.tect_ids.specs.declared.ids.Layer.{Layer}
 use Rattle.tect_ids.specs.declared.ids.Layer.TheVariants as layers
 use Rattle.store_rules.specs.declared.any.AnyReq.{AnyReq}
 use Rattle.store_rules.specs.declared.any.AnyReq.TheVariants as any
+use Rattle.store_rules.specs.Blocks.{Blocks}
+use Rattle.store_rules.specs.Disks.{Chunks}
 use Rattle.store_rules.specs.Files.{Files}
 use Rattle.store_rules.specs.Names.{Names, no_names, root_names}
 use Rattle.store_rules.specs.Store.{Store}
@@ -13,15 +15,23 @@ use Rattle.store_rules.specs.Store.{Store}
 abbrev pub request_layer : AnyReq → Layer
 request_layer (any.Name q) = layers.Names
 request_layer (any.File q) = layers.Files
+request_layer (any.Block q) = layers.Blocks
+request_layer (any.Disk q) = layers.Disks
 
 abbrev pub no_store : Store
-no_store = record { names = no_names; files = empty }
+no_store = record { names = no_names; files = empty; blocks = empty; chunks = empty }
 
 abbrev pub names_alone : Names → Store
-names_alone s = record { names = s; files = empty }
+names_alone s = record no_store { names = s }
 
 abbrev pub files_alone : Files → Store
-files_alone s = record { names = no_names; files = s }
+files_alone s = record no_store { files = s }
+
+abbrev pub blocks_alone : Blocks → Store
+blocks_alone s = record no_store { blocks = s }
+
+abbrev pub chunks_alone : Chunks → Store
+chunks_alone s = record no_store { chunks = s }
 
 -- what a shard of a layer opens with, with the root directory or without it: only a name shard can have it
 abbrev pub opening_of : Layer → Bool → Store

@@ -1,6 +1,9 @@
 pub mod Outcomes
 pub mod Names
 pub mod Files
+pub mod Blocks
+pub mod Disks
+pub mod Codes
 pub mod Holds
 pub mod Store
 pub mod Alone

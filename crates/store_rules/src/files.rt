@@ -1,14 +1,18 @@
 ghost use Rattle.std.specs.Prelude.{◌≡◌};
 ghost use Rattle.store_rules.specs.Places.{file_of};
 
+use crate::file_rows::FileRows;
 use key_maps::HoldList;
-use tect_ids::{FileId, Hold, Key, Refusal, Token};
+use tect_ids::{BlkId, FileId, Hold, Items, Key, Refusal, RowPart, Token};
 
-/// A file as its shard keeps it.
+/// A file as its shard keeps it: the token that an append has to show, whether it is closed to changes, the holds of the entries
+/// that name it, and its blocks in order.
 #[derive(Drop)]
 pub struct File {
     pub token: Option<Token>,
+    pub sealed: bool,
     pub holds: HoldList,
+    pub rows: FileRows,
 }
 
 /// A request to a shard of the File layer.
@@ -29,6 +33,23 @@ pub enum FileReq {
         file: FileId,
         hold: Hold,
     },
+    /// Writes a new token into the file, so that no earlier one serves any more.
+    TakeToken {
+        file: FileId,
+        token: Token,
+    },
+    /// Adds a block at the end, for one who has the file's token.
+    Attach {
+        file: FileId,
+        token: Token,
+        blk: BlkId,
+        len: u32,
+        hold: Hold,
+    },
+    /// Asks for the file's blocks.
+    ListBlocks {
+        file: FileId,
+    },
 }
 
 impl FileReq {
@@ -39,17 +60,25 @@ impl FileReq {
         match self {
             FileReq::MakeFile { file, .. }
             | FileReq::Grant { file, .. }
-            | FileReq::Release { file, .. } => *file,
+            | FileReq::Release { file, .. }
+            | FileReq::TakeToken { file, .. }
+            | FileReq::Attach { file, .. }
+            | FileReq::ListBlocks { file } => *file,
         }
     }
 }
 
 /// What a shard of the File layer replies.
-#[derive(Clone, Copy, Debug, PartialEq, Eq)]
+#[derive(Clone, Debug, PartialEq, Eq, Drop)]
 pub enum FileReply {
     Made,
     Granted,
     Released { was: bool },
+    Opened,
+    /// The block is the one with that index in the file.
+    Attached { index: u32 },
+    /// The file's blocks in order, with their lengths.
+    Blocks { sealed: bool, rows: Items<RowPart> },
     /// A file with that identifier stands. No command answers it.
     HasId,
     Refused { why: Refusal },

@@ -1,12 +1,16 @@
 ghost use Rattle.std.specs.Prelude.{◌≡◌, ◌<◌, ◌^◌};
 ghost use Rattle.std.specs.List.{sum_by};
+ghost use Rattle.std.specs.Option.{option_copied};
 ghost use Rattle.store_rules.specs.ReplyBytes.{reply_bytes, item_bytes};
 ghost use Rattle.store_rules.specs.Views.{as_found, as_bound, as_unbound, as_swapped, is_made, is_granted};
+ghost use Rattle.store_rules.specs.Views.{is_opened, as_attached, as_block_list, is_block_sealed, is_stored, as_bytes};
 
 use crate::any::AnyReply;
+use crate::blocks::BlockReply;
+use crate::disks::DiskReply;
 use crate::files::FileReply;
 use crate::names::{NameReply, Replaced};
-use tect_ids::{Hold, Listed, Node};
+use tect_ids::{Bytes, Hold, Items, Listed, Node, RowPart};
 
 impl AnyReply {
     /// The node that a look found.
@@ -49,13 +53,15 @@ impl AnyReply {
         }
     }
 
-    /// Whether a directory or a file was made.
+    /// Whether a directory, a file or a block was made.
     pub fn is_made(&self) -> bool
         ensures { result ≡ is_made self.now }
     {
         matches!(
             self,
-            AnyReply::Name(NameReply::Made) | AnyReply::File(FileReply::Made)
+            AnyReply::Name(NameReply::Made)
+                | AnyReply::File(FileReply::Made)
+                | AnyReply::Block(BlockReply::Made)
         )
     }
 
@@ -67,15 +73,71 @@ impl AnyReply {
             self,
             AnyReply::Name(NameReply::Made | NameReply::Granted)
                 | AnyReply::File(FileReply::Made | FileReply::Granted)
+                | AnyReply::Block(BlockReply::Made | BlockReply::Granted)
         )
     }
-    /// The bytes of names in the reply, and 32 for each item of a list. It takes no memory.
+
+    /// Whether a token was written into a file.
+    pub fn is_opened(&self) -> bool
+        ensures { result ≡ is_opened self.now }
+    {
+        matches!(self, AnyReply::File(FileReply::Opened))
+    }
+
+    /// The index at which a block was added to a file.
+    pub fn as_attached(&self) -> Option<u32>
+        ensures { result ≡ as_attached self.now }
+    {
+        match self {
+            AnyReply::File(FileReply::Attached { index }) => Some(*index),
+            _ => None,
+        }
+    }
+
+    /// The blocks of a file.
+    pub fn as_block_list(&self) -> Option<&Items<RowPart>>
+        ensures { option_copied result ≡ as_block_list self.now }
+    {
+        match self {
+            AnyReply::File(FileReply::Blocks { rows, .. }) => Some(rows),
+            _ => None,
+        }
+    }
+
+    /// Whether a block was sealed.
+    pub fn is_block_sealed(&self) -> bool
+        ensures { result ≡ is_block_sealed self.now }
+    {
+        matches!(self, AnyReply::Block(BlockReply::SealedNow))
+    }
+
+    /// Whether a disk keeps a chunk now.
+    pub fn is_stored(&self) -> bool
+        ensures { result ≡ is_stored self.now }
+    {
+        matches!(self, AnyReply::Disk(DiskReply::Stored))
+    }
+
+    /// The bytes of a chunk.
+    pub fn as_bytes(&self) -> Option<&Bytes>
+        ensures { option_copied result ≡ as_bytes self.now }
+    {
+        match self {
+            AnyReply::Disk(DiskReply::Got { bytes }) => Some(bytes),
+            _ => None,
+        }
+    }
+
+    /// The bytes of names and of contents in the reply, and 32 for each item of a list. It takes no memory.
     pub fn bytes(&self) -> u128
         ensures bytes { result ≡ reply_bytes self.now }
         ensures few { result < 2 ^ 100 }
     {
         match self {
             AnyReply::Name(NameReply::Listing { items, .. }) => list_bytes(items.as_slice()),
+            AnyReply::File(FileReply::Blocks { rows, .. }) => 32 * rows.len() as u128,
+            AnyReply::Block(BlockReply::BlockIs { rows, .. }) => 32 * rows.len() as u128,
+            AnyReply::Disk(DiskReply::Got { bytes }) => bytes.len() as u128,
             _ => 0,
         }
     }
