@@ -8,7 +8,7 @@ use Rattle.tect_ids.specs.Keys.{op_eq}
 use Rattle.tect_ids.proofs.KeyTests.{keys}
 use Rattle.store_rules.specs.declared.any.AnyReq.{AnyReq}
 use Rattle.store_rules.specs.declared.any.AnyReply.{AnyReply}
-use Rattle.store_rules.specs.Holds.{Grant, HoldUse, Grants, Binds, GivesUp, NoHold, hold_use, granted_by, grant_of, spent_by, spends}
+use Rattle.store_rules.specs.Holds.{Grant, HoldUse, Grants, GrantsRow, Binds, GivesUp, NoHold, hold_use, granted_by, grant_of, spent_by, spends}
 use Rattle.store_rules.specs.Store.{store_reply}
 use Rattle.store_rules.specs.Views.{is_granted}
 use Rattle.program_forms.specs.declared.heard.Heard.{Heard}
@@ -42,6 +42,7 @@ use Rattle.run_laws.proofs.RunsKeep.{run_world_sound}
 left_by : (u : HoldUse) (w : World) (h : Hold) (g : Given) → w.ghost.given h ≡ Some g
     → ((a : Grant) → granted_by u ≡ Some a → w.ghost.given a.hold ≡ None) → spent_by h u ≡ false → is_moved u h ≡ false
 left_by (Grants a) w h g is new un = grind (arith, keys, new a refl)
+left_by (GrantsRow a) w h g is new un = refl
 left_by (Binds o) w h g is new un = grind (arith, keys)
 left_by (GivesUp o) w h g is new un = refl
 left_by NoHold w h g is new un = refl
@@ -57,6 +58,7 @@ both_fail false b is e = absurd (let k : false ≡ true = is in cc)
 -- what is asked for is touched
 moved_by : (u : HoldUse) (g : Grant) → granted_by u ≡ Some g → is_moved u g.hold ≡ true
 moved_by (Grants a) g e = let same : a ≡ g = cc in rw (← same) (grind (arith, keys))
+moved_by (GrantsRow a) g e = absurd (let k : None ≡ Some g = e in cc)
 moved_by (Binds o) g e = absurd (let k : None ≡ Some g = e in cc)
 moved_by (GivesUp o) g e = absurd (let k : None ≡ Some g = e in cc)
 moved_by NoHold g e = absurd (let k : None ≡ Some g = e in cc)

@@ -43,7 +43,7 @@ dir_later op m i le = grind (arith, keys)
 module _ (w v : World) (op : OpId) (m : Memory) (q : AnyReq) (meets : Meets w op m q) (kept : Kept w v q) where
   serial_by : (b : Bool) → makes q ≡ b → SerialGoesOn op m q (store_reply w.store q)
   serial_by false e =
-      let same : (always m q (store_reply w.store q)).serial ≡ m.serial = rw ((role_laws q).untold w.store e) refl in
+      let same : (always m q (store_reply w.store q)).serial ≡ m.serial = rw ((role_laws q).untold w.store e ((role_laws q).fits w meets.needs)) refl in
       record {
         grows = rw same (omega arith);
         few = λ le. rw same le;

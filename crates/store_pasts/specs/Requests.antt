@@ -6,7 +6,7 @@ use Rattle.tect_ids.specs.declared.ids.OpId.{OpId}
 use Rattle.tect_ids.specs.Keys.{op_eq, hold_eq, node_eq}
 use Rattle.store_rules.specs.declared.any.AnyReq.{AnyReq}
 use Rattle.store_rules.specs.declared.any.AnyReply.{AnyReply}
-use Rattle.store_rules.specs.Holds.{HoldUse, Grants, Binds, GivesUp, NoHold, hold_use}
+use Rattle.store_rules.specs.Holds.{HoldUse, Grants, GrantsRow, Binds, GivesUp, NoHold, hold_use}
 use Rattle.store_rules.specs.Store.{store_reply}
 use Rattle.store_pasts.specs.Ghosts.{World}
 use Rattle.store_pasts.specs.Later.{Touched, Later}
@@ -33,9 +33,10 @@ touches_hold h = record { hold = λ x. hold_eq x h; made = λ m. false; named = 
 abbrev pub touches_op : OpId → Touched
 touches_op op = record { hold = λ x. op_eq x.op op; made = λ m. false; named = λ m. false }
 
--- a hold that is granted or bound
+-- a hold that is granted or bound; those for rows of files stand in no past yet
 abbrev pub is_moved : HoldUse → Hold → Bool
 is_moved (Grants g) x = hold_eq x g.hold
+is_moved (GrantsRow g) x = false
 is_moved (Binds h) x = hold_eq x h
 is_moved (GivesUp h) x = false
 is_moved NoHold x = false

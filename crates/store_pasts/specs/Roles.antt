@@ -12,6 +12,10 @@ use Rattle.store_rules.specs.declared.names.NameReq.{NameReq}
 use Rattle.store_rules.specs.declared.names.NameReq.TheVariants as names
 use Rattle.store_rules.specs.declared.files.FileReq.{FileReq}
 use Rattle.store_rules.specs.declared.files.FileReq.TheVariants as files
+use Rattle.store_rules.specs.declared.blocks.BlockReq.{BlockReq}
+use Rattle.store_rules.specs.declared.blocks.BlockReq.TheVariants as blocks
+use Rattle.store_rules.specs.declared.disks.DiskReq.{DiskReq}
+use Rattle.store_rules.specs.declared.disks.DiskReq.TheVariants as disks
 use Rattle.store_rules.specs.declared.any.AnyReq.{AnyReq}
 use Rattle.store_rules.specs.declared.any.AnyReq.TheVariants as any
 use Rattle.store_rules.specs.declared.any.AnyReply.{AnyReply}
@@ -87,6 +91,14 @@ pub record Role : Type 1 where
 abbrev pub plain : Role
 plain = record { ghost = λ s g. g; makes = None; names = None; fits = Unit {0}; needs = λ w. Unit {0}; taught = λ v x. Unit {0} }
 
+-- no command asks for it yet
+abbrev pub unasked : Role
+unasked = record plain { needs = λ w. ⊥ }
+
+-- nor is it modelled yet: no step of the small machine writes a token into a file, and no block is among the nodes that are made
+abbrev pub unmodelled : Role
+unmodelled = record unasked { fits = ⊥ }
+
 -- A swap asks for another name than the old one: the tree refuses the same. What it names was named before.
 abbrev pub name_role : NameReq → Role
 name_role (names.CheckDir d) = plain
@@ -142,7 +154,23 @@ file_role (files.Grant f h k) =
       taught = λ v x. GrantTaught v (File f) h k x;
     }
 file_role (files.Release f h) = record plain { needs = λ w. is_spent w h ≡ true }
+file_role (files.TakeToken f t) = unmodelled
+file_role (files.Attach f t b n h) = unasked
+file_role (files.ListBlocks f) = unasked
+
+abbrev pub block_role : BlockReq → Role
+block_role (blocks.MakeBlock b c n f h rs) = unmodelled
+block_role (blocks.SealBlock b) = unasked
+block_role (blocks.GetBlock b) = unasked
+block_role (blocks.Grant b h f) = unasked
+block_role (blocks.Release b h) = unasked
+
+abbrev pub disk_role : DiskReq → Role
+disk_role (disks.Put c bytes) = unasked
+disk_role (disks.Get c) = unasked
 
 abbrev pub role : AnyReq → Role
 role (any.Name q) = name_role q
 role (any.File q) = file_role q
+role (any.Block q) = block_role q
+role (any.Disk q) = disk_role q

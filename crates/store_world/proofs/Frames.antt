@@ -33,16 +33,29 @@ pub record Row (q : AnyReq) : Type 0 where
   pub kept : (w : World) → Sound w → Needs w q → Kept w (next w q) q
   pub laws : RoleLaws q
 
--- it grants no hold and makes no node
-pub grants_nothing : (q : AnyReq) → grant_of q ≡ None → (role q).makes ≡ None → ((s : Store) → is_made (store_reply s q) ≡ false)
-    → ((w : World) → Needs w q → (role q).fits) → RoleLaws q
-grants_nothing q none makes_no untold fits = record {
+-- it grants no hold for an entry and makes no node; one that is not modelled yet may reply that it made something else
+pub grants_none : (q : AnyReq) → grant_of q ≡ None → (role q).makes ≡ None
+    → ((s : Store) → (role q).fits → is_made (store_reply s q) ≡ false) → ((w : World) → Needs w q → (role q).fits) → RoleLaws q
+grants_none q none makes_no untold fits = record {
   new = λ w g e needs. absurd (let k : None ≡ Some g = sym none ∙ e in cc);
   granted = λ v x g e ok t. absurd (let k : None ≡ Some g = sym none ∙ e in cc);
   told = λ v x e t. absurd (let k : false ≡ true = (rw makes_no at e) in cc);
-  untold = λ s e. untold s;
+  untold = λ s e f. untold s f;
   fresh = λ w n e needs. absurd (let k : None ≡ Some n = sym makes_no ∙ e in cc);
   fits = fits;
+}
+
+-- the same where it replies so in no store
+pub grants_nothing : (q : AnyReq) → grant_of q ≡ None → (role q).makes ≡ None → ((s : Store) → is_made (store_reply s q) ≡ false)
+    → ((w : World) → Needs w q → (role q).fits) → RoleLaws q
+grants_nothing q none makes_no untold fits = grants_none q none makes_no (λ s f. untold s) fits
+
+-- a request whose needs are never met
+pub unasked_row : (q : AnyReq) → ((w : World) → Needs w q → ⊥) → grant_of q ≡ None → (role q).makes ≡ None
+    → ((s : Store) → (role q).fits → is_made (store_reply s q) ≡ false) → Row q
+unasked_row q unmet none makes_no untold = record {
+  kept = λ w s needs. absurd (unmet w needs);
+  laws = grants_none q none makes_no untold (λ w needs. absurd (unmet w needs));
 }
 
 module _ (q : AnyReq) (a : Grant) (grants : grant_of q ≡ Some a) (needs : (w : World) → Needs w q → w.ghost.given a.hold ≡ None)
@@ -57,7 +70,7 @@ module _ (q : AnyReq) (a : Grant) (grants : grant_of q ≡ Some a) (needs : (w :
     new = λ w g e k. rw (← same_grant g e) (needs w k);
     granted = λ v x g e ok t. rw (← same_grant g e) (teaches v x t ok);
     told = λ v x e t. absurd (let k : false ≡ true = (rw makes_no at e) in cc);
-    untold = λ s e. untold s;
+    untold = λ s e f. untold s;
     fresh = λ w n e k. absurd (let f : None ≡ Some n = sym makes_no ∙ e in cc);
     fits = fits;
   }
@@ -69,7 +82,7 @@ module _ (q : AnyReq) (a : Grant) (grants : grant_of q ≡ Some a) (needs : (w :
     new = λ w g e k. rw (← same_grant g e) (needs w k);
     granted = λ v x g e ok t. rw (← same_grant g e) (teaches v x t).1;
     told = λ v x e t. (teaches v x t).0;
-    untold = λ s e. absurd (let k : true ≡ false = (rw makes_it at e) in cc);
+    untold = λ s e f. absurd (let k : true ≡ false = (rw makes_it at e) in cc);
     fresh = λ w n e k. let f : Some a.node ≡ Some n = sym makes_it ∙ e in let same : a.node ≡ n = cc in rw (← same) (unmade w k);
     fits = fits;
   }

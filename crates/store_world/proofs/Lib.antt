@@ -4,5 +4,6 @@ pub mod Making
 pub mod Binding
 pub mod Holding
 pub mod Reading
+pub mod Unasked
 pub mod Rows
 pub mod Over

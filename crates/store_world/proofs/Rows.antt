@@ -18,6 +18,7 @@ use Rattle.store_world.proofs.Reading.{check_row, look_row, list_row}
 use Rattle.store_world.proofs.Making.{make_dir_row, make_file_row}
 use Rattle.store_world.proofs.Binding.{bind_row, swap_row, unbind_row}
 use Rattle.store_world.proofs.Holding.{grant_dir_row, grant_file_row, release_dir_row, release_file_row}
+use Rattle.store_world.proofs.Unasked.{take_token_row, attach_row, list_blocks_row, block_row, disk_row}
 
 name_row : (q : NameReq) → Row (any.Name q)
 name_row (names.CheckDir d) = check_row d
@@ -34,10 +35,15 @@ file_row : (q : FileReq) → Row (any.File q)
 file_row (files.MakeFile f h k t) = make_file_row f h k t
 file_row (files.Grant f h k) = grant_file_row f h k
 file_row (files.Release f h) = release_file_row f h
+file_row (files.TakeToken f t) = take_token_row f t
+file_row (files.Attach f t b n h) = attach_row f t b n h
+file_row (files.ListBlocks f) = list_blocks_row f
 
 row : (q : AnyReq) → Row q
 row (any.Name q) = name_row q
 row (any.File q) = file_row q
+row (any.Block q) = block_row q
+row (any.Disk q) = disk_row q
 
 -- Each request whose needs are met keeps the world sound, leaves what it does not touch, and teaches.
 pub row_kept : (w : World) → Sound w → (q : AnyReq) → Needs w q → Kept w (next w q) q
