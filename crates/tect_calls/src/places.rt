@@ -14,6 +14,6 @@ pub fn place(req: &AnyReq, counts: &Counts) -> Place
         AnyReq::Name(req) => place_of(Layer::Names, req.dir().0, counts),
         AnyReq::File(req) => place_of(Layer::Files, req.file().0, counts),
         AnyReq::Block(req) => place_of(Layer::Blocks, req.blk().0, counts),
-        AnyReq::Disk(req) => place_of(Layer::Disks, req.disk().0, counts),
+        AnyReq::Disk(req) => place_of(Layer::Disks, u64::from(req.disk().0), counts),
     }
 }
