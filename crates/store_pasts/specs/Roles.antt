@@ -1,12 +1,15 @@
 -- The role of each request: what it does to the past, which nodes it makes and names, what has to be known before it is made, and what
 -- its reply teaches. What it does with a hold stands in store_rules' Holds.
-use Rattle.std.specs.Prelude.{◌≡◌, ◌≢◌, true, false, Option, Some, None, is_some}
+use Rattle.std.specs.Prelude.{◌≡◌, ◌≢◌, Bool, true, false, Option, Some, None, is_some}
 use Rattle.std.specs.FinMap.{get}
+use Rattle.tect_ids.specs.declared.ids.BlkId.{BlkId}
 use Rattle.tect_ids.specs.declared.ids.DirId.{DirId}
 use Rattle.tect_ids.specs.declared.ids.Hold.{Hold}
 use Rattle.tect_ids.specs.declared.ids.Node.{Node}
 use Rattle.tect_ids.specs.declared.ids.Node.TheVariants.{Dir, File}
+use Rattle.tect_ids.specs.declared.ids.Tag.{Tag}
 use Rattle.tect_ids.specs.declared.key.Key.{Key}
+use Rattle.tect_ids.specs.Keys.{tag_eq}
 use Rattle.store_rules.specs.declared.names.Replaced.{Replaced}
 use Rattle.store_rules.specs.declared.names.NameReq.{NameReq}
 use Rattle.store_rules.specs.declared.names.NameReq.TheVariants as names
@@ -77,19 +80,32 @@ GrantTaught v n h k x = is_granted x ≡ true → IsGranted v h n k
 
 -- ---- the table
 
--- what is done to the past where the store is changed, the node that is made, the node that is named, what is so of the request's own
--- words, what has to be known before, and what the reply teaches
+-- what is done to the past where the store is changed, the node or the block that is made, the node that is named, the tags of the rows
+-- or chunks, the block that is sealed, what is so of the request's own words, what has to be known before, and what the reply teaches
 pub record Role : Type 1 where
   pub ghost : Store → Ghost → Ghost
   pub makes : Option Node
+  pub makes_block : Option BlkId
   pub names : Option Node
+  pub tags : Tag → Bool
+  pub seals : Option BlkId
   pub fits : Type 0
   pub needs : World → Type 0
   pub taught : World → AnyReply → Type 0
 
 -- a request with no role: what it does is seen of no past
 abbrev pub plain : Role
-plain = record { ghost = λ s g. g; makes = None; names = None; fits = Unit {0}; needs = λ w. Unit {0}; taught = λ v x. Unit {0} }
+plain = record {
+  ghost = λ s g. g;
+  makes = None;
+  makes_block = None;
+  names = None;
+  tags = λ t. false;
+  seals = None;
+  fits = Unit {0};
+  needs = λ w. Unit {0};
+  taught = λ v x. Unit {0};
+}
 
 -- no command asks for it yet
 abbrev pub unasked : Role

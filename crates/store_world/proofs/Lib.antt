@@ -1,5 +1,6 @@
 pub mod Chains
 pub mod Frames
+pub mod Alike
 pub mod Making
 pub mod Binding
 pub mod Holding
@@ -7,3 +8,4 @@ pub mod Reading
 pub mod Unasked
 pub mod Rows
 pub mod Over
+pub mod Sayings

@@ -81,4 +81,25 @@ opening_sound = record {
     root_home = refl;
     root_free = λ h g is low. grind arith;
   };
+  rows = record {
+    bound = λ f i r is. grind (arith, maps);
+    has_hold = λ f i r is. grind (arith, maps);
+    sealed_as = λ f i r is. grind (arith, maps);
+    set = λ h g i is p. grind arith;
+    live = λ h g is l. grind arith;
+    listed = λ b h u is. grind (arith, maps);
+    file_made = λ h g is. grind arith;
+  };
+  blocks = record {
+    shape = λ b. grind (arith, maps);
+    rows = λ b. grind (arith, maps);
+    version = λ b. grind (arith, maps);
+    length = λ b. refl;
+    at_home = λ b d t is. grind arith;
+  };
+  chunks = record {
+    at_home = λ c is. grind (arith, maps);
+    content = λ c bytes is. grind (arith, maps);
+    stored = λ b d t sealed is. grind arith;
+  };
 }
