@@ -1,11 +1,9 @@
 -- The past of what files consist of: the holds of their rows, what each block was made as, and the row that each tag is of.
 use Rattle.std.specs.Prelude.{◌≡◌, ℕ, Bool, true, false, not, if◌then◌else◌, List, [], ◌∷◌, length, Option, Some, None}
 use Rattle.std.specs.List.{slice_get}
-use Rattle.std.specs.FinMap.{FinMap}
 use Rattle.tect_ids.specs.declared.ids.BlkId.{BlkId}
 use Rattle.tect_ids.specs.declared.ids.DiskId.{DiskId}
 use Rattle.tect_ids.specs.declared.ids.FileId.{FileId}
-use Rattle.tect_ids.specs.declared.ids.Hold.{Hold}
 use Rattle.tect_ids.specs.declared.ids.OpId.{OpId}
 use Rattle.tect_ids.specs.declared.ids.Tag.{Tag}
 use Rattle.tect_ids.specs.declared.key.ChunkKey.{ChunkKey}

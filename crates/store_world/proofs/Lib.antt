@@ -1,6 +1,8 @@
 pub mod Chains
 pub mod Frames
 pub mod Alike
+pub mod BlockMaps
+pub mod NewRows
 pub mod Making
 pub mod Binding
 pub mod Holding
