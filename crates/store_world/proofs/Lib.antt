@@ -8,6 +8,10 @@ pub mod Binding
 pub mod Holding
 pub mod Reading
 pub mod Unasked
+pub mod Attaching
+pub mod Blocks
+pub mod BlockHolds
+pub mod Chunks
 pub mod Rows
 pub mod Over
 pub mod Sayings
