@@ -26,6 +26,7 @@ blocks_same by p = record {
   tagged = λ t m e. e;
   untagged = λ t o e. e;
   said = λ op bytes e. e;
+  unsaid = λ op o e. e;
   sealed = λ b n e. e;
   unsealed = λ b o e. e;
 }
@@ -84,6 +85,7 @@ later_then by w v u l k = record {
     tagged = λ t m e. k.blocks.tagged t m (l.blocks.tagged t m e);
     untagged = λ t o e. k.blocks.untagged t o (l.blocks.untagged t o e);
     said = λ op bytes e. k.blocks.said op bytes (l.blocks.said op bytes e);
+    unsaid = λ op o e. k.blocks.unsaid op o (l.blocks.unsaid op o e);
     sealed = λ b n e. k.blocks.sealed b n (l.blocks.sealed b n e);
     unsealed = λ b o e. k.blocks.unsealed b o (l.blocks.unsealed b o e);
   };
@@ -118,6 +120,7 @@ weaken t u w v i l = record {
     tagged = l.blocks.tagged;
     untagged = λ t o. l.blocks.untagged t (i.tag t o);
     said = l.blocks.said;
+    unsaid = λ op o. l.blocks.unsaid op (i.said op o);
     sealed = l.blocks.sealed;
     unsealed = λ b o. l.blocks.unsealed b (i.sealed b o);
   };

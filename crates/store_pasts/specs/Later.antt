@@ -17,8 +17,8 @@ use Rattle.store_pasts.specs.Ghosts.{Live, Given, World}
 use Rattle.store_pasts.specs.Pasts.{was_made, leads, is_spent, row_at, BlocksPart, blocks_part}
 
 -- What a request touches: the holds for entries that it grants or binds, the nodes that it makes, and those that it names first; the holds
--- for rows that it grants or binds, the blocks that it makes, the tags under which it keeps chunks or gives them to rows, and the blocks
--- that it seals.
+-- for rows that it grants or binds, the blocks that it makes, the tags that it gives to rows or keeps chunks under, and the blocks that it
+-- seals. A command's begin touches what its op says.
 pub record Touched : Type 0 where
   pub hold : Hold → Bool
   pub made : Node → Bool
@@ -27,6 +27,7 @@ pub record Touched : Type 0 where
   pub born : BlkId → Bool
   pub tag : Tag → Bool
   pub sealed : BlkId → Bool
+  pub said : OpId → Bool
 
 -- what may have been done to the rows of files and to their holds: a row stays as it is
 pub record LaterRows (by : Touched) (was now : FileId → ℕ → Option FileRow) (given then : Hold → Option RowGiven) : Type 0 where
@@ -43,6 +44,7 @@ pub record LaterBlocks (by : Touched) (p q : BlocksPart) : Type 0 where
   pub tagged : (t : Tag) (m : TagHome) → p.tagged t ≡ Some m → q.tagged t ≡ Some m
   pub untagged : (t : Tag) → by.tag t ≡ false → p.tagged t ≡ None → q.tagged t ≡ None
   pub said : (op : OpId) (bytes : List ℕ) → p.said op ≡ Some bytes → q.said op ≡ Some bytes
+  pub unsaid : (op : OpId) → by.said op ≡ false → p.said op ≡ None → q.said op ≡ None
   pub sealed : (b : BlkId) (n : ℕ) → sealed_length (get p.now b) ≡ Some n → sealed_length (get q.now b) ≡ Some n
   pub unsealed : (b : BlkId) → by.sealed b ≡ false → is_unsealed (get p.now b) ≡ true → is_unsealed (get q.now b) ≡ true
 
@@ -84,6 +86,7 @@ by_actor a = record {
   born = λ b. eqb (maker_of b) a;
   tag = λ t. eqb t.op.actor a;
   sealed = λ b. eqb (maker_of b) a;
+  said = λ op. eqb op.actor a;
 }
 
 -- whatever t touches, u touches
@@ -95,3 +98,4 @@ pub record Within (t u : Touched) : Type 0 where
   pub born : (b : BlkId) → u.born b ≡ false → t.born b ≡ false
   pub tag : (x : Tag) → u.tag x ≡ false → t.tag x ≡ false
   pub sealed : (b : BlkId) → u.sealed b ≡ false → t.sealed b ≡ false
+  pub said : (op : OpId) → u.said op ≡ false → t.said op ≡ false

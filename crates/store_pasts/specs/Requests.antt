@@ -24,6 +24,7 @@ touches_nothing = record {
   born = λ b. false;
   tag = λ t. false;
   sealed = λ b. false;
+  said = λ op. false;
 }
 
 -- a node that is made, and its hold
@@ -41,6 +42,10 @@ touches_hold h = record touches_nothing { hold = λ x. hold_eq x h; row_hold = �
 -- the holds of an op
 abbrev pub touches_op : OpId → Touched
 touches_op op = record touches_nothing { hold = λ x. op_eq x.op op; row_hold = λ x. op_eq x.op op }
+
+-- what an op says, at its begin
+abbrev pub touches_said : OpId → Touched
+touches_said op = record touches_nothing { said = λ x. op_eq x op }
 
 -- a hold for an entry that is granted, or one that is bound
 abbrev pub is_moved : HoldUse → Hold → Bool
@@ -76,6 +81,7 @@ touched_by q = record {
   born = λ b. is_that_block (role q).makes_block b;
   tag = λ t. (role q).tags t;
   sealed = λ b. is_that_block (role q).seals b;
+  said = λ op. false;
 }
 
 -- it makes a node or a block

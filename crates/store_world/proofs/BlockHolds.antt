@@ -65,6 +65,7 @@ module _ (w : World) (b : BlkId) (h : Hold) (u : Option Upper) where
     tagged = λ t m is. is;
     untagged = λ t o is. is;
     said = λ op bytes is. is;
+    unsaid = λ op o is. is;
     sealed = λ e n is. rw (held_length e) is;
     unsealed = λ e o is. rw (held_unsealed e) is;
   }

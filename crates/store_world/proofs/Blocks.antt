@@ -89,6 +89,7 @@ module _ (w : World) (s : Sound w) (b : BlkId) (c : Class) (n : ℕ) (f : FileId
         tagged = λ t m is. grind (arith, new_rows, needs.untagged t);
         untagged = λ t o is. grind (arith, new_rows);
         said = λ op bytes is. is;
+        unsaid = λ op o is. is;
         sealed = λ e m is. grind (arith, new_rows, none_before);
         unsealed = λ e o is. grind (arith, new_rows, none_before);
       };
@@ -162,6 +163,7 @@ module _ (w : World) (s : Sound w) (b : BlkId) (needs : Needs w (any.Block (bloc
         tagged = λ t m is. is;
         untagged = λ t o is. is;
         said = λ op bytes is. is;
+        unsaid = λ op o is. is;
         sealed = λ e n is. grind (arith, new_rows);
         unsealed = λ e o is. grind (arith, new_rows);
       };
