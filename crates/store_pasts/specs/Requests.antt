@@ -35,9 +35,13 @@ touches_new n h = record touches_nothing { hold = λ x. hold_eq x h; made = λ m
 abbrev pub touches_named : Node → Hold → Touched
 touches_named n h = record touches_nothing { hold = λ x. hold_eq x h; row_hold = λ x. hold_eq x h; named = λ m. node_eq m n }
 
--- a hold alone
+-- a hold for an entry alone
 abbrev pub touches_hold : Hold → Touched
-touches_hold h = record touches_nothing { hold = λ x. hold_eq x h; row_hold = λ x. hold_eq x h }
+touches_hold h = record touches_nothing { hold = λ x. hold_eq x h }
+
+-- a hold that is bound
+abbrev pub touches_bound : Hold → Touched
+touches_bound h = record touches_nothing { hold = λ x. hold_eq x h; row_hold = λ x. hold_eq x h }
 
 -- the holds of an op
 abbrev pub touches_op : OpId → Touched
