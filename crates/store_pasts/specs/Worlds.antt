@@ -7,7 +7,7 @@ use Rattle.store_rules.specs.Store.{Store, store_changes, store_change, store_st
 use Rattle.store_pasts.specs.Roles.{role}
 pub use Rattle.store_pasts.specs.Ghosts.{HoldPhase, Live, Set, Past, Given, Ghost, World, opening_ghost}
 pub use Rattle.store_pasts.specs.Ghosts.{RowPhase, RowLive, RowSet, RowPast, RowGiven}
-use Rattle.store_pasts.specs.Ghosts.{ghost_said}
+pub use Rattle.store_pasts.specs.Ghosts.{ghost_said}
 
 -- what a request does to the past where it changes the store
 abbrev pub ghost_change : Store → Ghost → AnyReq → Ghost
