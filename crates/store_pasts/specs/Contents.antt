@@ -87,6 +87,11 @@ abbrev pub born_length : Option Born → Option ℕ
 born_length None = None
 born_length (Some m) = Some m.len
 
+-- how many rows it had
+abbrev pub born_count : Option Born → Option ℕ
+born_count None = None
+born_count (Some m) = Some (length m.rows)
+
 -- the tag of its row at that disk
 abbrev pub born_tag : Option Born → DiskId → Option Tag
 born_tag None d = None

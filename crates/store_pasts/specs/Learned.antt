@@ -1,5 +1,5 @@
 -- What has to be known before requests of rows, blocks and chunks, and what their replies teach.
-use Rattle.std.specs.Prelude.{◌≡◌, ℕ, true, if◌then◌else◌, List, All, Option, Some, None, is_some}
+use Rattle.std.specs.Prelude.{◌≡◌, ◌≤◌, ℕ, true, if◌then◌else◌, List, length, All, Option, Some, None, is_some}
 use Rattle.std.specs.List.{slice_get}
 use Rattle.std.specs.FinMap.{get}
 use Rattle.tect_ids.specs.declared.ids.BlkId.{BlkId}
@@ -37,20 +37,25 @@ abbrev pub part_in : Option FileRow → Option RowPart
 part_in None = None
 part_in (Some r) = Some (row_part r)
 
--- what is listed are the file's rows in their order
+-- what is listed are the file's rows in their order, and each one's block is sealed and as long as listed
+pub record RowsTaught (v : World) (f : FileId) (parts : List RowPart) : Type 0 where
+  pub row : (i : ℕ) → slice_get parts i ≡ part_in (row_at v.store f i)
+  pub sealed : (i : ℕ) (p : RowPart) → slice_get parts i ≡ Some p → sealed_length (get v.store.blocks p.blk) ≡ Some p.len
+
 abbrev pub ListedTaught : World → FileId → Option (List RowPart) → Type 0
 ListedTaught v f None = Unit {0}
-ListedTaught v f (Some parts) = (i : ℕ) → slice_get parts i ≡ part_in (row_at v.store f i)
+ListedTaught v f (Some parts) = RowsTaught v f parts
 
 -- ---- blocks
 
--- MakeBlock: the block and its hold are new, the file was made, the block is as long as what the op's command appends, and its rows stand
--- on different disks, with different tags, which are the op's and new
+-- MakeBlock: the block and its hold are new, the file was made, the block is as long as what the op's command appends, and it has rows,
+-- which stand on different disks with different tags, the op's own and new
 pub record NewBlockNeeds (w : World) (b : BlkId) (n : ℕ) (f : FileId) (h : Hold) (rs : List NewRow) : Type 0 where
   pub unborn : w.ghost.born b ≡ None
   pub new_hold : w.ghost.row_given h ≡ None
   pub file_made : was_made w.ghost (File f) ≡ true
   pub said : bytes_length (w.ghost.said h.op) ≡ Some n
+  pub some : 1 ≤ length rs
   pub apart : Apart rs
   pub own : (t : Tag) → is_some (disk_at rs t) ≡ true → t.op ≡ h.op
   pub untagged : (t : Tag) → is_some (disk_at rs t) ≡ true → w.ghost.tagged t ≡ None
@@ -78,13 +83,15 @@ abbrev pub IsStored : World → BlkId → Row → Type 0
 IsStored v b r =
     (r.placed ≡ true) × (has_chunk v.store b r.disk r.tag ≡ true) × (get v.store.chunks (chunk_of b r.disk r.tag) ≡ content v.ghost b)
 
--- a block is sealed and as long as its location says, and then each of its rows is stored
+-- a block is sealed and as long as its location says, it has rows, and once it is sealed each of them is stored
 pub record LocationTaught (v : World) (b : BlkId) (x : Location) : Type 0 where
   pub sealed : sealed_length (get v.store.blocks b) ≡ (if x.sealed then Some x.len else None)
+  pub some : 1 ≤ length x.rows
   pub stored : x.sealed ≡ true → All (IsStored v b) x.rows
 
+-- where it has no location, no block stands
 abbrev pub BlockTaught : World → BlkId → Option Location → Type 0
-BlockTaught v b None = Unit {0}
+BlockTaught v b None = get v.store.blocks b ≡ None
 BlockTaught v b (Some x) = LocationTaught v b x
 
 -- Grant: the hold is new, and the file was made

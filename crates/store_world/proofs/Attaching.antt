@@ -1,5 +1,5 @@
 -- requests of the tokens and rows of files
-use Rattle.std.proofs.Common.{◌≡◌, ℕ, true, false, Option, Some, None, refl, arith, map}
+use Rattle.std.proofs.Common.{◌≡◌, ℕ, true, false, Option, Some, None, refl, sym, ◌∙◌, subst, arith, map}
 use Rattle.std.specs.List.{slice_get}
 use Rattle.std.specs.FinMap.{get}
 use Rattle.std.proofs.lemmas.Option.{slice_get-map}
@@ -9,6 +9,8 @@ use Rattle.tect_ids.specs.declared.ids.Hold.{Hold}
 use Rattle.tect_ids.specs.declared.ids.Node.{Node}
 use Rattle.tect_ids.specs.declared.ids.Node.TheVariants.{Dir, File}
 use Rattle.tect_ids.specs.declared.ids.OpId.{OpId}
+use Rattle.tect_ids.specs.declared.values.RowPart.{RowPart}
+use Rattle.store_rules.specs.declared.file_rows.FileRow.{FileRow}
 use Rattle.store_rules.specs.declared.files.File.{File as AnyFile}
 use Rattle.store_rules.specs.declared.files.FileReq.TheVariants as files
 use Rattle.store_rules.specs.declared.any.AnyReq.TheVariants as any
@@ -16,7 +18,8 @@ use Rattle.store_rules.specs.Files.{row_part}
 use Rattle.store_rules.specs.Store.{Store, store_changes, store_change, store_reply}
 use Rattle.store_rules.specs.Views.{is_made, as_attached, as_block_list}
 use Rattle.store_pasts.specs.Worlds.{World, RowLive, done, next}
-use Rattle.store_pasts.specs.Learned.{AttachTaught, ListedTaught, part_in}
+use Rattle.store_pasts.specs.Contents.{sealed_length}
+use Rattle.store_pasts.specs.Learned.{AttachTaught, RowsTaught, ListedTaught, part_in}
 use Rattle.store_pasts.specs.Pasts.{row_at}
 use Rattle.store_pasts.specs.Requests.{Needs}
 use Rattle.store_pasts.proofs.Laters.{rows_stay, blocks_same, chunks_same}
@@ -157,20 +160,34 @@ attach_row f t b n h = record {
 listed_rows : (x : AnyFile) (i : ℕ) → slice_get (map row_part x.rows) i ≡ part_in (slice_get x.rows i)
 listed_rows x i = grind (arith, slice_get-map row_part x.rows i)
 
-listed_taught : (w : World) (f : FileId) → ListedTaught w f (as_block_list (store_reply w.store (any.File (files.ListBlocks f))))
-listed_taught w f = at (get w.store.files f) refl
-  where
-    at : (o : Option AnyFile) → get w.store.files f ≡ o
-        → ListedTaught w f (as_block_list (store_reply w.store (any.File (files.ListBlocks f))))
-    at None e = rw e tt
-    at (Some x) e = rw e (λ i. rw e (listed_rows x i))
+module _ (w : World) (s : Sound w) (f : FileId) where
+  -- the block of each row is sealed, and as long as listed
+  listed_sealed : (i : ℕ) (o : Option FileRow) → row_at w.store f i ≡ o → (p : RowPart) → part_in o ≡ Some p
+      → sealed_length (get w.store.blocks p.blk) ≡ Some p.len
+  listed_sealed i None e p is = absurd (let k : None ≡ Some p = is in cc)
+  listed_sealed i (Some r) e p is =
+      let same : row_part r ≡ p = cc in
+      subst (λ (x : RowPart). sealed_length (get w.store.blocks x.blk) ≡ Some x.len) same (s.rows.sealed_as f i r e)
+
+  rows_taught : (x : AnyFile) → get w.store.files f ≡ Some x → RowsTaught w f (map row_part x.rows)
+  rows_taught x e =
+      let row : (i : ℕ) → slice_get (map row_part x.rows) i ≡ part_in (row_at w.store f i) = λ i. rw e (listed_rows x i) in
+      record { row = row; sealed = λ i p is. listed_sealed i (row_at w.store f i) refl p (sym (row i) ∙ is) }
+
+  listed_taught : ListedTaught w f (as_block_list (store_reply w.store (any.File (files.ListBlocks f))))
+  listed_taught = at (get w.store.files f) refl
+    where
+      at : (o : Option AnyFile) → get w.store.files f ≡ o
+          → ListedTaught w f (as_block_list (store_reply w.store (any.File (files.ListBlocks f))))
+      at None e = rw e tt
+      at (Some x) e = rw e (rows_taught x e)
 
 list_blocks_untold : (s : Store) (f : FileId) → is_made (store_reply s (any.File (files.ListBlocks f))) ≡ false
 list_blocks_untold s f = grind arith
 
 pub list_blocks_row : (f : FileId) → Row (any.File (files.ListBlocks f))
 list_blocks_row f = record {
-  kept = λ w s needs. by_answer w (any.File (files.ListBlocks f)) _ refl (λ e. by_reading w _ s (listed_taught w f))
-      (λ e. by_reading w _ s (listed_taught w f));
+  kept = λ w s needs. by_answer w (any.File (files.ListBlocks f)) _ refl (λ e. by_reading w _ s (listed_taught w s f))
+      (λ e. by_reading w _ s (listed_taught w s f));
   laws = grants_nothing (any.File (files.ListBlocks f)) refl refl (λ s. list_blocks_untold s f) (λ w k. tt);
 }

@@ -55,6 +55,7 @@ module _ (w : World) (b : BlkId) (h : Hold) (u : Option Upper) where
     rows = λ e. rw (held_rows e, held_sealed e) (s.rows e);
     version = λ e. rw (held_version e, held_sealed e) (s.version e);
     length = s.length;
+    some = s.some;
     at_home = s.at_home;
   }
 

@@ -1,5 +1,5 @@
 -- requests that make a block, seal it, and ask where it lies
-use Rattle.std.proofs.Common.{◌≡◌, ℕ, List, true, false, Option, Some, None, refl, arith, map}
+use Rattle.std.proofs.Common.{◌≡◌, ◌≤◌, ℕ, List, [], ◌∷◌, length, Bool, true, false, if◌then◌else◌, Option, Some, None, refl, arith, map}
 use Rattle.std.specs.FinMap.{get, entries}
 use Rattle.std.proofs.lemmas.List.Elements.{All-map, All-weaker}
 use Rattle.tect_ids.specs.declared.ids.BlkId.{BlkId}
@@ -15,7 +15,8 @@ use Rattle.ordered_rows.proofs.Entries.{gets_each}
 use Rattle.store_rules.specs.declared.blocks.Block.{Block}
 use Rattle.store_rules.specs.declared.blocks.BlockReq.TheVariants as blocks
 use Rattle.store_rules.specs.declared.any.AnyReq.TheVariants as any
-use Rattle.store_rules.specs.Blocks.{shown_row}
+use Rattle.key_maps.specs.RowsOfBlocks.{all_placed}
+use Rattle.store_rules.specs.Blocks.{rows_from, shown_row}
 use Rattle.store_rules.specs.Store.{Store, store_changes, store_reply}
 use Rattle.store_rules.specs.Views.{is_made, as_location}
 use Rattle.store_pasts.specs.Contents.{born_tag}
@@ -28,7 +29,7 @@ use Rattle.store_pasts.proofs.Laters.{rows_same, chunks_same}
 use Rattle.store_world.specs.Sound.{Sound}
 use Rattle.store_world.specs.Kept.{Kept}
 use Rattle.store_world.proofs.Frames.{Row, by_answer, by_reading, grants_nothing, makes_block}
-use Rattle.store_world.proofs.NewRows.{new_rows, found_by_tag}
+use Rattle.store_world.proofs.NewRows.{new_rows, found_by_tag, tag_first, more_than_none}
 
 -- MakeBlock
 module _ (w : World) (s : Sound w) (b : BlkId) (c : Class) (n : ℕ) (f : FileId) (h : Hold) (rs : List NewRow)
@@ -59,6 +60,7 @@ module _ (w : World) (s : Sound w) (b : BlkId) (c : Class) (n : ℕ) (f : FileId
         rows = λ e. grind (arith, new_rows, s.blocks.rows e);
         version = λ e. grind (arith, new_rows, s.blocks.version e);
         length = λ e. grind (arith, new_rows, s.blocks.length e, needs.said);
+        some = λ e m is. grind (arith, new_rows, s.blocks.some e m, needs.some);
         at_home = λ e d t is. grind (arith, new_rows, s.blocks.at_home e d t, found_by_tag rs needs.apart d t, needs.untagged t);
       };
       chunks = record {
@@ -139,6 +141,7 @@ module _ (w : World) (s : Sound w) (b : BlkId) (needs : Needs w (any.Block (bloc
         rows = λ e. grind (arith, new_rows, s.blocks.rows e);
         version = λ e. grind (arith, new_rows, s.blocks.version e);
         length = s.blocks.length;
+        some = s.blocks.some;
         at_home = s.blocks.at_home;
       };
       chunks = record {
@@ -200,10 +203,25 @@ module _ (w : World) (s : Sound w) (b : BlkId) where
           let there : has_chunk w.store b d r.tag ≡ true = s.chunks.stored b d r.tag (grind arith) tag in
           (grind (arith, new_rows, s.blocks.rows b), there, grind (arith, s.chunks.content))
 
+  -- it has rows
+  has_rows : (x : Block) → get w.store.blocks b ≡ Some x → 1 ≤ length (map shown_row (entries x.rows))
+  has_rows x is = by_born (w.ghost.born b) refl
+    where
+      by_rows : (rs : List NewRow) → 1 ≤ length rs → (sealed : Bool) → x.rows ≡ (if sealed then all_placed (rows_from rs) else rows_from rs)
+          → 1 ≤ length (map shown_row (entries x.rows))
+      by_rows [] some sealed e = absurd (omega (arith, some))
+      by_rows (r ∷ rs) some true e = more_than_none x.rows r.disk (rw e (grind (arith, new_rows, tag_first r rs)))
+      by_rows (r ∷ rs) some false e = more_than_none x.rows r.disk (rw e (grind (arith, new_rows, tag_first r rs)))
+
+      by_born : (o : Option Born) → w.ghost.born b ≡ o → 1 ≤ length (map shown_row (entries x.rows))
+      by_born None e = absurd (grind (arith, s.blocks.shape b))
+      by_born (Some m) e = by_rows m.rows (s.blocks.some b (length m.rows) (rw e refl)) x.sealed (grind (arith, s.blocks.rows b))
+
   location_taught : (x : Block) → get w.store.blocks b ≡ Some x
       → LocationTaught w b record { class = x.class; len = x.len; sealed = x.sealed; version = x.version; rows = map shown_row (entries x.rows) }
   location_taught x is = record {
     sealed = rw is refl;
+    some = has_rows x is;
     stored = λ sealed. All-map (IsStored w b) shown_row (entries x.rows)
         (All-weaker (λ (e : DiskId × BlockRow). get x.rows e.0 ≡ Some e.1) (λ e. IsStored w b (shown_row e))
         (λ e at. row_stored x is sealed e.0 e.1 at) (entries x.rows) (gets_each disk_cmp disk_cmp_total x.rows));
@@ -213,7 +231,7 @@ module _ (w : World) (s : Sound w) (b : BlkId) where
   get_block_taught = at (get w.store.blocks b) refl
     where
       at : (o : Option Block) → get w.store.blocks b ≡ o → BlockTaught w b (as_location (store_reply w.store (any.Block (blocks.GetBlock b))))
-      at None e = rw e tt
+      at None e = rw e e
       at (Some x) e = rw e (location_taught x e)
 
 get_block_untold : (s : Store) (b : BlkId) → is_made (store_reply s (any.Block (blocks.GetBlock b))) ≡ false

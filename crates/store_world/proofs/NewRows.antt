@@ -1,5 +1,5 @@
 -- the rows that a block is made with, as a map by disk, and once all are placed
-use Rattle.std.proofs.Common.{◌≡◌, List, [], ◌∷◌, T, Bool, true, false, cond, if◌then◌else◌, map, Option, Some, None}
+use Rattle.std.proofs.Common.{◌≡◌, ◌≤◌, is_some, length, List, [], ◌∷◌, T, Bool, true, false, cond, if◌then◌else◌, map, Option, Some, None}
 use Rattle.std.proofs.Common.{refl, sym, ap, ◌∙◌, arith}
 use Rattle.std.specs.Ordering.{eq_by_cmp}
 use Rattle.std.specs.FinMap.{FinMap, get, get-empty, get-entries, get-from_sorted, entries, entries_sorted, find, is_sorted}
@@ -11,7 +11,7 @@ use Rattle.tect_ids.specs.declared.values.NewRow.{NewRow}
 use Rattle.tect_ids.specs.Keys.{disk_eq, tag_eq, disk_cmp}
 use Rattle.tect_ids.proofs.KeyTests.{block_keys}
 use Rattle.key_maps.specs.RowsOfBlocks.{placed_row, all_placed}
-use Rattle.store_rules.specs.Blocks.{rows_from}
+use Rattle.store_rules.specs.Blocks.{rows_from, shown_row}
 use Rattle.store_pasts.specs.Contents.{tag_at, disk_at, Apart}
 use Rattle.store_world.proofs.BlockMaps.{block_maps, get-disk_at}
 
@@ -32,6 +32,11 @@ get-rows_from (r ∷ rs) d =
         ≡ unplaced (if b then Some r.tag else tag_at rs d)
     split e true = refl
     split e false = e
+
+-- the first is found at its disk
+pub tag_first : (r : NewRow) (rs : List NewRow) → tag_at (r ∷ rs) r.disk ≡ Some r.tag
+unfolding tag_at
+tag_first r rs = grind (arith, block_keys)
 
 -- where no disk and no tag stands twice, each row is found by its tag
 pub found_by_tag : (rs : List NewRow) → Apart rs → (d : DiskId) (t : Tag) → tag_at rs d ≡ Some t → disk_at rs t ≡ Some d
@@ -84,6 +89,16 @@ unfolding all_placed
 get-all_placed m d =
     get-from_sorted disk_cmp (all_rows (entries m)) d (sorted_all_rows (entries m) (entries_sorted m))
     ∙ find-all_rows (entries m) d ∙ ap placed_at (sym (get-entries m d))
+
+-- ---- rows as they are shown
+
+none_found : (es : List (DiskId × BlockRow)) (d : DiskId) → is_some (find disk_cmp d es) ≡ true → 1 ≤ length (map shown_row es)
+none_found [] d is = absurd (let k : false ≡ true = is in cc)
+none_found (e ∷ es) d is = omega arith
+
+-- where one is found there are some
+pub more_than_none : (m : FinMap disk_cmp BlockRow) (d : DiskId) → is_some (get m d) ≡ true → 1 ≤ length (map shown_row (entries m))
+more_than_none m d is = none_found (entries m) d (rw (← get-entries m d) is)
 
 -- all that is needed to read the rows of a block
 pub ruleset new_rows = (block_maps, get-rows_from, get-all_placed)

@@ -1,5 +1,5 @@
 -- every request has its row, and the opening is sound
-use Rattle.std.proofs.Common.{refl, arith}
+use Rattle.std.proofs.Common.{◌≡◌, Some, None, refl, arith}
 use Rattle.key_maps.proofs.Lookups.{maps}
 use Rattle.store_rules.specs.declared.names.NameReq.{NameReq}
 use Rattle.store_rules.specs.declared.names.NameReq.TheVariants as names
@@ -114,6 +114,7 @@ opening_sound = record {
     rows = λ b. grind (arith, maps);
     version = λ b. grind (arith, maps);
     length = λ b. refl;
+    some = λ b n is. absurd (let k : None ≡ Some n = is in cc);
     at_home = λ b d t is. grind arith;
   };
   chunks = record {

@@ -35,6 +35,7 @@ saying_sound w op (Some bytes) s = record {
     rows = s.blocks.rows;
     version = s.blocks.version;
     length = λ b. length_stays w.ghost.said op bytes (w.ghost.born b) (s.blocks.length b);
+    some = s.blocks.some;
     at_home = s.blocks.at_home;
   };
   chunks = record {

@@ -1,5 +1,5 @@
 -- When a world is sound. Its clauses stand in groups, each a record over the parts that it reads.
-use Rattle.std.specs.Prelude.{◌≡◌, ◌≢◌, ℕ, zero, suc, Bool, true, false, if◌then◌else◌, List, Option, Some, None, is_some}
+use Rattle.std.specs.Prelude.{◌≡◌, ◌≢◌, ◌≤◌, ℕ, zero, suc, Bool, true, false, if◌then◌else◌, List, Option, Some, None, is_some}
 use Rattle.std.specs.FinMap.{FinMap, get}
 use Rattle.tect_ids.specs.declared.ids.BlkId.{BlkId}
 use Rattle.tect_ids.specs.declared.ids.DirId.{DirId}
@@ -29,7 +29,7 @@ use Rattle.store_rules.specs.Blocks.{rows_from, block_lists}
 use Rattle.store_rules.specs.Disks.{Chunks}
 use Rattle.store_rules.specs.Store.{Store}
 use Rattle.store_pasts.specs.Ghosts.{Live, Set, Given, World, RowLive, RowSet, RowGiven, Born, TagHome}
-use Rattle.store_pasts.specs.Contents.{row_leads, born_shape, born_length, born_tag, born_content, bytes_length}
+use Rattle.store_pasts.specs.Contents.{row_leads, born_shape, born_length, born_count, born_tag, born_content, bytes_length}
 use Rattle.store_pasts.specs.Contents.{block_sealed, sealed_length, chunk_of}
 use Rattle.store_pasts.specs.Pasts.{was_made, dead_in, leads, row_at, BlocksPart, blocks_part}
 
@@ -156,6 +156,8 @@ pub record SoundBlocks (p : BlocksPart) : Type 0 where
   pub version : (b : BlkId) → version_of (get p.now b) ≡ (if block_sealed (get p.now b) then 1 else 0)
   -- its content is as long as the block
   pub length : (b : BlkId) → bytes_length (born_content p.said (p.born b)) ≡ born_length (p.born b)
+  -- it has rows
+  pub some : (b : BlkId) (n : ℕ) → born_count (p.born b) ≡ Some n → 1 ≤ n
   -- each of its rows is the home of its tag
   pub at_home : (b : BlkId) (d : DiskId) (t : Tag) → born_tag (p.born b) d ≡ Some t → p.tagged t ≡ Some record { blk = b; disk = d }
 
