@@ -1,9 +1,9 @@
 -- the rows of a block as a map
 use Rattle.std.proofs.Common.{◌≡◌, List, [], Some, None, length}
-use Rattle.std.specs.FinMap.{FinMap, empty, get, len, find, put, from_sorted}
+use Rattle.std.specs.FinMap.{FinMap, empty, get, len, entries, find, put, from_sorted}
 use Rattle.ordered_rows.specs.Pairs.{IsRising, without}
 use Rattle.ordered_rows.specs.Maps.{set_at}
-use Rattle.ordered_rows.proofs.Made.{map_new, map_get, map_put, map_take, map_len}
+use Rattle.ordered_rows.proofs.Made.{map_new, map_get, map_put, map_take, map_len, map_entries}
 use Rattle.tect_ids.specs.declared.ids.DiskId.{DiskId}
 use Rattle.tect_ids.specs.declared.values.BlockRow.{BlockRow}
 use Rattle.tect_ids.specs.Keys.{disk_cmp}
@@ -14,6 +14,9 @@ block_rows_new = map_new disk_cmp disk_cmp_total disk_antisymmetric
 
 pub block_rows_len : (rows : List (DiskId × BlockRow)) → IsRising disk_cmp rows → len (from_sorted {R = disk_cmp} rows) ≡ length rows
 block_rows_len rows rising = map_len disk_cmp rows rising
+
+pub block_rows_entries : (rows : List (DiskId × BlockRow)) → IsRising disk_cmp rows → entries (from_sorted {R = disk_cmp} rows) ≡ rows
+block_rows_entries rows rising = map_entries disk_cmp rows rising
 
 module _ (rows : List (DiskId × BlockRow)) (disk : DiskId) where
   pub block_rows_get : IsRising disk_cmp rows → get (from_sorted {R = disk_cmp} rows) disk ≡ find disk_cmp disk rows
@@ -27,4 +30,4 @@ module _ (rows : List (DiskId × BlockRow)) (disk : DiskId) where
       ≡ set_at (from_sorted rows) disk None
   block_rows_take rising = map_take disk_cmp disk_cmp_total disk_antisymmetric rows disk rising
 
-pub ruleset block_rows = (block_rows_new, block_rows_len, block_rows_get, block_rows_put, block_rows_take)
+pub ruleset block_rows = (block_rows_new, block_rows_len, block_rows_entries, block_rows_get, block_rows_put, block_rows_take)

@@ -1,9 +1,10 @@
 ghost use Rattle.std.specs.Prelude.{◌≡◌, ◌==◌, OnOk, OnErr, Some, IsSome, IsOk};
 ghost use Rattle.std.specs.Option.{option_copied};
-ghost use Rattle.std.specs.FinMap.{empty, get, len};
+ghost use Rattle.std.specs.FinMap.{empty, get, len, entries};
+ghost use Rattle.ordered_rows.specs.Pairs.{left};
 ghost use Rattle.ordered_rows.specs.Maps.{set_at};
 
-use ordered_rows::Rows;
+use ordered_rows::{Cursor, Rows};
 use std::alloc::Global;
 use std::marker::Model;
 use tect_ids::{BlockRow, DiskId, NoMemory};
@@ -69,5 +70,12 @@ impl BlockRows {
             Ok(_) => Ok(()),
             Err(_) => Err(NoMemory),
         }
+    }
+
+    /// Goes over the rows, in the order of their disks. It takes no memory.
+    pub fn iter(&self) -> Cursor<'_, DiskId, BlockRow>
+        ensures { left result ≡ entries self.now }
+    {
+        self.rows.iter()
     }
 }
