@@ -1,6 +1,5 @@
 ghost use Rattle.std.specs.Prelude.{◌≡◌, Some, None, IfOk, OnOk, OnErr, is_some, map};
 ghost use Rattle.std.specs.FinMap.{get, entries};
-ghost use Rattle.key_maps.specs.RowsOfBlocks.{all_placed};
 ghost use Rattle.ordered_rows.specs.Maps.{set_at};
 ghost use Rattle.store_rules.specs.Blocks.{rows_from, new_block, make_block_answer, seal_block_answer, seal_block_change, sealed_block};
 ghost use Rattle.store_rules.specs.Blocks.{get_block_answer, shown_row, grant_block_answer, grant_block_change, block_with_hold};
@@ -179,7 +178,7 @@ fn seal(blocks: &mut BlkMap<Block>, blk: BlkId)
     if let Some(block) = blocks.get_mut(blk) {
         block.sealed = true;
         block.version = 1;
-        place_all(&mut block.rows);
+        block.rows.place_all();
     }
 }
 
@@ -206,9 +205,4 @@ fn release_hold(blocks: &mut BlkMap<Block>, blk: BlkId, hold: Hold)
     if let Some(block) = blocks.get_mut(blk) {
         let _ = block.holds.release(hold);
     }
-}
-
-fn place_all(rows: &mut BlockRows)
-    ensures { rows.new ≡ all_placed rows.old }
-{
 }
