@@ -1,9 +1,10 @@
-ghost use Rattle.std.specs.Prelude.{◌≡◌, ◌==◌, OnOk, OnErr, Some, IsSome, IsOk};
-ghost use Rattle.std.specs.Option.{option_copied};
-ghost use Rattle.std.specs.FinMap.{empty, get, len};
-ghost use Rattle.ordered_rows.specs.Maps.{set_at};
+ghost use Rattle.std.specs.Prelude.{◌≡◌, ◌==◌, OnOk, OnErr, Some, None, IsSome, IsOk};
+ghost use Rattle.std.specs.FinMap.{empty, get, len, entries};
+ghost use Rattle.map_words.specs.Pairs.{left};
+ghost use Rattle.map_words.specs.Maps.{set_at};
+ghost use Rattle.small_maps.specs.RowsOfBlocks.{all_placed, placed_row};
 
-use ordered_rows::Rows;
+use sorted_vec::{Pairs, SortedVec};
 use std::alloc::Global;
 use std::marker::Model;
 use tect_ids::{BlockRow, DiskId, NoMemory};
@@ -11,12 +12,11 @@ use tect_ids::{BlockRow, DiskId, NoMemory};
 /// The rows of a block, by disk. Contracts see a finite map.
 #[derive(Drop)]
 pub struct BlockRows {
-    rows: Rows<DiskId, BlockRow>,
+    rows: SortedVec<DiskId, BlockRow>,
 }
 
 impl Model for BlockRows {
     ghost use Rattle.std.specs.FinMap as map;
-    ghost use Rattle.ordered_rows.specs.Pairs.{pairs};
     ghost use Rattle.tect_ids.specs.Keys.{disk_cmp};
     ghost use Rattle.tect_ids.specs.declared.values.BlockRow.{BlockRow as AnyRow};
     ghost use Rattle.tect_ids.specs.Codes.{disk_code, block_row_code};
@@ -25,7 +25,7 @@ impl Model for BlockRows {
 
     ghost coded = { map.code disk_code block_row_code };
 
-    ghost view = { λ list. map.from_sorted (pairs list.rows) };
+    ghost view = { λ list. map.from_sorted list.rows };
 }
 
 #[tactic(auto, using(crate::proofs::RowsOfBlocks::block_rows))]
@@ -35,7 +35,7 @@ impl BlockRows {
         ensures { result ≡ empty }
     {
         BlockRows {
-            rows: Rows::new(alloc),
+            rows: SortedVec::new(alloc),
         }
     }
 
@@ -53,10 +53,10 @@ impl BlockRows {
     }
 
     /// The row on the disk. It takes no memory.
-    pub fn get(&self, disk: DiskId) -> Option<&BlockRow>
-        ensures { option_copied result ≡ get self.now disk }
+    pub fn get(&self, disk: DiskId) -> Option<BlockRow>
+        ensures { result ≡ get self.now disk }
     {
-        self.rows.get(&disk)
+        self.rows.get(&disk).copied()
     }
 
     /// Puts the row on the disk, which replaces the one that is there; that takes no memory.
@@ -69,5 +69,36 @@ impl BlockRows {
             Ok(_) => Ok(()),
             Err(_) => Err(NoMemory),
         }
+    }
+
+    /// Takes the row of the disk away, and returns it. It takes no memory.
+    pub fn take(&mut self, disk: DiskId) -> Option<BlockRow>
+        ensures value { result ≡ get self.old disk }
+        ensures others { self.new ≡ set_at self.old disk None }
+    {
+        self.rows.take(&disk)
+    }
+
+    /// Goes over the rows, in the order of their disks. It takes no memory.
+    pub fn iter(&self) -> Pairs<'_, DiskId, BlockRow>
+        ensures { left result ≡ entries self.now }
+    {
+        self.rows.iter()
+    }
+
+    /// Says of each row that its chunk stands on its disk. It takes no memory.
+    pub fn place_all(&mut self)
+        ensures { self.new ≡ all_placed self.old }
+    {
+        self.rows.map_values(
+            |row|
+                ensures { result ≡ placed_row row.now }
+            {
+                BlockRow {
+                    placed: true,
+                    ..*row
+                }
+            },
+        );
     }
 }
