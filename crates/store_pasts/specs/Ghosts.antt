@@ -1,7 +1,7 @@
 -- The store with what contracts alone see of its past, and what may be done to this past.
 use Rattle.std.specs.Prelude.{if◌then◌else◌, Option, Some, None}
 use Rattle.std.specs.FinMap.{FinMap, empty}
-use Rattle.ordered_rows.specs.Maps.{set_at}
+use Rattle.map_words.specs.Maps.{set_at}
 use Rattle.tect_ids.specs.declared.ids.Hold.{Hold}
 use Rattle.tect_ids.specs.declared.ids.Node.{Node}
 use Rattle.tect_ids.specs.declared.ids.Node.TheVariants.{Dir}

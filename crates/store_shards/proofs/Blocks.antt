@@ -5,8 +5,8 @@ use Rattle.tect_ids.specs.declared.ids.BlkId.{BlkId}
 use Rattle.tect_ids.specs.declared.key.Upper.TheVariants as uppers
 use Rattle.tect_ids.specs.Keys.{blk_cmp, blk_eq}
 use Rattle.tect_ids.proofs.KeyTests.{blk_antisymmetric, blk_cmp_total, blk_eq_cases, blk_ties}
-use Rattle.ordered_rows.specs.Maps.{set_at}
-use Rattle.ordered_rows.proofs.Maps.{get-set_at}
+use Rattle.map_words.specs.Maps.{set_at}
+use Rattle.map_words.proofs.Maps.{get-set_at}
 use Rattle.store_rules.specs.declared.blocks.Block.{Block}
 use Rattle.store_rules.specs.declared.blocks.BlockReply.{BlockReply}
 use Rattle.store_rules.specs.declared.blocks.BlockReq.{BlockReq}

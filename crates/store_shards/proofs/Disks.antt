@@ -5,8 +5,8 @@ use Rattle.tect_ids.specs.declared.ids.DiskId.{DiskId}
 use Rattle.tect_ids.specs.declared.key.ChunkKey.{ChunkKey}
 use Rattle.tect_ids.specs.Keys.{chunk_cmp, chunk_eq}
 use Rattle.tect_ids.proofs.KeyTests.{chunk_antisymmetric, chunk_cmp_total, chunk_eq_cases, chunk_ties}
-use Rattle.ordered_rows.specs.Maps.{set_at}
-use Rattle.ordered_rows.proofs.Maps.{get-set_at}
+use Rattle.map_words.specs.Maps.{set_at}
+use Rattle.map_words.proofs.Maps.{get-set_at}
 use Rattle.store_rules.specs.declared.disks.DiskReq.{DiskReq}
 use Rattle.store_rules.specs.declared.disks.DiskReq.TheVariants as req
 use Rattle.store_rules.specs.Disks.{Chunks, DiskRule, disk_rule, disk_answer, disk_change, disk_step}
