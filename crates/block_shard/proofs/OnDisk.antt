@@ -8,7 +8,7 @@ use Rattle.tect_ids.specs.declared.ids.BlkId.{BlkId}
 use Rattle.tect_ids.specs.declared.ids.DiskId.{DiskId}
 use Rattle.tect_ids.specs.Keys.{blk_eq, disk_eq, blk_cmp}
 use Rattle.tect_ids.proofs.KeyTests.{block_keys, blk_ties, blk_cmp_total, blk_antisymmetric}
-use Rattle.ordered_rows.specs.Pairs.{IsRising}
+use Rattle.map_words.specs.Pairs.{IsRising}
 use Rattle.key_maps.specs.declared.disk_blk.DiskBlk.{DiskBlk}
 use Rattle.key_maps.specs.DiskIndexes.{disk_blk_cmp, disk_blk_eq, blks_on}
 use Rattle.key_maps.proofs.DiskIndexes.{disk_blk_ties}

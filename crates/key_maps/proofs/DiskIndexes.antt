@@ -10,11 +10,11 @@ use Rattle.tect_ids.specs.declared.ids.BlkId.{BlkId}
 use Rattle.tect_ids.specs.declared.ids.DiskId.{DiskId}
 use Rattle.tect_ids.specs.Keys.{blk_eq, disk_eq, disk_cmp}
 use Rattle.tect_ids.proofs.KeyTests.{block_keys, blk_eq_cases, disk_eq_cases}
-use Rattle.ordered_rows.specs.Pairs.{IsRising, IsDownwardClosed, pairs_past, without}
-use Rattle.ordered_rows.specs.Maps.{set_at}
-use Rattle.ordered_rows.proofs.Entries.{take_while-past}
-use Rattle.ordered_rows.proofs.Made.{map_new, map_get, map_put, map_take, map_entries}
-use Rattle.ordered_rows.proofs.Maps.{get-set_at}
+use Rattle.map_words.specs.Pairs.{IsRising, IsDownwardClosed, pairs_past, without}
+use Rattle.map_words.specs.Maps.{set_at}
+use Rattle.map_words.proofs.Entries.{take_while-past}
+use Rattle.map_words.proofs.Made.{map_new, map_get, map_put, map_take, map_entries}
+use Rattle.map_words.proofs.Maps.{get-set_at}
 use Rattle.key_maps.specs.contracts.disk_blk.DiskBlkOrd.TheImpl.Laws as disk_blk_laws
 use Rattle.key_maps.specs.declared.disk_blk.DiskBlk.{DiskBlk}
 use Rattle.key_maps.specs.DiskIndexes.{disk_blk_cmp, disk_blk_eq, blks_of_front, blks_on}

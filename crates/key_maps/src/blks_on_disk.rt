@@ -1,6 +1,6 @@
 ghost use Rattle.std.specs.Prelude.{◌≡◌, length};
 ghost use Rattle.std.specs.Iterator.{YieldsFirst, at_most};
-ghost use Rattle.ordered_rows.specs.Pairs.{left};
+ghost use Rattle.map_words.specs.Pairs.{left};
 ghost use Rattle.key_maps.specs.DiskIndexes.{blks_left, blks_of_front};
 
 use crate::disk_blk::DiskBlk;

@@ -2,8 +2,8 @@ ghost use Rattle.std.specs.Prelude.{◌≡◌, ◌==◌, Some, None, IsSome, IsO
 ghost use Rattle.std.specs.Option.{option_copied, option_copied_mut};
 ghost use Rattle.std.specs.FinMap.{empty, get, len, entries};
 ghost use Rattle.std.specs.Borrow.{LendsIf, sem};
-ghost use Rattle.ordered_rows.specs.Pairs.{left};
-ghost use Rattle.ordered_rows.specs.Maps.{set_at};
+ghost use Rattle.map_words.specs.Pairs.{left};
+ghost use Rattle.map_words.specs.Maps.{set_at};
 ghost use Rattle.key_maps.specs.contracts.by_blk.BlkMap.{the_row};
 
 use ordered_rows::{Cursor, Rows};

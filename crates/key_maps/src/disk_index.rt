@@ -1,6 +1,6 @@
 ghost use Rattle.std.specs.Prelude.{◌≡◌, OnOk, OnErr, Some, None, IsSome, IsOk};
 ghost use Rattle.std.specs.FinMap.{empty, get};
-ghost use Rattle.ordered_rows.specs.Maps.{set_at};
+ghost use Rattle.map_words.specs.Maps.{set_at};
 ghost use Rattle.key_maps.specs.DiskIndexes.{blks_on, blks_left};
 
 use crate::blks_on_disk::BlksOnDisk;

@@ -1,6 +1,6 @@
 ghost use Rattle.std.specs.Prelude.{◌≡◌, length};
 ghost use Rattle.std.specs.Iterator.{YieldsFirstBy, at_most};
-ghost use Rattle.ordered_rows.specs.Pairs.{left, pair_of};
+ghost use Rattle.map_words.specs.Pairs.{left, pair_of};
 ghost use Rattle.key_maps.specs.Chunks.{front_on};
 
 use ordered_rows::Cursor;
