@@ -10,7 +10,7 @@ use Rattle.tect_ids.specs.Places.{HasPlaces, kept_count, layer_at}
 use Rattle.store_rules.specs.Alone.{opening_of, request_layer}
 use Rattle.store_rules.specs.Places.{request_place}
 use Rattle.store_rules.specs.Store.{Store, opening_store, store_reply, store_step}
-use Rattle.store_rules.proofs.Asked.{asked_layer, asked_place}
+use Rattle.store_shards.proofs.Asked.{asked_layer, asked_place}
 use Rattle.store_shards.specs.Shards.{AreWhole, Parts, opening_parts, parts_step, place_eq}
 use Rattle.store_shards.proofs.Parts.{opening_whole, same_reply, step_whole}
 use Rattle.store_shards.proofs.Rows.{opening_is}
