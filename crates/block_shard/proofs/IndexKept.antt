@@ -1,5 +1,5 @@
 -- the index after a change of one block
-use Rattle.std.proofs.Common.{◌≡◌, true, false, List, Option, Some, None, is_some, if◌then◌else◌, arith}
+use Rattle.std.proofs.Common.{◌≡◌, true, List, Option, Some, None, if◌then◌else◌, arith}
 use Rattle.std.proofs.Common.{Result, Ok, Err, is_err, OnOk, OnErr}
 use Rattle.std.specs.FinMap.{FinMap, get, empty}
 use Rattle.tect_ids.specs.declared.ids.BlkId.{BlkId}
