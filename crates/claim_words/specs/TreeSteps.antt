@@ -43,12 +43,18 @@ abbrev pub file_says : FileReply → TreeReply
 file_says file_replies.Made = Ok shown.Done
 file_says file_replies.Granted = Ok shown.Done
 file_says (file_replies.Released was) = Ok shown.Done
+file_says file_replies.Opened = Ok shown.Done
+file_says (file_replies.Attached i) = Ok shown.Done
+file_says (file_replies.Blocks sealed rows) = Ok shown.Done
 file_says file_replies.HasId = Refused Exists
 file_says (file_replies.Refused why) = Refused why
 
+-- no step has to do with blocks and disks yet
 abbrev pub says : AnyReply → TreeReply
 says (any_reply.Name x) = name_says x
 says (any_reply.File x) = file_says x
+says (any_reply.Block x) = Ok shown.Done
+says (any_reply.Disk x) = Ok shown.Done
 
 -- a grant is a step only where it is refused
 abbrev pub where_refused : TreeStep → TreeReply → Option TreeStep
@@ -67,16 +73,26 @@ name_step_of (names.Unbind k w) x = Some (step.Unbind k w)
 name_step_of (names.Grant d h k) x = where_refused (step.GrantDir d) (name_says x)
 name_step_of (names.Release d h) x = None
 
+-- the small machine gets files' tokens and blocks with the commands that ask for them
 abbrev pub file_step_of : FileReq → FileReply → Option TreeStep
 file_step_of (files.MakeFile f h k t) x = Some (step.MakeFile f t)
 file_step_of (files.Grant f h k) x = where_refused (step.GrantFile f) (file_says x)
 file_step_of (files.Release f h) x = None
+file_step_of (files.TakeToken f t) x = None
+file_step_of (files.Attach f t b n h) x = None
+file_step_of (files.ListBlocks f) x = None
 
 abbrev pub tree_step : AnyReq → AnyReply → Option TreeStep
 tree_step (any.Name q) (any_reply.Name x) = name_step_of q x
 tree_step (any.File q) (any_reply.File x) = file_step_of q x
 tree_step (any.Name q) (any_reply.File x) = None
+tree_step (any.Name q) (any_reply.Block x) = None
+tree_step (any.Name q) (any_reply.Disk x) = None
 tree_step (any.File q) (any_reply.Name x) = None
+tree_step (any.File q) (any_reply.Block x) = None
+tree_step (any.File q) (any_reply.Disk x) = None
+tree_step (any.Block q) x = None
+tree_step (any.Disk q) x = None
 
 -- a step in a history: whose it was, what it did, and what was said to it
 pub record Told : Type 0 where

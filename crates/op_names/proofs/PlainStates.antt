@@ -10,7 +10,7 @@ use Rattle.tect_ids.specs.declared.ids.Place.{Place}
 use Rattle.tect_ids.specs.declared.key.Key.{Key}
 use Rattle.tect_ids.specs.declared.values.Listed.{Listed}
 use Rattle.tect_ids.specs.declared.values.Refusal.{Refusal}
-use Rattle.tect_ids.specs.declared.values.Refusal.TheVariants.{NoDir, NoName, NoFile, Exists, IsDir, Sealed, Full, Changed}
+use Rattle.tect_ids.specs.declared.values.Refusal.TheVariants.{NoDir, NoName, NoFile, Exists, IsDir, Sealed, Full, Changed, TokenChanged}
 use Rattle.tect_ids.specs.declared.answer.Answer.{Answer}
 use Rattle.tect_ids.specs.declared.command.Command.{Command}
 use Rattle.tect_ids.specs.Keys.{name_eq}
@@ -69,6 +69,8 @@ plain_refusal k IsDir l = l
 plain_refusal k Sealed l = l
 plain_refusal k Full l = l
 plain_refusal k (Changed now) l = l
+plain_refusal k (TokenChanged None) l = l
+plain_refusal k (TokenChanged (Some now)) l = l
 
 plain_refused : (place : Place) (k : Key) (x : AnyReply) → ¬ IsLack (refusal place k x)
 plain_refused place k (any.Name (names.Refused why)) = plain_refusal k why

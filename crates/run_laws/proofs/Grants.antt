@@ -8,7 +8,7 @@ use Rattle.tect_ids.specs.Keys.{op_eq}
 use Rattle.tect_ids.proofs.KeyTests.{keys}
 use Rattle.store_rules.specs.declared.any.AnyReq.{AnyReq}
 use Rattle.store_rules.specs.declared.any.AnyReply.{AnyReply}
-use Rattle.store_rules.specs.Holds.{Grant, HoldUse, Grants, Binds, GivesUp, NoHold, hold_use, granted_by, grant_of, spent_by, spends}
+use Rattle.store_rules.specs.Holds.{Grant, HoldUse, Grants, GrantsRow, Binds, GivesUp, NoHold, hold_use, granted_by, grant_of, spent_by, spends}
 use Rattle.store_rules.specs.Store.{store_reply}
 use Rattle.store_rules.specs.Views.{is_granted}
 use Rattle.program_forms.specs.declared.heard.Heard.{Heard}
@@ -27,7 +27,8 @@ use Rattle.store_world.specs.Sound.{Sound}
 use Rattle.store_pasts.specs.Requests.{Needs, is_moved, touched_by}
 use Rattle.store_pasts.proofs.Over.{settles_nothing}
 use Rattle.store_world.proofs.Rows.{role_laws}
-use Rattle.program_laws.specs.Known.{Deciding, Known}
+use Rattle.store_pasts.proofs.Sayings.{saying_later}
+use Rattle.program_laws.specs.Known.{Deciding, Known, command_bytes}
 use Rattle.program_laws.specs.Laws.{ProgramLaws, HoldLaws}
 use Rattle.run_laws.specs.Pasts.{ghosts_after, ghost_after, world_of, world}
 use Rattle.run_laws.specs.Known.{AllSound}
@@ -42,6 +43,7 @@ use Rattle.run_laws.proofs.RunsKeep.{run_world_sound}
 left_by : (u : HoldUse) (w : World) (h : Hold) (g : Given) → w.ghost.given h ≡ Some g
     → ((a : Grant) → granted_by u ≡ Some a → w.ghost.given a.hold ≡ None) → spent_by h u ≡ false → is_moved u h ≡ false
 left_by (Grants a) w h g is new un = grind (arith, keys, new a refl)
+left_by (GrantsRow a) w h g is new un = refl
 left_by (Binds o) w h g is new un = grind (arith, keys)
 left_by (GivesUp o) w h g is new un = refl
 left_by NoHold w h g is new un = refl
@@ -57,6 +59,7 @@ both_fail false b is e = absurd (let k : false ≡ true = is in cc)
 -- what is asked for is touched
 moved_by : (u : HoldUse) (g : Grant) → granted_by u ≡ Some g → is_moved u g.hold ≡ true
 moved_by (Grants a) g e = let same : a ≡ g = cc in rw (← same) (grind (arith, keys))
+moved_by (GrantsRow a) g e = absurd (let k : None ≡ Some g = e in cc)
 moved_by (Binds o) g e = absurd (let k : None ≡ Some g = e in cc)
 moved_by (GivesUp o) g e = absurd (let k : None ≡ Some g = e in cc)
 moved_by NoHold g e = absurd (let k : None ≡ Some g = e in cc)
@@ -161,7 +164,7 @@ module _ {S : Type 0} (P : Programs S) (D : Deciding S Answer) (N : Known S Answ
   held_step m g s h v is live (Own op (Acted q x heard)) may un =
       let by : (st : S) × IsAsked P m op q st = asked_by_op P m op q may.0 in
       held_act m g s op q by.0 by.1 h v is live x heard may.1 un
-  held_step m g s h v is live (Own op (Began c)) may un = is
+  held_step m g s h v is live (Own op (Began c)) may un = (saying_later (world_of m g) op (command_bytes c)).live h v refl is live
   held_step m g s h v is live (Own op (NotBegun c)) may un = is
   held_step m g s h v is live (Own op (Ended a)) may un = is
   held_step m g s h v is live (Own op Stopped) may un = is

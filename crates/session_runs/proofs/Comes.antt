@@ -253,8 +253,8 @@ module _ (m : WorldState Program) (t : Tree) (op : OpId) (own : ℕ) (b : Answer
       no_step (nodes.File f) h = refl
 
       none_taken : (n : Node) (h : Hold) → serial_after own (release_ask n h) (store_reply m.store (release_ask n h)) ≡ own
-      none_taken (nodes.Dir d) h = rw ((role_laws (release_ask (nodes.Dir d) h)).untold m.store refl) refl
-      none_taken (nodes.File f) h = rw ((role_laws (release_ask (nodes.File f) h)).untold m.store refl) refl
+      none_taken (nodes.Dir d) h = rw ((role_laws (release_ask (nodes.Dir d) h)).untold m.store refl tt) refl
+      none_taken (nodes.File f) h = rw ((role_laws (release_ask (nodes.File f) h)).untold m.store refl tt) refl
 
   -- the hold of a file that was replaced is released
   pub then_goes : (o : Option Freed)

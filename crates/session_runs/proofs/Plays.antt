@@ -121,7 +121,7 @@ module _ (m : WorldState Program) (t : Tree) (op : OpId) (own : ℕ) (k : Key) (
       let stands : StandsAt look_after t op own (look_next (looked (request_place m.counts look_request) k look_reply
       (as_found look_reply))) =
       stands_as _ _ t op _ own _ _ (next_stands m t op own (looks (looking.Entry k)) st look_request refl) (unread (says look_reply))
-      (none_taken m.store own look_request ((role_laws look_request).untold m.store refl)) refl in
+      (none_taken m.store own look_request ((role_laws look_request).untold m.store refl tt)) refl in
       subst (λ (u : Tree). Goes look_after u op (session.looked t op own k) 0 → Goes m t op (session.looked t op own k) 1)
       (unread (says look_reply))
       (step_goes m t op own (looks (looking.Entry k)) st look_request refl (session.looked t op own k) 0)
@@ -238,7 +238,7 @@ module _ (m : WorldState Program) (t : Tree) (op : OpId) (own : ℕ) (k : Key) (
   bind_goes =
       let stands : StandsAt mid u op own (make_next (bound (request_place m.counts q) k n (own_hold op) y (bound_freed (as_bound y)))) =
       stands_as mid _ u op _ own _ _ (next_stands m t op own state st q refl) bind_tree
-      (none_taken m.store own q ((role_laws q).untold m.store refl)) refl in
+      (none_taken m.store own q ((role_laws q).untold m.store refl tt)) refl in
       subst (λ (v : Tree). Goes mid v op p left → Goes m t op p (left + 1)) bind_tree
       (step_goes m t op own state st q refl p left)
       (bound_goes (request_place m.counts q) (as_bound y) refl stands)

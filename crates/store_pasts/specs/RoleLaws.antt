@@ -18,6 +18,6 @@ pub record RoleLaws (q : AnyReq) : Type 0 where
   pub granted : (v : World) (x : AnyReply) (g : Grant) → grant_of q ≡ Some g → is_granted x ≡ true → Taught v q x
       → IsGranted v g.hold g.node g.key
   pub told : (v : World) (x : AnyReply) → makes q ≡ true → Taught v q x → is_made x ≡ true
-  pub untold : (s : Store) → makes q ≡ false → is_made (store_reply s q) ≡ false
+  pub untold : (s : Store) → makes q ≡ false → (role q).fits → is_made (store_reply s q) ≡ false
   pub fresh : (w : World) (n : Node) → (role q).makes ≡ Some n → Needs w q → was_made w.ghost n ≡ false
   pub fits : (w : World) → Needs w q → (role q).fits

@@ -68,7 +68,13 @@ abbrev pub file_taught : FileReq → AnyReply → List Fact
 file_taught (files.MakeFile f h k t) x = made_facts (nodes.File f) h (is_made x)
 file_taught (files.Grant f h k) x = granted_facts h (is_granted x)
 file_taught (files.Release f h) x = []
+file_taught (files.TakeToken f t) x = []
+file_taught (files.Attach f t b n h) x = []
+file_taught (files.ListBlocks f) x = []
 
+-- replies of blocks and disks teach nothing yet
 abbrev pub taught : AnyReq → AnyReply → List Fact
 taught (any.Name q) x = name_taught q x
 taught (any.File q) x = file_taught q x
+taught (any.Block q) x = []
+taught (any.Disk q) x = []

@@ -137,7 +137,10 @@ fn taught_by_file(alloc: Global, req: &FileReq, reply: &AnyReply) -> Result<Vec<
     match req {
         FileReq::MakeFile { file, hold, .. } => of_making(alloc, Node::File(*file), *hold, reply),
         FileReq::Grant { hold, .. } => of_grant(alloc, *hold, reply),
-        FileReq::Release { .. } => Ok(Vec::new(alloc)),
+        FileReq::Release { .. }
+        | FileReq::TakeToken { .. }
+        | FileReq::Attach { .. }
+        | FileReq::ListBlocks { .. } => Ok(Vec::new(alloc)),
     }
 }
 
@@ -151,6 +154,7 @@ pub fn learn(alloc: Global, asked: &AnyReq, reply: &AnyReply) -> Result<Learned,
     let tokens = match asked {
         AnyReq::Name(req) => taught_by_name(alloc, req, reply)?,
         AnyReq::File(req) => taught_by_file(alloc, req, reply)?,
+        AnyReq::Block(_) | AnyReq::Disk(_) => Vec::new(alloc),
     };
     Ok(Learned { tokens })
 }

@@ -2,6 +2,7 @@
 use Rattle.std.proofs.Common.{◌≡◌, ◌≢◌, ℕ, Bool, true, false, Option, Some, None, refl, sym, ap, ◌∙◌, arith, if◌then◌else◌, List, [], ◌∷◌}
 use Rattle.std.proofs.Common.{map}
 use Rattle.std.specs.FinMap.{FinMap, get, entries, empty}
+use Rattle.tect_ids.specs.declared.ids.BlkId.{BlkId}
 use Rattle.tect_ids.specs.declared.ids.DirId.{DirId}
 use Rattle.tect_ids.specs.declared.ids.FileId.{FileId}
 use Rattle.tect_ids.specs.declared.ids.Hold.{Hold}
@@ -22,10 +23,13 @@ use Rattle.store_rules.specs.declared.names.NameReq.{NameReq}
 use Rattle.store_rules.specs.declared.names.NameReq.TheVariants as names
 use Rattle.store_rules.specs.declared.files.FileReq.{FileReq}
 use Rattle.store_rules.specs.declared.files.FileReq.TheVariants as files
+use Rattle.store_rules.specs.declared.file_rows.FileRow.{FileRow}
+use Rattle.store_rules.specs.declared.blocks.BlockReq.{BlockReq}
+use Rattle.store_rules.specs.declared.disks.DiskReq.{DiskReq}
 use Rattle.store_rules.specs.declared.any.AnyReq.{AnyReq}
 use Rattle.store_rules.specs.declared.any.AnyReq.TheVariants as any
 use Rattle.store_rules.specs.Names.{key_in, listed, dir_with_hold}
-use Rattle.store_rules.specs.Files.{file_with_hold}
+use Rattle.store_rules.specs.Files.{file_with_hold, file_with_row}
 use Rattle.store_rules.specs.Store.{Store, store_reply, store_change, store_changes}
 use Rattle.tree_model.specs.declared.step.TreeStep.{TreeStep}
 use Rattle.tree_model.specs.declared.step.TreeStep.TheVariants as step
@@ -154,6 +158,12 @@ module _ (s : Store) (made : Made) (op : OpId) where
   file_holds_alike f h u i = record (view s made)
       { files = file_alike shown_file s.files f (file_with_hold (get s.files f) h u) (grind arith) i }
 
+  -- nor is what changes the rows of a file
+  file_rows_alike : (f : FileId) (r : FileRow)
+      → view record s { files = set_at s.files f (file_with_row (get s.files f) r) } made ≡ view s made
+  file_rows_alike f r i = record (view s made)
+      { files = file_alike shown_file s.files f (file_with_row (get s.files f) r) (grind arith) i }
+
   grant_dir_shows : (d : DirId) (h : Hold) (k : Key) → StepShows s made op (any.Name (names.Grant d h k))
   grant_dir_shows d h k = by_refused (any.Name (names.Grant d h k)) (step.GrantDir d) _ refl
       (λ refused. (grind arith, grind (arith, get-map_values), grind arith))
@@ -177,9 +187,23 @@ module _ (s : Store) (made : Made) (op : OpId) where
       (λ ok i. record {
         dirs = map_values shown_dir s.names.dirs;
         entries = map_values shown_entry s.names.entries;
-        files = file_put shown_file s.files f (Some record { token = t; holds = set_at empty h (Some (uppers.Entry k)) }) i;
+        files = file_put shown_file s.files f
+            (Some record { token = t; sealed = false; holds = set_at empty h (Some (uppers.Entry k)); rows = [] }) i;
         made = set_at made (nodes.File f) (Some tt);
       })
+
+  attach_shows : (f : FileId) (t : OpId) (b : BlkId) (n : ℕ) (h : Hold) → StepShows s made op (any.File (files.Attach f t b n h))
+  attach_shows f t b n h = unseen (any.File (files.Attach f t b n h)) _ (λ ok. file_rows_alike f record { blk = b; len = n; hold = h })
+
+  list_blocks_shows : (f : FileId) → StepShows s made op (any.File (files.ListBlocks f))
+  list_blocks_shows f = unseen (any.File (files.ListBlocks f)) _ (λ ok. refl)
+
+  -- the tree shows no blocks and no chunks
+  block_shows : (q : BlockReq) → StepShows s made op (any.Block q)
+  block_shows q = unseen (any.Block q) _ (λ ok. refl)
+
+  disk_shows : (q : DiskReq) → StepShows s made op (any.Disk q)
+  disk_shows q = unseen (any.Disk q) _ (λ ok. refl)
 
   -- the whole table
   name_shows : (q : NameReq) → AllMade s made → MakesNew made (any.Name q) → StepShows s made op (any.Name q)
@@ -197,7 +221,12 @@ module _ (s : Store) (made : Made) (op : OpId) where
   file_shows (files.MakeFile f h k t) all new = make_file_shows f h k t all (new.new (nodes.File f) refl)
   file_shows (files.Grant f h k) all new = grant_file_shows f h k
   file_shows (files.Release f h) all new = release_file_shows f h
+  file_shows (files.TakeToken f t) all new = absurd new.fits
+  file_shows (files.Attach f t b n h) all new = attach_shows f t b n h
+  file_shows (files.ListBlocks f) all new = list_blocks_shows f
 
   pub request_shows : (q : AnyReq) → AllMade s made → MakesNew made q → StepShows s made op q
   request_shows (any.Name q) all new = name_shows q all new
   request_shows (any.File q) all new = file_shows q all new
+  request_shows (any.Block q) all new = block_shows q
+  request_shows (any.Disk q) all new = disk_shows q

@@ -27,7 +27,7 @@ Made = FinMap node_cmp (Unit {0})
 abbrev pub shown_dir : Directory → TreeDir
 shown_dir d = record { parent = d.parent; sealed = d.sealed }
 
--- a file without its holds
+-- a file without its holds and rows
 abbrev pub shown_file : File → TreeFile
 shown_file f = record { token = f.token }
 

@@ -13,6 +13,10 @@ use Rattle.store_rules.specs.declared.names.NameReq.{NameReq}
 use Rattle.store_rules.specs.declared.names.NameReq.TheVariants as names
 use Rattle.store_rules.specs.declared.files.FileReq.{FileReq}
 use Rattle.store_rules.specs.declared.files.FileReq.TheVariants as files
+use Rattle.store_rules.specs.declared.blocks.BlockReq.{BlockReq}
+use Rattle.store_rules.specs.declared.blocks.BlockReq.TheVariants as blocks
+use Rattle.store_rules.specs.declared.disks.DiskReq.{DiskReq}
+use Rattle.store_rules.specs.declared.disks.DiskReq.TheVariants as disks
 use Rattle.store_rules.specs.declared.any.AnyReq.{AnyReq}
 use Rattle.store_rules.specs.declared.any.AnyReq.TheVariants as any
 use Rattle.store_rules.specs.declared.any.AnyReply.{AnyReply}
@@ -120,10 +124,26 @@ module _ (s : Store) (g : Ghost) (t : Tree) (op : OpId) where
   file_request_within (files.Grant f h k) = makes_none (any.File (files.Grant f h k)) refl
       (same_refused t op (step.GrantFile f) (says (store_reply s (any.File (files.Grant f h k)))) refl)
   file_request_within (files.Release f h) = makes_none (any.File (files.Release f h)) refl refl
+  file_request_within (files.TakeToken f token) = makes_none (any.File (files.TakeToken f token)) refl refl
+  file_request_within (files.Attach f token b n h) = makes_none (any.File (files.Attach f token b n h)) refl refl
+  file_request_within (files.ListBlocks f) = makes_none (any.File (files.ListBlocks f)) refl refl
+
+  block_request_within : (q : BlockReq) → StaysWithin s g t op (any.Block q)
+  block_request_within (blocks.MakeBlock b c n f h rs) = makes_none (any.Block (blocks.MakeBlock b c n f h rs)) refl refl
+  block_request_within (blocks.SealBlock b) = makes_none (any.Block (blocks.SealBlock b)) refl refl
+  block_request_within (blocks.GetBlock b) = makes_none (any.Block (blocks.GetBlock b)) refl refl
+  block_request_within (blocks.Grant b h f) = makes_none (any.Block (blocks.Grant b h f)) refl refl
+  block_request_within (blocks.Release b h) = makes_none (any.Block (blocks.Release b h)) refl refl
+
+  disk_request_within : (q : DiskReq) → StaysWithin s g t op (any.Disk q)
+  disk_request_within (disks.Put c bytes) = makes_none (any.Disk (disks.Put c bytes)) refl refl
+  disk_request_within (disks.Get c) = makes_none (any.Disk (disks.Get c)) refl refl
 
   request_within : (q : AnyReq) → StaysWithin s g t op q
   request_within (any.Name q) = name_within q
   request_within (any.File q) = file_request_within q
+  request_within (any.Block q) = block_request_within q
+  request_within (any.Disk q) = disk_request_within q
 
 -- ---- a run
 
