@@ -15,8 +15,15 @@ use Rattle.entry_words.specs.declared.entry.Moment.TheVariants.{Act, Local}
 use Rattle.entry_words.specs.declared.entry.Note.{Note}
 use Rattle.entry_words.specs.declared.entry.Note.TheVariants.{Began, Ended, Stopped}
 
+-- two entries are one where all their parts are
+parts : (a b : Entry) → b.stamp ≡ a.stamp → b.place ≡ a.place → b.actor ≡ a.actor → b.number ≡ a.number → b.step ≡ a.step
+    → b.req ≡ a.req → b.reply ≡ a.reply → b ≡ a
+parts a b e f g h i j k = search rules
+
 pub same_entry : (a b : Entry) → (entry_clone.ghosts).is_clone a b → b ≡ a
-same_entry a b h = search (rules, same_req, same_reply)
+same_entry a b h =
+    let (stamp, (place, (actor, (number, (step, (req, reply)))))) = h in
+    parts a b stamp place actor number step (same_req a.req b.req req) (same_reply a.reply b.reply reply)
 
 tie_began : (o p : OpId) (c d : Command) → o ≡ p → c ≡ d → Began o c ≡ Began p d
 tie_began o p c d e f = cc
