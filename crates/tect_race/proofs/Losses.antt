@@ -4,7 +4,7 @@ use Rattle.tect_ids.specs.declared.ids.Counts.{Counts}
 use Rattle.tect_ids.specs.Places.{HasPlaces, place_count}
 use Rattle.store_rules.specs.declared.any.AnyReq.{AnyReq}
 use Rattle.store_rules.specs.Places.{request_place}
-use Rattle.store_rules.proofs.Asked.{asked_place}
+use Rattle.store_shards.proofs.Asked.{asked_place}
 use Rattle.entry_words.specs.declared.entry.Entry.{Entry}
 use Rattle.entry_words.specs.declared.entry.Label.{Label}
 use Rattle.entry_words.specs.declared.entry.Refused.{Refused}
