@@ -46,9 +46,21 @@ kept_disks = search (sendable, crosses, label.the_send, disks.the_send, history)
 
 kept : IsSend (AnyKept.the_field).row
 kept =
-    search
-    (sendable, crosses, enum_send, label.the_send, names.the_send, files.the_send, blocks.the_send, disks.the_send, history, kept_names,
-    kept_files, kept_blocks, kept_disks) depth 40
+    search (
+      sendable,
+      crosses,
+      enum_send,
+      label.the_send,
+      names.the_send,
+      files.the_send,
+      blocks.the_send,
+      disks.the_send,
+      history,
+      kept_names,
+      kept_files,
+      kept_blocks,
+      kept_disks,
+    ) depth 40
 
 pub AnyKept-send : IsSend AnyKept.the_row
 AnyKept-send = search (sendable, crosses, recorded_send, kept) depth 20
