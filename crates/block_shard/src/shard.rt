@@ -120,8 +120,8 @@ impl BlockShard {
         }
     }
 
-    /// Goes over the blocks that have a row on the disk, in the order of their identifiers. It looks at no other block, and takes
-    /// no memory.
+    /// Goes over the blocks that have a row on the disk, in the order of their identifiers. It takes no memory, and its time goes
+    /// by these blocks alone but for a look-up.
     pub fn on_disk(&self, disk: DiskId) -> BlksOnDisk<'_>
         ensures { blks_left result ≡ blocks_on self.now disk }
     {

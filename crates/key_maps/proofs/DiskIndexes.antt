@@ -1,15 +1,14 @@
 -- which blocks have a row on which disk: pairs in rows, those at the front of a list that are of one disk, and all of that disk
-use Rattle.std.proofs.Common.{◌≡◌, ◌≢◌, Bool, true, false, not, ◌&&◌, eqb, List, [], ◌∷◌, ◌⊎◌, Option, Some, None, length, cond, map}
+use Rattle.std.proofs.Common.{◌≡◌, ◌≢◌, Bool, true, false, not, ◌&&◌, eqb, List, [], ◌∷◌, ◌⊎◌, Option, Some, None, cond, map}
 use Rattle.std.proofs.Common.{if◌then◌else◌, refl, sym, ap, ◌∙◌, arith}
 use Rattle.std.specs.declared.cmp.Ordering.TheVariants.{Equal}
 use Rattle.std.specs.List.{filter}
 use Rattle.std.specs.Ordering.{is_lt, eq_by_cmp}
 use Rattle.std.specs.Cmp.{IsTotalOrder}
-use Rattle.std.specs.FinMap.{FinMap, empty, get, find, put, entries, from_sorted}
-use Rattle.tect_ids.specs.declared.ids.BlkId.{BlkId}
+use Rattle.std.specs.FinMap.{FinMap, empty, get, find, put, from_sorted}
 use Rattle.tect_ids.specs.declared.ids.DiskId.{DiskId}
 use Rattle.tect_ids.specs.Keys.{blk_eq, disk_eq, disk_cmp}
-use Rattle.tect_ids.proofs.KeyTests.{block_keys, blk_eq_cases, disk_eq_cases}
+use Rattle.tect_ids.proofs.KeyTests.{blk_eq_cases, disk_eq_cases}
 use Rattle.map_words.specs.Pairs.{IsRising, IsDownwardClosed, pairs_past, without}
 use Rattle.map_words.specs.Maps.{set_at}
 use Rattle.map_words.proofs.Entries.{take_while-past}

@@ -1,4 +1,4 @@
-use Rattle.std.proofs.Common.{◌≡◌, Some, None, take, if◌then◌else◌}
+use Rattle.std.proofs.Common.{◌≡◌, Some, take, if◌then◌else◌}
 use Rattle.std.specs.FinMap.{get}
 use Rattle.key_maps.specs.declared.disk_blk.DiskBlk.{DiskBlk}
 use Rattle.block_shard.specs.Index.{is_row_of}

@@ -18,7 +18,7 @@ use Rattle.session_runs.specs.Session.{IsPlayed, session_lines, session_script}
 use Rattle.session_runs.specs.Well.{NoneFails}
 use Rattle.run_claims.specs.Claims.{IsHistory}
 use Rattle.world_runs.specs.Smooth.{EndsAtOnce, IsSmoothRun}
-use Rattle.tect_replay.specs.Output.{plan_report, output_text}
+use Rattle.replay_stories.specs.Output.{plan_report, output_text}
 
 -- the line does not say that a reply was odd
 abbrev pub IsNotOdd : ReportLine → Type 0

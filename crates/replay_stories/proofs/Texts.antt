@@ -10,7 +10,7 @@ use Rattle.tect_ids.specs.declared.script.ReportLine.{ReportLine}
 use Rattle.tect_ids.specs.declared.script.ReportLine.TheVariants as lines
 use Rattle.tect_text.specs.DumpText.{dump_text}
 use Rattle.tect_edge.specs.Prefixes.{AppendsProperPrefix}
-use Rattle.tect_replay.specs.Output.{line_text, lines_text, AppendsPrefix}
+use Rattle.replay_stories.specs.Output.{line_text, lines_text, AppendsPrefix}
 
 -- nothing is a front of any text
 pub prefix_none : (old : Option (List ℕ)) (text : List ℕ) → AppendsPrefix old old text

@@ -34,11 +34,11 @@ use Rattle.world_runs.specs.Limits.{KeepsLimits, KeepsLimitsAfter, EndsFull, Fin
 use Rattle.std.specs.Prelude.{nat_le}
 use Rattle.std.proofs.lemmas.Bool.Decides.{nat_tests}
 use Rattle.world_lives.specs.Life.{Life, present}
-use Rattle.tect_replay.specs.Output.{lines_text, end_text, plan_report, AppendsPrefix}
+use Rattle.replay_stories.specs.Output.{lines_text, end_text, plan_report, AppendsPrefix}
 use Rattle.whole_runs.specs.Playable.{IsWithin, IsPlayable}
-use Rattle.tect_replay.specs.Replays.{IsOnlyRun, IsRunOf, IsCutReplay}
-use Rattle.tect_replay.specs.Plays.{CanDo, CanPlay, PlaysLine}
-use Rattle.tect_replay.proofs.Texts.{prefix_longer, prefix_less, lines-append}
+use Rattle.replay_stories.specs.Replays.{IsOnlyRun, IsRunOf, IsCutReplay}
+use Rattle.replay_stories.specs.Plays.{CanDo, CanPlay, PlaysLine}
+use Rattle.replay_stories.proofs.Texts.{prefix_longer, prefix_less, lines-append}
 
 -- ---- turns
 

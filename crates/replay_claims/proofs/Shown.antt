@@ -36,8 +36,8 @@ use Rattle.session_runs.proofs.Standings.{next_same}
 use Rattle.whole_runs.proofs.Actors.{after_all-append}
 use Rattle.script_runs.proofs.Histories.{run-append}
 use Rattle.session_runs.proofs.Scripts.{session_reported}
-use Rattle.tect_replay.specs.Replays.{IsReplayed, IsCutReplay}
-use Rattle.tect_app.specs.Replays.{IsNotOdd, IsHistoryOf, IsReplayShown, IsReplayCut}
+use Rattle.replay_stories.specs.Replays.{IsReplayed, IsCutReplay}
+use Rattle.replay_claims.specs.Claimed.{IsNotOdd, IsHistoryOf, IsReplayShown, IsReplayCut}
 
 -- ---- no answer is odd
 

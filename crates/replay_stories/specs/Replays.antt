@@ -10,7 +10,7 @@ use Rattle.world_runs.specs.Limits.{KeepsLimits}
 use Rattle.world_runs.specs.Follows.{Follows, AllFindMemory}
 use Rattle.world_runs.specs.Smooth.{EndsAtOnce, IsSmoothRun}
 use Rattle.script_runs.specs.InTime.{LooksTellNoAnswer}
-use Rattle.tect_replay.specs.Output.{output_text}
+use Rattle.replay_stories.specs.Output.{output_text}
 
 -- Where no memory was wanting in it, it is the only run of the world that follows the script within the limits of its actors' own
 -- histories, in which no memory is wanting, and each command ends at once: of programs that come to no answer by a look-up.

@@ -12,7 +12,7 @@ use Rattle.tect_ids.specs.declared.values.Listed.{Listed}
 use Rattle.tect_ids.specs.declared.values.NewRow.{NewRow}
 use Rattle.tect_ids.specs.declared.values.Row.{Row}
 use Rattle.tect_ids.specs.declared.values.RowPart.{RowPart}
-use Rattle.tect_ids.proofs.Equals.{key_decides, listed_decides}
+use Rattle.entry_words.proofs.WordEquals.{key_decides, listed_decides}
 use Rattle.store_rules.specs.contracts.any.AnyReplyPartialEq.TheImpl as any_reply
 use Rattle.store_rules.specs.contracts.any.AnyReqPartialEq.TheImpl as any_req
 use Rattle.store_rules.specs.contracts.blocks.BlockReplyPartialEq.TheImpl as block_reply

@@ -1,10 +1,9 @@
 -- How the lines of a script are played, one after another.
-use Rattle.std.specs.Prelude.{◌≡◌, ℕ, ◌+◌, ◌<◌, ◌≤◌, ◌^◌, List, [], ◌∷◌, map}
+use Rattle.std.specs.Prelude.{◌≡◌, ℕ, ◌+◌, ◌<◌, ◌≤◌, ◌^◌, List, [], ◌∷◌}
 use Rattle.tect_ids.specs.declared.script.Act.{Act}
 use Rattle.tect_ids.specs.declared.script.Line.{Line}
 use Rattle.tect_ids.specs.declared.script.Line.TheVariants as lines
 use Rattle.tect_ids.specs.declared.script.ReportLine.{ReportLine}
-use Rattle.tect_ids.specs.declared.script.ReportLine.TheVariants as report_lines
 use Rattle.program_forms.specs.Kinds.{Programs}
 use Rattle.world_runs.specs.declared.event.Event.{Event}
 use Rattle.world_runs.specs.Actors.{Actor}
@@ -16,8 +15,6 @@ use Rattle.whole_runs.specs.Standing.{IsInState, busy_at}
 use Rattle.world_runs.specs.Smooth.{EndsAtOnce}
 use Rattle.whole_runs.specs.ClientStates.{ClientState, TakesAct}
 use Rattle.world_lives.specs.Life.{Life, present, grown}
-use Rattle.tect_replay.specs.declared.lines.LineOutput.{LineOutput}
-use Rattle.tect_replay.specs.declared.lines.LineOutput.TheVariants as shown
 
 -- what an act needs of its actor: it began few commands, and its turn takes the act
 pub record CanDo {S : Type 0} (P : Programs S) (a : Actor S) (act : Act) : Type 0 where
@@ -32,12 +29,6 @@ CanPlay P clients w (lines.Client client actor act) =
     (1 ≤ actor) × (actor ≤ 64) × (actor ≤ clients) × CanDo P ((present P w).actors actor) act
 CanPlay P clients w lines.Dump = Unit {0}
 CanPlay P clients w line = ⊥
-
--- what a played line has to show
-abbrev pub shown_lines : LineOutput → List ReportLine
-shown_lines shown.Nothing = []
-shown_lines (shown.Answer line) = line ∷ []
-shown_lines (shown.Dump ls) = map report_lines.Dump ls.items
 
 -- the world's history is a run of it, within the limits of its actors' own histories
 pub record IsKeptRun {S : Type 0} (P : Programs S) (w : Life) : Type 0 where
