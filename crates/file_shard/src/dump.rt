@@ -45,10 +45,14 @@ fn file_line(file: FileId, row: &File) -> Result<DumpLine, NoMemory>
 {
     Ok(DumpLine::File {
         file,
-        state: FileState::Open,
+        state: if row.sealed {
+            FileState::Sealed
+        } else {
+            FileState::Open
+        },
         token: row.token,
-        blocks: 0,
-        // No memory has room for more holds than that.
+        // No memory has room for more rows or holds than that.
+        blocks: u32::try_from(row.rows.len()).or(Err(NoMemory))?,
         holds: u32::try_from(row.holds.len()).or(Err(NoMemory))?,
     })
 }

@@ -1,8 +1,11 @@
-//! A shard of the File layer: files with their tokens and holds.
+//! A shard of the File layer: files with their tokens, holds and rows.
 #![tactic(auto)]
 
 mod dump;
+mod refused;
 mod requests;
+mod rows;
 mod shard;
+mod tokens;
 
 pub use shard::FileShard;

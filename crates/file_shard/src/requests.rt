@@ -4,10 +4,11 @@ ghost use Rattle.ordered_rows.specs.Maps.{set_at};
 ghost use Rattle.store_rules.specs.Files.{make_file_answer, make_file_change, grant_file_answer, grant_file_change};
 ghost use Rattle.store_rules.specs.Files.{release_file_answer, release_file_change, file_with_hold, file_lists};
 
+use crate::refused::refused;
 use crate::shard::FileShard;
 use key_maps::{FileMap, HoldList};
 use std::alloc::Global;
-use store_rules::{File, FileReply, Outcome};
+use store_rules::{File, FileReply, FileRows, Outcome};
 use tect_ids::{FileId, Hold, Key, NoMemory, Refusal, Token, Upper};
 
 impl FileShard {
@@ -32,7 +33,13 @@ impl FileShard {
     {
         let mut holds = HoldList::new(self.alloc);
         holds.grant(hold, Upper::Entry(key.clone()?))?;
-        match self.files.put(file, File { token, holds }) {
+        let row = File {
+            token,
+            sealed: false,
+            holds,
+            rows: FileRows::new(self.alloc),
+        };
+        match self.files.put(file, row) {
             Ok(_) => Ok(()),
             Err(_) => Err(NoMemory),
         }
@@ -42,9 +49,7 @@ impl FileShard {
         ensures { result ≡ grant_file_answer self.now file }
     {
         if self.files.get(file).is_none() {
-            return Outcome::Leaves(FileReply::Refused {
-                why: Refusal::NoFile,
-            });
+            return refused(Refusal::NoFile);
         }
         Outcome::Changes(FileReply::Granted)
     }

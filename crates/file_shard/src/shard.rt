@@ -6,7 +6,7 @@ ghost use Rattle.store_rules.specs.Files.{file_answer, file_change, file_rule, f
 use key_maps::FileMap;
 use std::alloc::Global;
 use std::marker::Model;
-use store_rules::{File, FileReply, FileReq, Outcome};
+use store_rules::{File, FileReply, FileReq, FileRow, Outcome};
 use tect_ids::NoMemory;
 
 /// A shard of the File layer: some of the files.
@@ -40,8 +40,13 @@ impl FileShard {
 
     /// Answers the request by its rule, and makes the rule's change where it is not refused.
     ///
-    /// A refusal is an answer like others, and changes nothing. Nor does want of memory, which may come at any request but
-    /// `Release`: that takes none. Files are found in logarithmic time.
+    /// A refusal is an answer like others, and changes nothing: `MakeFile` is answered `HasId` where the file stands; `Grant` and
+    /// `ListBlocks` are refused as `NoFile` where it does not, `TakeToken` also as `Sealed`, and `Attach` as `NoFile`, `Sealed`,
+    /// `TokenChanged` with the token that the file has now, or at 4,096 blocks `Full`, whichever comes first. `Release` says
+    /// whether the hold was listed.
+    ///
+    /// Nor does want of memory change anything, which may come at any request but `Release` and `TakeToken`: these take none.
+    /// Files are found in logarithmic time, and only `ListBlocks` goes over a file's rows, those of its own file alone.
     pub fn step(&mut self, req: &FileReq) -> Result<FileReply, NoMemory>
         ensures answers { IfOk result (λ x. x ≡ reply (file_answer self.old req.now)) }
         ensures steps { OnOk result (self.new ≡ file_step self.old req.now) }
@@ -50,7 +55,7 @@ impl FileShard {
         // What wants no memory is always answered.
         ensures sure { IsTrue (file_rule req.now).free → IsOk result }
     {
-        let outcome = self.decide(req);
+        let outcome = self.decide(req)?;
         if outcome.changes() {
             self.apply(req)?;
         }
@@ -62,22 +67,27 @@ impl FileShard {
         ensures answers { IfOk result (λ x. x ≡ reply (file_answer self.now req.now)) }
         ensures sure { IsTrue (file_rule req.now).free → IsOk result }
     {
-        Ok(self.decide(req).into_reply())
+        Ok(self.decide(req)?.into_reply())
     }
 
-    /// What `step` would answer, and whether it would change the shard. It changes nothing, and takes no memory.
-    pub fn decide(&self, req: &FileReq) -> Outcome<FileReply>
-        ensures { result ≡ file_answer self.now req.now }
+    /// What `step` would answer, and whether it would change the shard. It changes nothing, and takes memory only for
+    /// `ListBlocks`.
+    pub fn decide(&self, req: &FileReq) -> Result<Outcome<FileReply>, NoMemory>
+        ensures answers { IfOk result (λ x. x ≡ file_answer self.now req.now) }
+        ensures sure { IsTrue (file_rule req.now).free → IsOk result }
     {
         match req {
-            FileReq::MakeFile { file, .. } => self.make_file_outcome(*file),
-            FileReq::Grant { file, .. } => self.grant_outcome(*file),
-            FileReq::Release { file, hold } => self.release_outcome(*file, *hold),
+            FileReq::MakeFile { file, .. } => Ok(self.make_file_outcome(*file)),
+            FileReq::Grant { file, .. } => Ok(self.grant_outcome(*file)),
+            FileReq::Release { file, hold } => Ok(self.release_outcome(*file, *hold)),
+            FileReq::TakeToken { file, .. } => Ok(self.take_token_outcome(*file)),
+            FileReq::Attach { file, token, .. } => Ok(self.attach_outcome(*file, *token)),
+            FileReq::ListBlocks { file } => self.list_blocks(*file),
         }
     }
 
     /// Makes the change of a request that was decided to change the shard. For want of memory nothing is changed; `Release`
-    /// takes none.
+    /// and `TakeToken` take none.
     pub fn apply(&mut self, req: &FileReq) -> Result<(), NoMemory>
         requires { changes (file_answer self.old req.now) ≡ true }
         ensures ok { OnOk result (self.new ≡ file_change self.old req.now) }
@@ -96,6 +106,25 @@ impl FileShard {
                 self.release(*file, *hold);
                 Ok(())
             }
+            FileReq::TakeToken { file, token } => {
+                self.take_token(*file, *token);
+                Ok(())
+            }
+            FileReq::Attach {
+                file,
+                blk,
+                len,
+                hold,
+                ..
+            } => {
+                let row = FileRow {
+                    blk: *blk,
+                    len: *len,
+                    hold: *hold,
+                };
+                self.attach(*file, row)
+            }
+            FileReq::ListBlocks { .. } => Ok(()),
         }
     }
 }

@@ -1,5 +1,5 @@
 -- a request to a shard that has its file is answered and done as on the whole, and leaves the other shards
-use Rattle.std.proofs.Common.{◌≡◌, Bool, true, false, Option, Some, None, if◌then◌else◌, ap, arith}
+use Rattle.std.proofs.Common.{◌≡◌, Bool, true, false, Option, Some, None, [], if◌then◌else◌, ap, arith}
 use Rattle.std.specs.FinMap.{empty, get, same_map}
 use Rattle.tect_ids.specs.declared.ids.FileId.{FileId}
 use Rattle.tect_ids.specs.declared.key.Upper.TheVariants as uppers
@@ -10,7 +10,8 @@ use Rattle.store_rules.specs.declared.files.File.{File}
 use Rattle.store_rules.specs.declared.files.FileReply.{FileReply}
 use Rattle.store_rules.specs.declared.files.FileReq.{FileReq}
 use Rattle.store_rules.specs.declared.files.FileReq.TheVariants as req
-use Rattle.store_rules.specs.Files.{Files, FileRule, file_with_hold, file_rule, file_answer, file_change, file_step}
+use Rattle.store_rules.specs.Files.{Files, FileRule, file_with_hold, file_with_row, file_with_token}
+use Rattle.store_rules.specs.Files.{file_rule, file_answer, file_change, file_step}
 use Rattle.store_rules.specs.declared.outcome.Outcome.{Outcome}
 use Rattle.store_rules.specs.Outcomes.{changes}
 use Rattle.store_rules.specs.Places.{file_of}
@@ -36,6 +37,11 @@ module _ (here : FileId → Bool) (s w : Files) (is : KeepsFiles here s w) where
     own : here rule.file ≡ true → KeepsFiles here (rule.change s) (rule.change w)
     other : here rule.file ≡ false → KeepsFiles here s (rule.change w)
 
+  -- a rule that changes nothing
+  reads : (f : FileId) (answer : Files → Outcome FileReply) (free : Bool) → (here f ≡ true → answer s ≡ answer w)
+      → IsLocal record { file = f; answer = answer; change = λ v. v; free = free }
+  reads f answer free same = record { answers = same; own = λ own. is; other = λ other. is }
+
   -- a rule that sets its file by what that was
   sets_file : (f : FileId) (x : Option File → Option File) (answer : Files → Outcome FileReply) (free : Bool)
       → (here f ≡ true → answer s ≡ answer w)
@@ -49,9 +55,14 @@ module _ (here : FileId → Bool) (s w : Files) (is : KeepsFiles here s w) where
   -- each request
   local : (r : FileReq) → IsLocal (file_rule r)
   local (req.MakeFile f h k t) =
-      sets_file f (λ x. Some record { token = t; holds = set_at empty h (Some (uppers.Entry k)) }) _ _ (λ own. rw (own_file f own))
+      sets_file f (λ x. Some record { token = t; sealed = false; holds = set_at empty h (Some (uppers.Entry k)); rows = [] }) _ _
+      (λ own. rw (own_file f own))
   local (req.Grant f h k) = sets_file f (λ x. file_with_hold x h (Some (uppers.Entry k))) _ _ (λ own. rw (own_file f own))
   local (req.Release f h) = sets_file f (λ x. file_with_hold x h None) _ _ (λ own. rw (own_file f own))
+  local (req.TakeToken f t) = sets_file f (λ x. file_with_token x t) _ _ (λ own. rw (own_file f own))
+  local (req.Attach f t b n h) =
+      sets_file f (λ x. file_with_row x (record { blk = b; len = n; hold = h })) _ _ (λ own. rw (own_file f own))
+  local (req.ListBlocks f) = reads f _ _ (λ own. rw (own_file f own))
 
   pub same_file_answer : (r : FileReq) → here (file_of r) ≡ true → file_answer s r ≡ file_answer w r
   same_file_answer r own = (local r).answers own

@@ -3,7 +3,7 @@
 #![tactic(auto)]
 
 ghost use Rattle.std.specs.Prelude.{◌≡◌, List, length, slice_index_or, slice_set};
-ghost use Rattle.tect_ids.specs.Places.{HasPlaces, kept_count};
+ghost use Rattle.tect_ids.specs.Places.{HasPlaces, place_count};
 ghost use Rattle.tect_ids.specs.declared.ids.Counts.{Counts};
 ghost use Rattle.store_rules.specs.Alone.{no_store, request_layer};
 ghost use Rattle.store_rules.specs.Places.{request_place};
@@ -63,7 +63,7 @@ pub fn opening_shards_stay_the_store()
 
 /// Shards in a row that are the whole of a store are, together, that store.
 pub fn shards_in_a_row_are_one_store()
-    ensures { (counts : Counts) (row : List Store) (whole : Store) → HasPlaces counts → length row ≡ kept_count counts
+    ensures { (counts : Counts) (row : List Store) (whole : Store) → HasPlaces counts → length row ≡ place_count counts
         → AreWhole counts (parts_of row) whole → together row ≡ whole }
 {}
 

@@ -2,3 +2,5 @@ pub mod Knowing
 pub mod Teaching
 pub mod MadeDirs
 pub mod Readings
+pub mod MadeBlocks
+pub mod MadeFiles

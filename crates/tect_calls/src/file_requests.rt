@@ -1,9 +1,9 @@
 ghost use Rattle.std.specs.Prelude.{◌≡◌};
 
 use crate::asked::Asked;
-use crate::tokens::{Made, Spent};
+use crate::tokens::{BlockSealed, GrantedRow, Made, Spent};
 use store_rules::{AnyReq, FileReq};
-use tect_ids::{FileId, Hold, Key, Node, Token};
+use tect_ids::{BlkId, FileId, Hold, Key, Node, Token};
 
 // The request to a File shard, all of whose tokens were shown.
 fn file_asked(req: FileReq) -> Asked
@@ -47,4 +47,42 @@ pub fn file_release(file: FileId, hold: Hold, spent: &Spent) -> Asked
     ensures { result ≡ AnyReq.File (FileReq.Release file hold) }
 {
     file_asked(FileReq::Release { file, hold })
+}
+
+/// Writes a new token into a file, so that no earlier one serves any more.
+pub fn file_take_token(file: FileId, token: Token) -> Asked
+    ensures { result ≡ AnyReq.File (FileReq.TakeToken file token) }
+{
+    file_asked(FileReq::TakeToken { file, token })
+}
+
+/// Adds a sealed block of `len` bytes at the end of a file that has the token, by a hold that was granted at the block for
+/// that file.
+pub fn file_attach(
+    file: FileId,
+    token: Token,
+    blk: BlkId,
+    len: u32,
+    hold: Hold,
+    granted: &GrantedRow,
+    sealed: &BlockSealed,
+) -> Asked
+    requires granted { granted.now ≡ record { blk = blk; hold = hold; file = file } }
+    requires sealed { sealed.now ≡ blk }
+    ensures { result ≡ AnyReq.File (FileReq.Attach file token blk len hold) }
+{
+    file_asked(FileReq::Attach {
+        file,
+        token,
+        blk,
+        len,
+        hold,
+    })
+}
+
+/// Asks for the blocks of a file.
+pub fn file_list_blocks(file: FileId) -> Asked
+    ensures { result ≡ AnyReq.File (FileReq.ListBlocks file) }
+{
+    file_asked(FileReq::ListBlocks { file })
 }
