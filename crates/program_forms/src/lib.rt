@@ -3,7 +3,9 @@
 #![tactic(auto)]
 
 mod heard;
+mod opened;
 mod standing;
 
 pub use heard::Heard;
+pub use opened::OpenedFile;
 pub use standing::Standing;
