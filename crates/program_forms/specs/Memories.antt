@@ -10,13 +10,17 @@ use Rattle.ordered_rows.specs.Maps.{set_at}
 use Rattle.store_rules.specs.declared.any.AnyReq.{AnyReq}
 use Rattle.store_rules.specs.declared.any.AnyReply.{AnyReply}
 use Rattle.store_rules.specs.Views.{is_made}
-use Rattle.program_forms.specs.declared.opened.OpenedFile.{OpenedFile}
 use Rattle.program_forms.specs.declared.heard.Heard.{Heard}
 use Rattle.program_forms.specs.declared.heard.Heard.TheVariants.{Whole, Unkept, Left}
 
 -- paths in the order of their names
 abbrev pub path_cmp : List (List ℕ) → List (List ℕ) → Ordering
 path_cmp = slice_cmp (slice_cmp nat_cmp)
+
+-- a file that an actor opened, and the token that its open wrote into it
+pub record OpenedFile : Type 0 where
+  pub file : FileId
+  pub token : OpId
 
 -- the files that an actor opened, by the paths that it opened them at
 abbrev pub OpenedFiles : Type 0

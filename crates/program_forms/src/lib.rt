@@ -3,9 +3,7 @@
 #![tactic(auto)]
 
 mod heard;
-mod opened;
 mod standing;
 
 pub use heard::Heard;
-pub use opened::OpenedFile;
 pub use standing::Standing;

@@ -5,8 +5,7 @@ use Rattle.std.specs.FinMap.{FinMap, IsAntisymmetric, empty, get, find, put, fro
 use Rattle.ordered_rows.specs.Pairs.{IsRising}
 use Rattle.ordered_rows.specs.Maps.{set_at}
 use Rattle.ordered_rows.proofs.Made.{map_new, map_get, map_put}
-use Rattle.program_forms.specs.declared.opened.OpenedFile.{OpenedFile}
-use Rattle.program_forms.specs.Memories.{path_cmp}
+use Rattle.program_forms.specs.Memories.{OpenedFile, path_cmp}
 use Rattle.tect_calls.specs.contracts.path_key.PathKeyOrd.TheImpl.Laws as path_laws
 
 path_cmp_total : IsTotalOrder path_cmp

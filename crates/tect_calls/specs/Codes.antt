@@ -6,8 +6,7 @@ use Rattle.tect_ids.specs.declared.ids.Counts.{Counts}
 use Rattle.tect_ids.specs.declared.ids.FileId.{FileId}
 use Rattle.tect_ids.specs.declared.ids.OpId.{OpId}
 use Rattle.tect_ids.specs.Codes.{file_code, op_code}
-use Rattle.program_forms.specs.declared.opened.OpenedFile.{OpenedFile}
-use Rattle.program_forms.specs.Memories.{OpenedFiles}
+use Rattle.program_forms.specs.Memories.{OpenedFile, OpenedFiles}
 use Rattle.tect_calls.specs.Knowing.{Known}
 
 abbrev pub opened_code : Coded OpenedFile

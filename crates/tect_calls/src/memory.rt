@@ -5,12 +5,12 @@ ghost use Rattle.tect_ids.specs.Places.{HasPlaces};
 ghost use Rattle.program_forms.specs.Memories.{opening_memory, learnt, Opens};
 ghost use Rattle.tect_calls.specs.Knowing.{IsActor, number_for};
 
-use crate::opened_files::OpenedFiles;
+use crate::opened_files::{OpenedFile, OpenedFiles};
 use crate::path_key::PathKey;
-use program_forms::OpenedFile;
+use crate::tokens::MadeFile;
 use std::alloc::Global;
 use std::marker::Model;
-use tect_ids::{Counts, FileId, NoMemory, OpId, Token};
+use tect_ids::{Counts, NoMemory, OpId, Token};
 
 /// What an actor knows between its commands: its number, the serial of the next object that it makes, how many shards there
 /// are, and the files that it opened.
@@ -82,7 +82,12 @@ impl Memory {
     }
 
     /// Keeps the file that was opened at the path, with its token, in place of what was opened there before.
-    pub fn keep_opened(&mut self, path: PathKey, file: FileId, token: Token) -> Result<(), NoMemory>
+    pub fn keep_opened(
+        &mut self,
+        path: PathKey,
+        file: MadeFile,
+        token: Token,
+    ) -> Result<(), NoMemory>
         ensures kept { OnOk result (self.new ≡ record self.old { memory = learnt (Opens path file token ∷ []) self.old.memory }) }
         ensures unchanged { OnErr result (self.new ≡ self.old) }
     {

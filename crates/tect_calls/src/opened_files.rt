@@ -4,11 +4,45 @@ ghost use Rattle.std.specs.FinMap.{empty, get};
 ghost use Rattle.ordered_rows.specs.Maps.{set_at};
 
 use crate::path_key::PathKey;
+use crate::tokens::MadeFile;
 use ordered_rows::Rows;
-use program_forms::OpenedFile;
 use std::alloc::Global;
 use std::marker::Model;
-use tect_ids::NoMemory;
+use tect_ids::{NoMemory, Token};
+
+/// A file that an actor opened, and the token that its open wrote into it.
+#[derive(Drop)]
+pub struct OpenedFile {
+    pub(crate) file: MadeFile,
+    pub(crate) token: Token,
+}
+
+impl Model for OpenedFile {
+    ghost use Rattle.program_forms.specs.Memories as memories;
+    ghost use Rattle.tect_calls.specs.Codes.{opened_code};
+
+    ghost Value = { memories.OpenedFile };
+
+    ghost coded = { opened_code };
+
+    ghost view = { λ opened. record { file = opened.file; token = opened.token } };
+}
+
+impl OpenedFile {
+    /// The file, which was made.
+    pub fn file(&self) -> &MadeFile
+        ensures { result.now ≡ self.now.file }
+    {
+        &self.file
+    }
+
+    /// The token that an append has to show.
+    pub fn token(&self) -> Token
+        ensures { result ≡ self.now.token }
+    {
+        self.token
+    }
+}
 
 // The files that an actor opened, by path, seen as a finite map.
 #[derive(Drop)]
