@@ -18,7 +18,7 @@ use Rattle.tect_calls.specs.declared.tokens.Freed.{Freed}
 use Rattle.program_forms.specs.declared.heard.Heard.{Heard}
 use Rattle.program_forms.specs.declared.heard.Heard.TheVariants as hearing
 use Rattle.program_forms.specs.declared.standing.Standing.TheVariants as standing
-use Rattle.program_forms.specs.Memories.{Memory, always}
+use Rattle.program_forms.specs.Memories.{Memory, opening_memory, always}
 use Rattle.program_forms.specs.Kinds.{Does, Asks, asked_by, said_by, next_does}
 use Rattle.program_parts.specs.declared.next.Next.TheVariants as next
 use Rattle.program_parts.specs.declared.walking.Walking.TheVariants.{There}
@@ -46,9 +46,9 @@ use Rattle.session_runs.proofs.Standings.{command_part, next_same, stands_after,
 use Rattle.session_runs.proofs.Steps.{op_runs}
 use Rattle.session_runs.proofs.Tracked.{Tracks, event_tracked, act_kept}
 
--- the memory of an actor whose next object has that serial
+-- the memory of an actor that opened nothing, and whose next object has that serial
 abbrev pub memory_of : ℕ → Memory
-memory_of own = record { serial = own }
+memory_of own = record opening_memory { serial = own }
 
 -- what a program does, and where it goes on
 abbrev pub does_at : WorldState Program → OpId → ℕ → Program → Does Answer
@@ -73,7 +73,7 @@ pub record Comes (m : WorldState Program) (t : Tree) (op : OpId) (front : List E
     pub count : n ≡ left
     pub answer : a ≡ p.answer
     pub tree : tree_after t (tree_steps front) ≡ p.tree
-    pub serial : ((after_all programs m front).actors op.actor).memory.serial ≡ p.serial
+    pub memory : ((after_all programs m front).actors op.actor).memory ≡ memory_of p.serial
 
 -- so it is of all transactions that may come
 abbrev pub Goes : WorldState Program → Tree → OpId → Played → ℕ → Type 0
@@ -170,7 +170,7 @@ module _ (m : WorldState Program) (t : Tree) (op : OpId) (own : ℕ) (p : Progra
       count = omega (arith, r.count);
       answer = r.answer;
       tree = tree_after-append t (told_of did) (tree_steps es) ∙ r.tree;
-      serial = r.serial;
+      memory = r.memory;
     }
 
     -- it makes no difference whether the actor kept what the reply told
@@ -223,7 +223,7 @@ pub end_goes : (m : WorldState Program) (t : Tree) (op : OpId) (own : ℕ) (b : 
 end_goes m t op own b p st tree serial answer [] n a acts run =
     let now : Some b ≡ Some a = sym (says_now m t op own (next.Comes b) st) ∙ (run.0).0 in
     let same : b ≡ a = cc in
-    record { count = acts; answer = sym same ∙ answer; tree = tree; serial = ap (λ (k : Memory). k.serial) st.memory ∙ serial }
+    record { count = acts; answer = sym same ∙ answer; tree = tree; memory = st.memory ∙ ap (λ (i : ℕ). memory_of i) serial }
 end_goes m t op own b p st tree serial answer (e ∷ es) n a acts run =
     let i : IsActed op e = act_is op e acts.0 in
     let may : May programs m (Own op (Acted i.req i.reply i.heard)) = subst (λ (z : Event). May programs m z) i.is run.0 in

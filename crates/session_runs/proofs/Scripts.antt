@@ -79,7 +79,7 @@ command_goes m t op c own number one is st = absurd is
 record Between (m : WorldState Program) (t : Tree) (before : List Event) (own number : ℕ) : Type 0 where
   tracks : Tracks m t
   quiet : Quiet m before
-  serial : (m.actors 1).memory.serial ≡ own
+  memory : (m.actors 1).memory ≡ memory_of own
   count : (m.actors 1).number ≡ number
 
 -- the events of a line
@@ -107,7 +107,7 @@ module _ (clients : List (List ℕ)) (m : WorldState Program) (t : Tree) (before
   can = ((run.0).0).0
 
   memory_now : (m.actors op.actor).memory ≡ memory_of own
-  memory_now = let serial : (m.actors op.actor).memory.serial ≡ own = rw one rests.serial in ap (λ (i : ℕ). memory_of i) serial
+  memory_now = rw one rests.memory
 
   number_now : op.number ≡ number + 1
   number_now = can.next ∙ rw one (ap (λ i. i + 1) rests.count)
@@ -161,11 +161,11 @@ module _ (clients : List (List ℕ)) (m : WorldState Program) (t : Tree) (before
   after_end P is = changed_there P last.actors op.actor (ended programs last.counts (last.actors op.actor) (last.actors op.actor).running)
       (subst (λ (z : Actor Program). P z) (sym (ended_as last.counts (last.actors op.actor))) is)
 
-  serial_now : ((after_all programs m part).actors 1).memory.serial ≡ p.serial
+  memory_after : ((after_all programs m part).actors 1).memory ≡ memory_of p.serial
   unfolding last
-  serial_now = ap (λ (z : WorldState Program). (z.actors 1).memory.serial) ends ∙ subst
-      (λ (i : ℕ). ((after programs last (Own op (Ended a))).actors i).memory.serial ≡ p.serial) one
-      (after_end (λ (z : Actor Program). z.memory.serial ≡ p.serial) comes.serial)
+  memory_after = ap (λ (z : WorldState Program). (z.actors 1).memory) ends ∙ subst
+      (λ (i : ℕ). ((after programs last (Own op (Ended a))).actors i).memory ≡ memory_of p.serial) one
+      (after_end (λ (z : Actor Program). z.memory ≡ memory_of p.serial) comes.memory)
 
   begun_number : (mid.actors op.actor).number ≡ number + 1
   begun_number = rw same_actor number_now
@@ -180,7 +180,7 @@ module _ (clients : List (List ℕ)) (m : WorldState Program) (t : Tree) (before
   rests_after = record {
     tracks = subst (λ (u : Tree). Tracks (after_all programs m part) u) tree_now (run_tracked m t part rests.tracks run).0;
     quiet = quiet_run m t before part rests.tracks rests.quiet run;
-    serial = serial_now;
+    memory = memory_after;
     count = count_after;
   }
 
@@ -253,7 +253,7 @@ lines_agree clients client (c ∷ cs) m t before es own number busy rests idle a
     follows.1 follows.2 follows.3 (rw idle at follows.4) follows.5
 
 opening_rests : (counts : Counts) → Between (opening counts) opening_tree [] 1 0
-opening_rests counts = record { tracks = opening_tracks counts; quiet = λ op late. refl; serial = refl; count = refl }
+opening_rests counts = record { tracks = opening_tracks counts; quiet = λ op late. refl; memory = refl; count = refl }
 
 pub session_reported : (counts : Counts) (clients : List (List ℕ)) (client : List ℕ) (cs : List Command) (history : List Event)
     → AllByRecursion IsPlayed cs

@@ -1,5 +1,5 @@
--- the commands on names look nothing up, so they stand as their parts do
-use Rattle.std.proofs.Common.{◌≡◌, Option, Some, None, refl, ap, ◌∙◌}
+-- the commands on names look nothing up and keep nothing, so they stand as their parts do
+use Rattle.std.proofs.Common.{◌≡◌, List, [], Option, Some, None, refl, ap, ◌∙◌}
 use Rattle.tect_ids.specs.declared.ids.Counts.{Counts}
 use Rattle.tect_ids.specs.declared.ids.OpId.{OpId}
 use Rattle.tect_ids.specs.declared.answer.Answer.{Answer}
@@ -9,7 +9,7 @@ use Rattle.program_forms.specs.declared.heard.Heard.{Heard}
 use Rattle.program_forms.specs.declared.heard.Heard.TheVariants as hearing
 use Rattle.program_forms.specs.declared.standing.Standing.{Standing}
 use Rattle.program_forms.specs.declared.standing.Standing.TheVariants.{Goes, Left, NoRoom}
-use Rattle.program_forms.specs.Memories.{Memory, always}
+use Rattle.program_forms.specs.Memories.{Memory, Learnt, learnt, kept_of, always}
 use Rattle.program_forms.specs.Kinds.{Does, Turned, turned, next_does, state_heard, memory_heard}
 use Rattle.program_parts.specs.declared.next.Next.TheVariants as next
 use Rattle.program_parts.specs.declared.walking.Walking.{Walking}
@@ -37,6 +37,21 @@ module _ (counts : Counts) (m : Memory) (op : OpId) where
   turned_same (next.Goes (walks.There (states.Delete s))) = refl
   turned_same (next.Goes (walks.There (states.Rename s))) = refl
 
+  -- nor do they learn anything
+  learns_none : (p : Program) (q : AnyReq) (x : AnyReply) → programs.kind.learns op p q x ≡ []
+  learns_none (next.Comes a) q x = refl
+  learns_none (next.Goes (walks.Way d n ns o)) q x = refl
+  learns_none (next.Goes (walks.There (states.Look s))) q x = refl
+  learns_none (next.Goes (walks.There (states.List s))) q x = refl
+  learns_none (next.Goes (walks.There (states.Make s))) q x = refl
+  learns_none (next.Goes (walks.There (states.Delete s))) q x = refl
+  learns_none (next.Goes (walks.There (states.Rename s))) q x = refl
+
+  none_kept : (h : Heard) (ls : List Learnt) → ls ≡ [] → kept_of h ls ≡ []
+  none_kept hearing.Whole ls e = e
+  none_kept hearing.Unkept ls e = refl
+  none_kept hearing.Left ls e = refl
+
   module _ (p : Program) where
     pub next_same : next_does programs.kind counts m op p ≡ next_asks command_part counts m op p
     next_same = ap (λ (t : Turned Program). next_asks command_part counts t.memory op t.state) (turned_same p)
@@ -45,7 +60,9 @@ module _ (counts : Counts) (m : Memory) (op : OpId) where
     hears_same q x = ap (λ (t : Turned Program). next_hears command_part counts t.memory op t.state q x) (turned_same p)
 
     memory_same : (q : AnyReq) (x : AnyReply) (h : Heard) → memory_heard programs.kind counts m op p q x h ≡ always m q x
-    memory_same q x h = ap (λ (t : Turned Program). always t.memory q x) (turned_same p)
+    memory_same q x h =
+        ap (λ (t : Turned Program). always (learnt (kept_of h (programs.kind.learns op t.state q x)) t.memory) q x) (turned_same p)
+        ∙ ap (λ (ls : List Learnt). always (learnt ls m) q x) (none_kept h (programs.kind.learns op p q x) (learns_none p q x))
 
     -- where it stands after a reply that it heard so
     abbrev pub stands_after : AnyReq → AnyReply → Heard → Standing Program

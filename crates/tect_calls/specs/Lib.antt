@@ -1,4 +1,5 @@
 pub mod Knowing
+pub mod Codes
 pub mod Teaching
 pub mod MadeDirs
 pub mod Readings

@@ -233,6 +233,18 @@ impl MadeFile {
         self.file
     }
 
+    /// The same token once more: what was made stays so. It takes no memory.
+    pub fn again(&self) -> MadeFile
+        ensures { result ≡ self.now }
+    {
+        MadeFile {
+            file: self.file,
+            made: Made {
+                node: Node::File(self.file),
+            },
+        }
+    }
+
     /// The same as a token of any object.
     pub fn made(&self) -> &Made
         ensures { result.now ≡ Node.File self.now }
