@@ -2,9 +2,9 @@
 use Rattle.std.proofs.Common.{◌≡◌, ℕ, List, [], Some}
 use Rattle.std.specs.Cmp.{IsTotalOrder}
 use Rattle.std.specs.FinMap.{FinMap, IsAntisymmetric, empty, get, find, put, from_sorted, slice_cmp-IsAntisymmetric, nat_cmp-IsAntisymmetric}
-use Rattle.ordered_rows.specs.Pairs.{IsRising}
-use Rattle.ordered_rows.specs.Maps.{set_at}
-use Rattle.ordered_rows.proofs.Made.{map_new, map_get, map_put}
+use Rattle.map_words.specs.Pairs.{IsRising}
+use Rattle.map_words.specs.Maps.{set_at}
+use Rattle.map_words.proofs.Made.{map_new, map_get, map_put}
 use Rattle.program_forms.specs.Memories.{OpenedFile, path_cmp}
 use Rattle.tect_calls.specs.contracts.path_key.PathKeyOrd.TheImpl.Laws as path_laws
 

@@ -1,7 +1,7 @@
 ghost use Rattle.std.specs.Prelude.{◌≡◌, Some, OnOk, OnErr};
 ghost use Rattle.std.specs.Option.{option_copied};
 ghost use Rattle.std.specs.FinMap.{empty, get};
-ghost use Rattle.ordered_rows.specs.Maps.{set_at};
+ghost use Rattle.map_words.specs.Maps.{set_at};
 
 use crate::path_key::PathKey;
 use crate::tokens::MadeFile;
