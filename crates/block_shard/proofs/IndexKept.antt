@@ -9,8 +9,8 @@ use Rattle.tect_ids.specs.declared.ids.NoMemory.{NoMemory}
 use Rattle.tect_ids.specs.declared.key.Upper.{Upper}
 use Rattle.tect_ids.specs.declared.values.NewRow.{NewRow}
 use Rattle.map_words.specs.Maps.{set_at}
-use Rattle.key_maps.specs.declared.disk_blk.DiskBlk.{DiskBlk}
-use Rattle.key_maps.specs.DiskIndexes.{disk_blk_cmp}
+use Rattle.block_maps.specs.declared.disk_blk.DiskBlk.{DiskBlk}
+use Rattle.block_maps.specs.DiskIndexes.{disk_blk_cmp}
 use Rattle.key_words.proofs.BlockLookups.{block_maps}
 use Rattle.small_maps.proofs.RowsOfBlocks.{get-all_placed}
 use Rattle.store_rules.specs.declared.blocks.Block.{Block}

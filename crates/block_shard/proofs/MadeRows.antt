@@ -9,10 +9,10 @@ use Rattle.tect_ids.specs.declared.values.NewRow.{NewRow}
 use Rattle.tect_ids.specs.Keys.{disk_eq}
 use Rattle.tect_ids.proofs.KeyTests.{blk_eq_cases}
 use Rattle.map_words.specs.Maps.{set_at}
-use Rattle.key_maps.specs.declared.disk_blk.DiskBlk.{DiskBlk}
-use Rattle.key_maps.specs.DiskIndexes.{disk_blk_cmp, disk_blk_eq}
+use Rattle.block_maps.specs.declared.disk_blk.DiskBlk.{DiskBlk}
+use Rattle.block_maps.specs.DiskIndexes.{disk_blk_cmp, disk_blk_eq}
 use Rattle.key_words.proofs.BlockLookups.{block_maps}
-use Rattle.key_maps.proofs.DiskIndexes.{get-disk_blk_at}
+use Rattle.block_maps.proofs.DiskIndexes.{get-disk_blk_at}
 use Rattle.store_rules.specs.Blocks.{rows_from}
 use Rattle.block_shard.specs.Index.{pair, is_row_of}
 

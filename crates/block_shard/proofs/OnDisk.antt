@@ -8,9 +8,9 @@ use Rattle.tect_ids.specs.declared.ids.DiskId.{DiskId}
 use Rattle.tect_ids.specs.Keys.{disk_eq, blk_cmp}
 use Rattle.tect_ids.proofs.KeyTests.{block_keys, blk_ties, blk_cmp_total, blk_antisymmetric}
 use Rattle.map_words.specs.Pairs.{IsRising}
-use Rattle.key_maps.specs.declared.disk_blk.DiskBlk.{DiskBlk}
-use Rattle.key_maps.specs.DiskIndexes.{disk_blk_cmp, disk_blk_eq, blks_on}
-use Rattle.key_maps.proofs.DiskIndexes.{disk_blk_ties}
+use Rattle.block_maps.specs.declared.disk_blk.DiskBlk.{DiskBlk}
+use Rattle.block_maps.specs.DiskIndexes.{disk_blk_cmp, disk_blk_eq, blks_on}
+use Rattle.block_maps.proofs.DiskIndexes.{disk_blk_ties}
 use Rattle.store_rules.specs.declared.blocks.Block.{Block}
 use Rattle.store_rules.specs.Blocks.{Blocks}
 use Rattle.block_shard.specs.Index.{IsIndexOf, pair, block_row, blocks_on}

@@ -2,9 +2,9 @@ ghost use Rattle.std.specs.Prelude.{◌≡◌, false, Some, None, OnOk, OnErr, i
 ghost use Rattle.std.specs.FinMap.{get};
 ghost use Rattle.tect_ids.specs.declared.ids.DiskId.{DiskId};
 ghost use Rattle.block_shard.specs.Index.{pair, is_row_of};
-ghost use Rattle.key_maps.specs.declared.disk_blk.DiskBlk.{DiskBlk as Pair};
+ghost use Rattle.block_maps.specs.declared.disk_blk.DiskBlk.{DiskBlk as Pair};
 
-use key_maps::{DiskBlk, DiskIndex};
+use block_maps::{DiskBlk, DiskIndex};
 use tect_ids::{BlkId, NewRow, NoMemory};
 
 // Lists the block under the disks of these rows. For want of memory it is listed nowhere, as before.

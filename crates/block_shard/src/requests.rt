@@ -7,7 +7,7 @@ ghost use Rattle.store_rules.specs.Blocks.{release_block_answer, release_block_c
 
 use crate::indexed::{list_rows, take_rows};
 use crate::shard::BlockShard;
-use key_maps::BlkMap;
+use block_maps::BlkMap;
 use small_maps::{BlockRows, HoldList};
 use std::alloc::Global;
 use store_rules::{Block, BlockReply, Outcome};

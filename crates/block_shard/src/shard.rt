@@ -1,11 +1,11 @@
 ghost use Rattle.std.specs.Prelude.{◌≡◌, true, IsTrue, IsOk, IfOk, OnOk, OnErr};
 ghost use Rattle.std.specs.FinMap.{empty};
-ghost use Rattle.key_maps.specs.DiskIndexes.{blks_left};
+ghost use Rattle.block_maps.specs.DiskIndexes.{blks_left};
 ghost use Rattle.store_rules.specs.Outcomes.{changes, reply};
 ghost use Rattle.store_rules.specs.Blocks.{block_answer, block_change, block_rule, block_step};
 ghost use Rattle.block_shard.specs.Index.{blocks_on};
 
-use key_maps::{BlkMap, BlksOnDisk, DiskIndex};
+use block_maps::{BlkMap, BlksOnDisk, DiskIndex};
 use std::alloc::Global;
 use std::marker::Model;
 use store_rules::{Block, BlockReply, BlockReq, Outcome};

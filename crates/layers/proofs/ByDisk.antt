@@ -7,8 +7,8 @@ use Rattle.tect_ids.specs.declared.ids.DiskId.{DiskId}
 use Rattle.tect_ids.specs.declared.key.ChunkKey.{ChunkKey}
 use Rattle.tect_ids.specs.Keys.{chunk_cmp, disk_cmp, disk_eq}
 use Rattle.tect_ids.proofs.KeyTests.{disk_eq_cases, disk_ties}
-use Rattle.key_maps.specs.Chunks.{on_disk}
-use Rattle.key_maps.proofs.ChunkFront.{entries-on_disk}
+use Rattle.block_maps.specs.Chunks.{on_disk}
+use Rattle.block_maps.proofs.ChunkFront.{entries-on_disk}
 use Rattle.store_rules.specs.Disks.{Chunks}
 use Rattle.store_rules.specs.Dumps.{chunk_line}
 use Rattle.store_shards.specs.Shards.{KeepsChunks}

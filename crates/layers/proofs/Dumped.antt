@@ -29,7 +29,7 @@ use Rattle.tect_ids.specs.Keys.{blk_cmp, dir_cmp, disk_cmp, file_cmp}
 use Rattle.tect_ids.proofs.KeyTests.{num_eq_cases, blk_cmp_total, dir_cmp_total, disk_cmp_total, file_cmp_total}
 use Rattle.tect_ids.proofs.KeyTests.{blk_antisymmetric, dir_antisymmetric, disk_antisymmetric, file_antisymmetric}
 use Rattle.tect_ids.proofs.Layers.{has_place}
-use Rattle.key_maps.specs.Chunks.{on_disk}
+use Rattle.block_maps.specs.Chunks.{on_disk}
 use Rattle.key_words.specs.Maps.{within}
 use Rattle.store_rules.specs.declared.blocks.Block.{Block}
 use Rattle.store_rules.specs.declared.files.File.{File}

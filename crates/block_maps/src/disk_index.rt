@@ -1,7 +1,7 @@
 ghost use Rattle.std.specs.Prelude.{◌≡◌, OnOk, OnErr, Some, None, IsSome, IsOk};
 ghost use Rattle.std.specs.FinMap.{empty, get};
 ghost use Rattle.map_words.specs.Maps.{set_at};
-ghost use Rattle.key_maps.specs.DiskIndexes.{blks_on, blks_left};
+ghost use Rattle.block_maps.specs.DiskIndexes.{blks_on, blks_left};
 
 use crate::blks_on_disk::BlksOnDisk;
 use crate::disk_blk::DiskBlk;
@@ -19,7 +19,7 @@ pub struct DiskIndex {
 impl Model for DiskIndex {
     ghost use Rattle.std.specs.FinMap as map;
     ghost use Rattle.ordered_rows.specs.Pairs.{pairs};
-    ghost use Rattle.key_maps.specs.DiskIndexes.{disk_blk_cmp, disk_blk_code, unit_code};
+    ghost use Rattle.block_maps.specs.DiskIndexes.{disk_blk_cmp, disk_blk_code, unit_code};
 
     ghost Value = { map.FinMap disk_blk_cmp (Unit {0}) };
 

@@ -1,8 +1,8 @@
 use Rattle.std.proofs.Common.{rules, ap, ◌∙◌}
 use Rattle.ordered_rows.specs.Pairs.{pairs}
-use Rattle.key_maps.specs.DiskIndexes.{blks_on, blks_of_front}
-use Rattle.key_maps.proofs.DiskIndexes.{is_before, before_closed, blks_past}
-use Rattle.key_maps.proofs.disk_index.DiskIndex.on.Goals as goal
+use Rattle.block_maps.specs.DiskIndexes.{blks_on, blks_of_front}
+use Rattle.block_maps.proofs.DiskIndexes.{is_before, before_closed, blks_past}
+use Rattle.block_maps.proofs.disk_index.DiskIndex.on.Goals as goal
 
 pub returns : goal.returns
 returns c =

@@ -4,8 +4,8 @@ ghost use Rattle.std.specs.FinMap.{empty, get, len, entries};
 ghost use Rattle.std.specs.Borrow.{LendsIf, sem};
 ghost use Rattle.map_words.specs.Pairs.{left};
 ghost use Rattle.map_words.specs.Maps.{set_at};
-ghost use Rattle.key_maps.specs.Chunks.{on_disk};
-ghost use Rattle.key_maps.specs.contracts.by_chunk.ChunkMap.{the_row};
+ghost use Rattle.block_maps.specs.Chunks.{on_disk};
+ghost use Rattle.block_maps.specs.contracts.by_chunk.ChunkMap.{the_row};
 
 use crate::on_disk::DiskCursor;
 use ordered_rows::{Cursor, Rows};

@@ -1,7 +1,7 @@
 ghost use Rattle.std.specs.Prelude.{◌≡◌, length};
 ghost use Rattle.std.specs.Iterator.{YieldsFirst, at_most};
 ghost use Rattle.map_words.specs.Pairs.{left};
-ghost use Rattle.key_maps.specs.DiskIndexes.{blks_left, blks_of_front};
+ghost use Rattle.block_maps.specs.DiskIndexes.{blks_left, blks_of_front};
 
 use crate::disk_blk::DiskBlk;
 use ordered_rows::Cursor;
@@ -20,7 +20,7 @@ pub struct BlksOnDisk<'a> {
 impl<'a> Model for BlksOnDisk<'a> {
     ghost use Rattle.std.specs.Prelude.{List, [], if◌then◌else◌};
     ghost use Rattle.std.specs.Coded.{coded_list};
-    ghost use Rattle.key_maps.specs.DiskIndexes.{blks_of_front};
+    ghost use Rattle.block_maps.specs.DiskIndexes.{blks_of_front};
     ghost use Rattle.tect_ids.specs.declared.ids.BlkId.{BlkId as AnyBlk};
     ghost use Rattle.tect_ids.specs.Codes.{blk_code};
 

@@ -7,7 +7,7 @@ use Rattle.tect_ids.specs.declared.ids.FileId.{FileId}
 use Rattle.tect_ids.specs.declared.ids.OpId.{OpId}
 use Rattle.tect_ids.specs.Codes.{file_code, op_code}
 use Rattle.program_forms.specs.Memories.{OpenedFile, OpenedFiles}
-use Rattle.tect_calls.specs.Knowing.{Known}
+use Rattle.memories.specs.Knowing.{Known}
 
 abbrev pub opened_code : Coded OpenedFile
 opened_code = code_by (FileId × OpId) (coded× file_code op_code) (λ o. (o.file, o.token)) (λ p. record { file = p.0; token = p.1 }) (λ _. refl)

@@ -14,9 +14,9 @@ use Rattle.map_words.specs.Maps.{set_at}
 use Rattle.map_words.proofs.Entries.{take_while-past}
 use Rattle.map_words.proofs.Made.{map_new, map_get, map_put, map_take, map_entries}
 use Rattle.map_words.proofs.Maps.{get-set_at}
-use Rattle.key_maps.specs.contracts.disk_blk.DiskBlkOrd.TheImpl.Laws as disk_blk_laws
-use Rattle.key_maps.specs.declared.disk_blk.DiskBlk.{DiskBlk}
-use Rattle.key_maps.specs.DiskIndexes.{disk_blk_cmp, disk_blk_eq, blks_of_front, blks_on}
+use Rattle.block_maps.specs.contracts.disk_blk.DiskBlkOrd.TheImpl.Laws as disk_blk_laws
+use Rattle.block_maps.specs.declared.disk_blk.DiskBlk.{DiskBlk}
+use Rattle.block_maps.specs.DiskIndexes.{disk_blk_cmp, disk_blk_eq, blks_of_front, blks_on}
 
 pub disk_blk_cmp_total : IsTotalOrder disk_blk_cmp
 disk_blk_cmp_total = disk_blk_laws.total-law

@@ -10,7 +10,7 @@ use Rattle.tect_ids.proofs.KeyTests.{chunk_cmp_total, chunk_antisymmetric}
 use Rattle.map_words.specs.Pairs.{IsRising, IsDownwardClosed, pairs_past}
 use Rattle.map_words.proofs.Entries.{take_while-past, entries-retain_keys}
 use Rattle.map_words.proofs.Made.{map_entries}
-use Rattle.key_maps.specs.Chunks.{on_disk, front_on}
+use Rattle.block_maps.specs.Chunks.{on_disk, front_on}
 
 pub disk_eq_is : (a b : DiskId) → disk_eq a b ≡ eqb a.0 b.0
 unfolding disk_eq

@@ -6,7 +6,7 @@ use Rattle.map_words.specs.Pairs.{IsRising}
 use Rattle.map_words.specs.Maps.{set_at}
 use Rattle.map_words.proofs.Made.{map_new, map_get, map_put}
 use Rattle.program_forms.specs.Memories.{OpenedFile, path_cmp}
-use Rattle.tect_calls.specs.contracts.path_key.PathKeyOrd.TheImpl.Laws as path_laws
+use Rattle.memories.specs.contracts.path_key.PathKeyOrd.TheImpl.Laws as path_laws
 
 path_cmp_total : IsTotalOrder path_cmp
 path_cmp_total = path_laws.total-law

@@ -1,9 +1,9 @@
 use Rattle.std.proofs.Common.{rules, ap, ◌∙◌}
 use Rattle.std.specs.FinMap.{entries}
 use Rattle.ordered_rows.specs.Pairs.{pairs}
-use Rattle.key_maps.specs.Chunks.{on_disk, front_on}
-use Rattle.key_maps.proofs.ChunkFront.{is_before, before_closed, front_on-past}
-use Rattle.key_maps.proofs.by_chunk.ChunkMap.on_disk.Goals as goal
+use Rattle.block_maps.specs.Chunks.{on_disk, front_on}
+use Rattle.block_maps.proofs.ChunkFront.{is_before, before_closed, front_on-past}
+use Rattle.block_maps.proofs.by_chunk.ChunkMap.on_disk.Goals as goal
 
 pub returns : goal.returns
 returns g c =

@@ -1,7 +1,7 @@
 ghost use Rattle.std.specs.Prelude.{◌≡◌, length};
 ghost use Rattle.std.specs.Iterator.{YieldsFirstBy, at_most};
 ghost use Rattle.map_words.specs.Pairs.{left, pair_of};
-ghost use Rattle.key_maps.specs.Chunks.{front_on};
+ghost use Rattle.block_maps.specs.Chunks.{front_on};
 
 use ordered_rows::Cursor;
 use std::iter::Iterator;
@@ -18,7 +18,7 @@ pub struct DiskCursor<'a, V> {
 
 impl<'a, V> Model for DiskCursor<'a, V> {
     ghost use Rattle.std.specs.Prelude.{List, [], if◌then◌else◌};
-    ghost use Rattle.key_maps.specs.Chunks.{front_on};
+    ghost use Rattle.block_maps.specs.Chunks.{front_on};
     ghost use Rattle.tect_ids.specs.declared.key.ChunkKey.{ChunkKey as AnyChunk};
     ghost use Rattle.tect_ids.specs.Codes.{chunk_code};
     ghost use Rattle.std.specs.Coded.{coded_list, coded×};

@@ -9,8 +9,8 @@ use Rattle.tect_ids.specs.declared.ids.BlkId.{BlkId}
 use Rattle.tect_ids.specs.declared.ids.DiskId.{DiskId}
 use Rattle.tect_ids.specs.Codes.{blk_code, disk_code}
 use Rattle.tect_ids.specs.Keys.{blk_eq, disk_eq}
-use Rattle.key_maps.specs.contracts.disk_blk.DiskBlkOrd.TheImpl as disk_blk_ord
-use Rattle.key_maps.specs.declared.disk_blk.DiskBlk.{DiskBlk}
+use Rattle.block_maps.specs.contracts.disk_blk.DiskBlkOrd.TheImpl as disk_blk_ord
+use Rattle.block_maps.specs.declared.disk_blk.DiskBlk.{DiskBlk}
 
 abbrev pub disk_blk_cmp : DiskBlk → DiskBlk → Ordering
 disk_blk_cmp = (disk_blk_ord.ghosts).cmp

@@ -4,10 +4,10 @@ ghost use Rattle.std.specs.FinMap.{empty, get};
 ghost use Rattle.map_words.specs.Maps.{set_at};
 
 use crate::path_key::PathKey;
-use crate::tokens::MadeFile;
 use ordered_rows::Rows;
 use std::alloc::Global;
 use std::marker::Model;
+use tect_calls::MadeFile;
 use tect_ids::{NoMemory, Token};
 
 /// A file that an actor opened, and the token that its open wrote into it.
@@ -19,7 +19,7 @@ pub struct OpenedFile {
 
 impl Model for OpenedFile {
     ghost use Rattle.program_forms.specs.Memories as memories;
-    ghost use Rattle.tect_calls.specs.Codes.{opened_code};
+    ghost use Rattle.memories.specs.Codes.{opened_code};
 
     ghost Value = { memories.OpenedFile };
 
@@ -54,7 +54,7 @@ impl Model for OpenedFiles {
     ghost use Rattle.std.specs.FinMap.{from_sorted};
     ghost use Rattle.ordered_rows.specs.Pairs.{pairs};
     ghost use Rattle.program_forms.specs.Memories as memories;
-    ghost use Rattle.tect_calls.specs.Codes.{opened_files_code};
+    ghost use Rattle.memories.specs.Codes.{opened_files_code};
 
     ghost Value = { memories.OpenedFiles };
 

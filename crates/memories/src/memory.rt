@@ -3,13 +3,13 @@ ghost use Rattle.std.specs.Option.{option_copied};
 ghost use Rattle.std.specs.FinMap.{get};
 ghost use Rattle.tect_ids.specs.Places.{HasPlaces};
 ghost use Rattle.program_forms.specs.Memories.{opening_memory, learnt, Opens};
-ghost use Rattle.tect_calls.specs.Knowing.{IsActor, number_for};
+ghost use Rattle.memories.specs.Knowing.{IsActor, number_for};
 
 use crate::opened_files::{OpenedFile, OpenedFiles};
 use crate::path_key::PathKey;
-use crate::tokens::MadeFile;
 use std::alloc::Global;
 use std::marker::Model;
+use tect_calls::MadeFile;
 use tect_ids::{Counts, NoMemory, OpId, Token};
 
 /// What an actor knows between its commands: its number, the serial of the next object that it makes, how many shards there
@@ -24,8 +24,8 @@ pub struct Memory {
 
 impl Model for Memory {
     ghost use Rattle.tect_ids.specs.Places.{HasPlaces};
-    ghost use Rattle.tect_calls.specs.Codes.{known_code};
-    ghost use Rattle.tect_calls.specs.Knowing.{Known, IsActor};
+    ghost use Rattle.memories.specs.Codes.{known_code};
+    ghost use Rattle.memories.specs.Knowing.{Known, IsActor};
 
     ghost Value = { Known };
 

@@ -4,7 +4,7 @@ ghost use Rattle.std.specs.FinMap.{empty, get, len, entries};
 ghost use Rattle.std.specs.Borrow.{LendsIf, sem};
 ghost use Rattle.map_words.specs.Pairs.{left};
 ghost use Rattle.map_words.specs.Maps.{set_at};
-ghost use Rattle.key_maps.specs.contracts.by_blk.BlkMap.{the_row};
+ghost use Rattle.block_maps.specs.contracts.by_blk.BlkMap.{the_row};
 
 use ordered_rows::{Cursor, Rows};
 use std::alloc::Global;
