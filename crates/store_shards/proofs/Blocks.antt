@@ -1,5 +1,5 @@
 -- a request to a shard that has its block is answered and done as on the whole, and leaves the other shards
-use Rattle.std.proofs.Common.{◌≡◌, Bool, true, false, Option, Some, None, arith}
+use Rattle.std.proofs.Common.{◌≡◌, Bool, true, false, Option, Some, None, if◌then◌else◌, ap, arith}
 use Rattle.std.specs.FinMap.{get, same_map}
 use Rattle.tect_ids.specs.declared.ids.BlkId.{BlkId}
 use Rattle.tect_ids.specs.declared.key.Upper.TheVariants as uppers

@@ -1,5 +1,5 @@
 -- a request to a disk is answered and done as on all disks together, and leaves the other disks
-use Rattle.std.proofs.Common.{◌≡◌, ℕ, Bool, true, false, Option, List, arith}
+use Rattle.std.proofs.Common.{◌≡◌, ℕ, Bool, true, false, Option, List, if◌then◌else◌, arith}
 use Rattle.std.specs.FinMap.{get, same_map}
 use Rattle.tect_ids.specs.declared.ids.DiskId.{DiskId}
 use Rattle.tect_ids.specs.declared.key.ChunkKey.{ChunkKey}
