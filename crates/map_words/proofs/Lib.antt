@@ -5,3 +5,4 @@ pub mod Made
 pub mod Maps
 pub mod Ranges
 pub mod Values
+pub mod Results
