@@ -11,7 +11,7 @@ use Rattle.store_rules.specs.declared.any.AnyReq.{AnyReq}
 use Rattle.store_rules.specs.Alone.{opening_of, request_layer}
 use Rattle.store_rules.specs.Places.{request_place}
 use Rattle.store_rules.specs.Store.{Store, opening_store, store_reply, store_step}
-use Rattle.store_rules.proofs.Asked.{asked_layer}
+use Rattle.store_shards.proofs.Asked.{asked_layer}
 use Rattle.store_shards.specs.Rows.{together, AreShards}
 use Rattle.store_shards.specs.Shards.{root_place}
 use Rattle.store_shards.proofs.Rows.{row_index, row_reply, row_done, row_stays, row_opens}

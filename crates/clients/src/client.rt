@@ -45,7 +45,7 @@ impl<P: Programs> Model for Client<P> {
 }
 
 /// The same command once more.
-#[tactic(auto, using(tect_ids::proofs::Clones::same_command))]
+#[tactic(auto, using(entry_words::proofs::WordClones::same_command))]
 fn again(command: &Command) -> Result<Command, NoMemory>
     ensures { IfOk result (λ same. same ≡ command.now) }
 {

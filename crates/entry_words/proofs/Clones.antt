@@ -3,8 +3,8 @@ use Rattle.std.proofs.Common.{◌≡◌, ℕ, arith, rules}
 use Rattle.tect_ids.specs.declared.answer.Answer.{Answer}
 use Rattle.tect_ids.specs.declared.command.Command.{Command}
 use Rattle.tect_ids.specs.declared.ids.OpId.{OpId}
-use Rattle.tect_ids.proofs.Clones.{same_answer, same_command}
-use Rattle.store_rules.proofs.Clones.{same_req, same_reply}
+use Rattle.entry_words.proofs.WordClones.{same_answer, same_command}
+use Rattle.entry_words.proofs.RequestClones.{same_req, same_reply}
 use Rattle.entry_words.specs.contracts.entry.EntryClone.TheImpl as entry_clone
 use Rattle.entry_words.specs.contracts.entry.MomentClone.TheImpl as moment_clone
 use Rattle.entry_words.specs.contracts.entry.NoteClone.TheImpl as note_clone
@@ -15,8 +15,15 @@ use Rattle.entry_words.specs.declared.entry.Moment.TheVariants.{Act, Local}
 use Rattle.entry_words.specs.declared.entry.Note.{Note}
 use Rattle.entry_words.specs.declared.entry.Note.TheVariants.{Began, Ended, Stopped}
 
+-- two entries are one where all their parts are
+parts : (a b : Entry) → b.stamp ≡ a.stamp → b.place ≡ a.place → b.actor ≡ a.actor → b.number ≡ a.number → b.step ≡ a.step
+    → b.req ≡ a.req → b.reply ≡ a.reply → b ≡ a
+parts a b e f g h i j k = search rules
+
 pub same_entry : (a b : Entry) → (entry_clone.ghosts).is_clone a b → b ≡ a
-same_entry a b h = search (rules, same_req, same_reply)
+same_entry a b h =
+    let (stamp, (place, (actor, (number, (step, (req, reply)))))) = h in
+    parts a b stamp place actor number step (same_req a.req b.req req) (same_reply a.reply b.reply reply)
 
 tie_began : (o p : OpId) (c d : Command) → o ≡ p → c ≡ d → Began o c ≡ Began p d
 tie_began o p c d e f = cc

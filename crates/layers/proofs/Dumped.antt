@@ -25,7 +25,7 @@ use Rattle.tect_ids.specs.declared.dump.DumpLine.{DumpLine}
 use Rattle.tect_ids.specs.Places.{is_kept, place_number}
 use Rattle.tect_ids.specs.Keys.{dir_cmp, file_cmp}
 use Rattle.tect_ids.proofs.KeyTests.{num_eq_cases, dir_cmp_total, file_cmp_total, dir_antisymmetric, file_antisymmetric}
-use Rattle.key_maps.specs.Maps.{within}
+use Rattle.key_words.specs.Maps.{within}
 use Rattle.store_rules.specs.declared.files.File.{File}
 use Rattle.store_rules.specs.declared.names.Directory.{Directory}
 use Rattle.store_rules.specs.Alone.{no_store}

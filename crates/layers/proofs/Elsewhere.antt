@@ -7,7 +7,7 @@ use Rattle.tect_ids.specs.declared.ids.FileId.{FileId}
 use Rattle.tect_ids.specs.declared.ids.Layer.{Layer}
 use Rattle.tect_ids.specs.declared.ids.Layer.TheVariants as layers
 use Rattle.tect_ids.specs.Keys.{dir_cmp, file_cmp}
-use Rattle.key_maps.proofs.Lookups.{maps}
+use Rattle.key_words.proofs.Lookups.{maps}
 use Rattle.store_rules.specs.declared.files.File.{File}
 use Rattle.store_rules.specs.declared.names.Directory.{Directory}
 use Rattle.store_rules.specs.Alone.{files_alone, names_alone}

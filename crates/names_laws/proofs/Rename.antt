@@ -38,7 +38,7 @@ use Rattle.part_laws.specs.Parts.{PartLaws, NextKnows, next_decided}
 use Rattle.part_laws.specs.Releases.{release_deciding, release_known}
 use Rattle.part_laws.proofs.States.{LawsIn, WaitsAt, part_laws, waits, laws_in}
 use Rattle.part_laws.proofs.Within.{IsWithin, laws_within}
-use Rattle.part_laws.proofs.Own.{nothing_own, hold_own, plain, no_hold, new_stays, new_untouched}
+use Rattle.part_laws.proofs.Own.{nothing_own, hold_own, bound_own, plain, no_hold, new_stays, new_untouched}
 use Rattle.part_laws.proofs.Refused.{look_not_odd, dir_grant_not_odd, file_grant_not_odd, swap_not_odd}
 use Rattle.part_laws.proofs.Releases.{release_laws, old_freed}
 use Rattle.names_laws.specs.Known.{RenameKnows, RenameGrantKnows, RenameSwapKnows}
@@ -86,7 +86,7 @@ find_waits d from to = record {
       let q : AnyReq = any.Name (names.Look (key_in d from)) in
       let x : AnyReply = store_reply w.store q in
       found_knows (next w q) op n (request_place c q) d from to x (as_found x) (kept.later.made (Dir d) k.made)
-      (new_untouched (touched_by q) w (next w q) op kept.later (λ h own. refl) k.new)
+      (new_untouched (touched_by q) w (next w q) op kept.later (λ h own. refl) (λ h own. refl) (λ t own. refl) k.new)
       (look_not_odd w.store (request_place c q) (key_in d from) (key_in d from)) kept.taught;
   spends = λ c w op m r a k x h g now own is live. absurd (no_hold w op k.new h g own is);
   grants = λ c w op m r a k kept h free touched granted. absurd (let f : false ≡ true = touched in cc);
@@ -177,7 +177,7 @@ swap_waits d p node hold = record {
   looks = λ c m op. refl;
   undecided = refl;
   meets = λ c w op m r a k.
-      plain w op m _ refl ((k.hold).granted, k.other) (hold_own op m hold (of_op w op hold node (key_in d p.to) k.hold));
+      plain w op m _ refl ((k.hold).granted, k.other) (bound_own op m hold (of_op w op hold node (key_in d p.to) k.hold));
   stays = λ by w v op m l apart k. swap_stays by w v op l apart d p node hold k;
   goes_on = λ c w op m n r a k kept serial.
       let q : AnyReq = any.Name (names.Swap d p.from p.to node hold) in

@@ -4,6 +4,8 @@ use Rattle.tect_ids.specs.declared.ids.Hold.{Hold}
 use Rattle.tect_ids.specs.declared.ids.Node.{Node}
 use Rattle.tect_ids.specs.declared.ids.Node.TheVariants.{Dir, File}
 use Rattle.tect_ids.specs.declared.ids.OpId.{OpId}
+use Rattle.tect_ids.specs.declared.ids.Tag.{Tag}
+use Rattle.tect_ids.specs.declared.command.Command.{Command}
 use Rattle.tect_ids.specs.Keys.{op_eq, hold_eq}
 use Rattle.tect_ids.specs.Numbers.{object_number}
 use Rattle.tect_ids.proofs.KeyTests.{keys}
@@ -12,30 +14,87 @@ use Rattle.program_forms.specs.Memories.{Memory}
 use Rattle.store_pasts.specs.Worlds.{World, Given}
 use Rattle.store_pasts.specs.Pasts.{was_made}
 use Rattle.store_pasts.specs.Later.{actor_of, Touched, Later, Within}
-use Rattle.store_pasts.specs.Requests.{Needs, makes, touched_by, touches_nothing, touches_hold, touches_new, touches_named}
-use Rattle.program_laws.specs.Known.{Remembers, IsActor, IsNewOp, IsApart, by_op, Meets}
+use Rattle.store_pasts.specs.Requests.{Needs, makes, touched_by, touches_nothing, touches_hold, touches_bound, touches_new, touches_named}
+use Rattle.program_laws.specs.Known.{Remembers, IsActor, IsNewOp, HasSaid, IsApart, by_op, Meets}
 
 -- ---- what a request touches
 
 module _ (op : OpId) (m : Memory) where
   pub nothing_own : Within touches_nothing (by_op op m)
-  nothing_own = record { hold = λ h o. refl; made = λ n o. refl; named = λ n o. refl }
+  nothing_own = record {
+    hold = λ h o. refl;
+    made = λ n o. refl;
+    named = λ n o. refl;
+    row_hold = λ h o. refl;
+    born = λ b o. refl;
+    tag = λ t o. refl;
+    sealed = λ b o. refl;
+    said = λ x o. refl;
+  }
 
   -- a hold of another op is none of this one's
   other_op : (h x : Hold) → h.op ≡ op → op_eq x.op op ≡ false → hold_eq x h ≡ false
   other_op h x own other = grind (arith, keys)
 
   pub hold_own : (h : Hold) → h.op ≡ op → Within (touches_hold h) (by_op op m)
-  hold_own h own = record { hold = λ x o. other_op h x own o; made = λ n o. refl; named = λ n o. refl }
+  hold_own h own = record {
+    hold = λ x o. other_op h x own o;
+    made = λ n o. refl;
+    named = λ n o. refl;
+    row_hold = λ x o. refl;
+    born = λ b o. refl;
+    tag = λ t o. refl;
+    sealed = λ b o. refl;
+    said = λ x o. refl;
+  }
+
+  pub bound_own : (h : Hold) → h.op ≡ op → Within (touches_bound h) (by_op op m)
+  bound_own h own = record {
+    hold = λ x o. other_op h x own o;
+    made = λ n o. refl;
+    named = λ n o. refl;
+    row_hold = λ x o. other_op h x own o;
+    born = λ b o. refl;
+    tag = λ t o. refl;
+    sealed = λ b o. refl;
+    said = λ x o. refl;
+  }
 
   pub file_own : (h : Hold) → h.op ≡ op → Within (touches_new (File record { 0 = object_number op.actor m.serial }) h) (by_op op m)
-  file_own h own = record { hold = λ x o. other_op h x own o; made = λ n o. grind (arith, keys); named = λ n o. refl }
+  file_own h own = record {
+    hold = λ x o. other_op h x own o;
+    made = λ n o. grind (arith, keys);
+    named = λ n o. refl;
+    row_hold = λ x o. refl;
+    born = λ b o. refl;
+    tag = λ t o. refl;
+    sealed = λ b o. refl;
+    said = λ x o. refl;
+  }
 
   pub dir_own : (h : Hold) → h.op ≡ op → Within (touches_new (Dir record { 0 = object_number op.actor m.serial }) h) (by_op op m)
-  dir_own h own = record { hold = λ x o. other_op h x own o; made = λ n o. grind (arith, keys); named = λ n o. refl }
+  dir_own h own = record {
+    hold = λ x o. other_op h x own o;
+    made = λ n o. grind (arith, keys);
+    named = λ n o. refl;
+    row_hold = λ x o. refl;
+    born = λ b o. refl;
+    tag = λ t o. refl;
+    sealed = λ b o. refl;
+    said = λ x o. refl;
+  }
 
   pub named_own : (n : Node) (h : Hold) → h.op ≡ op → actor_of n ≡ op.actor → Within (touches_named n h) (by_op op m)
-  named_own n h own mine = record { hold = λ x o. other_op h x own o; made = λ k o. refl; named = λ k o. grind (arith, keys) }
+  named_own n h own mine = record {
+    hold = λ x o. other_op h x own o;
+    made = λ k o. refl;
+    named = λ k o. grind (arith, keys);
+    row_hold = λ x o. other_op h x own o;
+    born = λ b o. refl;
+    tag = λ t o. refl;
+    sealed = λ b o. refl;
+    said = λ x o. refl;
+  }
 
 module _ (w : World) (op : OpId) (m : Memory) (q : AnyReq) where
   -- a request that makes nothing takes no serial
@@ -63,6 +122,10 @@ module _ (w : World) (op : OpId) (m : Memory) (r : Remembers w op.actor m) (a : 
   pub dir_free : was_made w.ghost (Dir record { 0 = object_number op.actor m.serial }) ≡ false
   dir_free = r.dirs a.from m.serial (omega arith) a.few
 
+  -- nor was a block of that number
+  pub block_free : w.ghost.born record { 0 = object_number op.actor m.serial } ≡ None
+  block_free = r.blocks a.from m.serial (omega arith) a.few
+
 -- ---- its holds
 
 pub same_op : (op : OpId) → op_eq op op ≡ true
@@ -75,8 +138,17 @@ pub no_hold : (w : World) (op : OpId) → IsNewOp w op → (h : Hold) (g : Given
 no_hold w op new h g own is = let f : None ≡ Some g = sym (new.given h own) ∙ is in cc
 
 module _ (by : Touched) (w v : World) (op : OpId) (l : Later by w v) where
-  pub new_untouched : ((h : Hold) → h.op ≡ op → by.hold h ≡ false) → IsNewOp w op → IsNewOp v op
-  new_untouched none new = record { given = λ h own. l.fresh h (none h own) (new.given h own) }
+  pub new_untouched : ((h : Hold) → h.op ≡ op → by.hold h ≡ false) → ((h : Hold) → h.op ≡ op → by.row_hold h ≡ false)
+      → ((t : Tag) → t.op ≡ op → by.tag t ≡ false) → IsNewOp w op → IsNewOp v op
+  new_untouched hold row_hold tag new = record {
+    given = λ h own. l.fresh h (hold h own) (new.given h own);
+    row_given = λ h own. l.rows.fresh h (row_hold h own) (new.row_given h own);
+    tagged = λ t own. l.blocks.untagged t (tag t own) (new.tagged t own);
+  }
 
   pub new_stays : IsApart by op → IsNewOp w op → IsNewOp v op
-  new_stays apart new = new_untouched apart.hold new
+  new_stays apart new = new_untouched apart.hold apart.row_hold apart.tag new
+
+  -- and what it said it has said
+  pub said_stays : (c : Command) → HasSaid w op c → HasSaid v op c
+  said_stays c said bytes e = l.blocks.said op bytes (said bytes e)

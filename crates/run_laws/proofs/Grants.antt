@@ -27,7 +27,8 @@ use Rattle.store_world.specs.Sound.{Sound}
 use Rattle.store_pasts.specs.Requests.{Needs, is_moved, touched_by}
 use Rattle.store_pasts.proofs.Over.{settles_nothing}
 use Rattle.store_world.proofs.Rows.{role_laws}
-use Rattle.program_laws.specs.Known.{Deciding, Known}
+use Rattle.store_pasts.proofs.Sayings.{saying_later}
+use Rattle.program_laws.specs.Known.{Deciding, Known, command_bytes}
 use Rattle.program_laws.specs.Laws.{ProgramLaws, HoldLaws}
 use Rattle.run_laws.specs.Pasts.{ghosts_after, ghost_after, world_of, world}
 use Rattle.run_laws.specs.Known.{AllSound}
@@ -163,7 +164,7 @@ module _ {S : Type 0} (P : Programs S) (D : Deciding S Answer) (N : Known S Answ
   held_step m g s h v is live (Own op (Acted q x heard)) may un =
       let by : (st : S) × IsAsked P m op q st = asked_by_op P m op q may.0 in
       held_act m g s op q by.0 by.1 h v is live x heard may.1 un
-  held_step m g s h v is live (Own op (Began c)) may un = is
+  held_step m g s h v is live (Own op (Began c)) may un = (saying_later (world_of m g) op (command_bytes c)).live h v refl is live
   held_step m g s h v is live (Own op (NotBegun c)) may un = is
   held_step m g s h v is live (Own op (Ended a)) may un = is
   held_step m g s h v is live (Own op Stopped) may un = is

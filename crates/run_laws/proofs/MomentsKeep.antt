@@ -1,14 +1,15 @@
 -- each event keeps what is so at every moment
-use Rattle.std.proofs.Common.{◌≡◌, ℕ, ◌<◌, ◌≤◌, ◌^◌, Bool, true, false, eqb, Option, Some, None, refl, arith, subst}
+use Rattle.std.proofs.Common.{◌≡◌, ℕ, ◌<◌, ◌≤◌, ◌^◌, Bool, true, false, eqb, List, Option, Some, None, refl, arith, subst}
 use Rattle.tect_ids.specs.declared.ids.Counts.{Counts}
 use Rattle.tect_ids.specs.declared.ids.Hold.{Hold}
 use Rattle.tect_ids.specs.declared.ids.Node.TheVariants.{Dir, File}
 use Rattle.tect_ids.specs.declared.ids.OpId.{OpId}
+use Rattle.tect_ids.specs.declared.ids.Tag.{Tag}
 use Rattle.tect_ids.specs.declared.answer.Answer.{Answer}
 use Rattle.tect_ids.specs.declared.command.Command.{Command}
 use Rattle.tect_ids.specs.Numbers.{object_number}
 use Rattle.tect_ids.proofs.KeyTests.{keys}
-use Rattle.key_maps.proofs.Lookups.{maps}
+use Rattle.key_words.proofs.Lookups.{maps}
 use Rattle.store_rules.specs.declared.any.AnyReq.{AnyReq}
 use Rattle.store_rules.specs.declared.any.AnyReply.{AnyReply}
 use Rattle.store_rules.specs.Store.{store_reply}
@@ -23,23 +24,25 @@ use Rattle.world_runs.specs.declared.event.Event.TheVariants.{Own, Dumped}
 use Rattle.world_runs.specs.declared.event.Happening.TheVariants.{Began, NotBegun, Acted, Ended, Stopped, Failed}
 use Rattle.world_runs.specs.Actors.{Actor, Running, CanBegin, went_on, ended, memory_at_end, standing_heard}
 use Rattle.world_runs.specs.Moments.{WorldState, May, after, opening, with_actor}
-use Rattle.store_pasts.specs.Worlds.{World, Ghost, next, settled, opening_ghost}
+use Rattle.store_pasts.specs.Worlds.{World, Ghost, next, settled, saying, opening_ghost, ghost_said}
 use Rattle.store_world.specs.Sound.{Sound}
-use Rattle.store_pasts.specs.Later.{Later, by_actor}
-use Rattle.store_pasts.specs.Requests.{Moved, touched_by, touches_op}
+use Rattle.store_pasts.specs.Later.{Later, Within, by_actor}
+use Rattle.store_pasts.specs.Requests.{Moved, touched_by, touches_op, touches_said}
 use Rattle.store_world.specs.Kept.{Kept}
 use Rattle.store_pasts.proofs.Laters.{weaken, later_then}
 use Rattle.store_pasts.proofs.Over.{settled_later}
+use Rattle.store_pasts.proofs.Sayings.{saying_later, says_now}
 use Rattle.store_world.proofs.Over.{settled_sound}
+use Rattle.store_world.proofs.Sayings.{saying_sound}
 use Rattle.store_world.proofs.Rows.{row_kept, opening_sound}
 use Rattle.whole_runs.proofs.Actors.{changed, other_number}
 use Rattle.tect_ids.specs.Numbers.{object_number}
-use Rattle.program_laws.specs.Known.{Deciding, Known, Remembers, IsActor, IsNewOp, IsApart, Meets, by_op}
+use Rattle.program_laws.specs.Known.{Deciding, Known, Remembers, IsActor, IsNewOp, HasSaid, IsApart, Meets, by_op, command_bytes}
 use Rattle.program_laws.specs.Laws.{ProgramLaws}
 use Rattle.run_laws.specs.Pasts.{standing_decided, ghost_after, world_of}
 use Rattle.run_laws.specs.Known.{StandingKnows, RunsSoundly, RunningKnows, ActorSound, AllSound}
 use Rattle.run_laws.proofs.Turns.{IsAsked, asked_by_op}
-use Rattle.run_laws.proofs.Serials.{SerialGoesOn, serial_goes_on, within_actor, file_of_actor, dir_of_actor}
+use Rattle.run_laws.proofs.Serials.{SerialGoesOn, serial_goes_on, within_actor, file_of_actor, dir_of_actor, block_of_actor}
 
 -- what another actor does is apart from an op
 apart_of : (a : ℕ) (op : OpId) → eqb op.actor a ≡ false → IsApart (by_actor a) op
@@ -47,6 +50,36 @@ apart_of a op other = record {
   hold = λ h own. rw (own, other) refl;
   made = λ n own. rw (own, other) refl;
   named = λ n own. rw (own, other) refl;
+  row_hold = λ h own. rw (own, other) refl;
+  born = λ b own. rw (own, other) refl;
+  tag = λ t own. rw (own, other) refl;
+  sealed = λ b own. rw (own, other) refl;
+}
+
+-- what it says at a begin is its own
+said_own : (op : OpId) → Within (touches_said op) (by_actor op.actor)
+said_own op = record {
+  hold = λ h o. refl;
+  made = λ n o. refl;
+  named = λ n o. refl;
+  row_hold = λ h o. refl;
+  born = λ b o. refl;
+  tag = λ t o. refl;
+  sealed = λ b o. refl;
+  said = λ x o. grind (arith, keys);
+}
+
+-- what is given up is its op's
+given_up_own : (op : OpId) (m : Memory) → Within (touches_op op) (by_op op m)
+given_up_own op m = record {
+  hold = λ h o. o;
+  made = λ n o. refl;
+  named = λ n o. refl;
+  row_hold = λ h o. o;
+  born = λ b o. refl;
+  tag = λ t o. refl;
+  sealed = λ b o. refl;
+  said = λ x o. refl;
 }
 
 module _ {S : Type 0} (P : Programs S) (D : Deciding S Answer) (N : Known S Answer) (laws : ProgramLaws P D N) where
@@ -56,6 +89,7 @@ module _ {S : Type 0} (P : Programs S) (D : Deciding S Answer) (N : Known S Answ
     remembers_still m r = record {
       files = λ one i le lt. l.unmade (File record { 0 = object_number b i }) (rw (file_of_actor b i lt) apart) (r.files one i le lt);
       dirs = λ one i le lt. l.unmade (Dir record { 0 = object_number b i }) (rw (dir_of_actor b i lt) apart) (r.dirs one i le lt);
+      blocks = λ one i le lt. l.blocks.unborn record { 0 = object_number b i } (rw (block_of_actor b i lt) apart) (r.blocks one i le lt);
     }
 
     standing_stays : (op : OpId) → eqb op.actor a ≡ false → (m : Memory) (at : Standing S) → StandingKnows N w op m at
@@ -77,6 +111,9 @@ module _ {S : Type 0} (P : Programs S) (D : Deciding S Answer) (N : Known S Answ
     actor_stays st k = record {
       remembers = remembers_still st.memory k.remembers;
       ahead = λ h own lt. l.fresh h (rw own apart) (k.ahead h own lt);
+      ahead_rows = λ h own lt. l.rows.fresh h (rw own apart) (k.ahead_rows h own lt);
+      ahead_tags = λ t own lt. l.blocks.untagged t (rw own apart) (k.ahead_tags t own lt);
+      unsaid = λ op own lt. l.blocks.unsaid op (rw own apart) (k.unsaid op own lt);
       few_made = k.few_made;
       few_begun = k.few_begun;
       running = running_stays st.memory st.number st.running k.running;
@@ -152,7 +189,7 @@ module _ {S : Type 0} (P : Programs S) (D : Deciding S Answer) (N : Known S Answ
       -- so it touched its own alone
       own_later : Later (by_op op mem) w (u h)
       own_later = later_then (by_op op mem) w v (u h) (weaken (touched_by q) (by_op op mem) w v meets.own kept.later)
-          (weaken (touches_op op) (by_op op mem) v (u h) record { hold = λ k o. o; made = λ n o. refl; named = λ n o. refl } after_reply)
+          (weaken (touches_op op) (by_op op mem) v (u h) (given_up_own op mem) after_reply)
 
       later : Later (by_actor op.actor) w (u h)
       later = weaken (by_op op mem) (by_actor op.actor) w (u h) (within_actor op mem few) own_later
@@ -164,10 +201,18 @@ module _ {S : Type 0} (P : Programs S) (D : Deciding S Answer) (N : Known S Answ
             (kept.later.unmade _ (serial.file i le) (looked_up.0.files one i (omega (arith, serial.grows, le)) lt));
         dirs = λ one i le lt. after_reply.unmade _ refl
             (kept.later.unmade _ (serial.dir i le) (looked_up.0.dirs one i (omega (arith, serial.grows, le)) lt));
+        blocks = λ one i le lt. after_reply.blocks.unborn _ refl
+            (kept.later.blocks.unborn _ (serial.block i le) (looked_up.0.blocks one i (omega (arith, serial.grows, le)) lt));
       }
 
       ahead_then : (k : Hold) → k.op.actor ≡ op.actor → me.number < k.op.number → (u h).ghost.given k ≡ None
       ahead_then k own lt = own_later.fresh k (grind (arith, keys, runs.last, lt)) (actor.ahead k own lt)
+
+      ahead_rows_then : (k : Hold) → k.op.actor ≡ op.actor → me.number < k.op.number → (u h).ghost.row_given k ≡ None
+      ahead_rows_then k own lt = own_later.rows.fresh k (grind (arith, keys, runs.last, lt)) (actor.ahead_rows k own lt)
+
+      ahead_tags_then : (t : Tag) → t.op.actor ≡ op.actor → me.number < t.op.number → (u h).ghost.tagged t ≡ None
+      ahead_tags_then t own lt = own_later.blocks.untagged t (grind (arith, keys, runs.last, lt)) (actor.ahead_tags t own lt)
 
     -- where it stands then, by how it heard the reply
     heard_on : (h : Heard) → StandingKnows N (u h) op (memory_heard P.kind m.counts me.memory op st q x h)
@@ -178,8 +223,11 @@ module _ {S : Type 0} (P : Programs S) (D : Deciding S Answer) (N : Known S Answ
 
     acts_on : (h : Heard) → ActorSound N (u h) op.actor (went_on P m.counts me (Some record { op = op; at = Goes st }) q x h)
     acts_on h = record {
-      remembers = record { files = (remembers_then h).files; dirs = (remembers_then h).dirs };
+      remembers = record { files = (remembers_then h).files; dirs = (remembers_then h).dirs; blocks = (remembers_then h).blocks };
       ahead = ahead_then h;
+      ahead_rows = ahead_rows_then h;
+      ahead_tags = ahead_tags_then h;
+      unsaid = λ x own lt. (own_later h).blocks.unsaid x refl (actor.unsaid x own lt);
       few_made = rw (← runs.last) (serial.few (rw (looked_up.1, runs.last) actor.few_made));
       few_begun = actor.few_begun;
       running = record { own = refl; last = runs.last; is_actor = runs.is_actor; at = heard_on h };
@@ -215,35 +263,62 @@ module _ {S : Type 0} (P : Programs S) (D : Deciding S Answer) (N : Known S Answ
     serial_few : idle.memory.serial ≤ op.number
     serial_few = omega (arith, part.few_made, can.next)
 
-    new : IsNewOp here op
-    new = record { given = λ h own. part.ahead h (rw own refl) (rw own (omega (arith, can.next))) }
-
     -- the actor's state once the op runs, and stands so
     abbrev runs_at : Standing S → Actor S
     runs_at at = record idle { number = op.number; running = Some record { op = op; at = at } }
 
-    begins : (at : Standing S) → StandingKnows N here op idle.memory at → ActorSound N here op.actor (runs_at at)
-    begins at knows = record {
-      remembers = part.remembers;
-      ahead = λ h own lt. part.ahead h own (omega (arith, can.next, lt));
-      few_made = omega (arith, serial_few);
-      few_begun = can.few;
-      running = record { own = refl; last = refl; is_actor = can.is_actor; at = knows };
-    }
+    -- the op has said that, or nothing
+    module _ (o : Option (List ℕ)) where
+      abbrev there : World
+      there = saying op o here
 
-    begins_sound : (at : Standing S) → StandingKnows N here op idle.memory at → AllSound N (with_actor m op.actor (runs_at at)) g
-    begins_sound at knows = record {
-      sound = s.sound;
-      actors = λ b. changed (λ z. ActorSound N here b z) m.actors op.actor (runs_at at) b (λ e. rw e (begins at knows)) (λ d. s.actors b);
-    }
+      begun_later : Later (touches_said op) here there
+      begun_later = saying_later here op o
 
-    began_sound : P.serves c ≡ true → AllSound N (after P m (Own op (Began c))) g
-    began_sound served = begins_sound (Goes (P.starts m.counts c))
-        (laws.begins m.counts here op idle.memory c s.sound.tree.root_made new serial_few served)
+      new : IsNewOp there op
+      new = record {
+        given = λ h own. begun_later.fresh h refl (part.ahead h (rw own refl) (rw own (omega (arith, can.next))));
+        row_given = λ h own. begun_later.rows.fresh h refl (part.ahead_rows h (rw own refl) (rw own (omega (arith, can.next))));
+        tagged = λ t own. begun_later.blocks.untagged t refl (part.ahead_tags t (rw own refl) (rw own (omega (arith, can.next))));
+      }
+
+      begins : (at : Standing S) → StandingKnows N there op idle.memory at → ActorSound N there op.actor (runs_at at)
+      begins at knows = record {
+        remembers = record {
+          files = λ one i le lt. begun_later.unmade _ refl (part.remembers.files one i le lt);
+          dirs = λ one i le lt. begun_later.unmade _ refl (part.remembers.dirs one i le lt);
+          blocks = λ one i le lt. begun_later.blocks.unborn _ refl (part.remembers.blocks one i le lt);
+        };
+        ahead = λ h own lt. begun_later.fresh h refl (part.ahead h own (omega (arith, can.next, lt)));
+        ahead_rows = λ h own lt. begun_later.rows.fresh h refl (part.ahead_rows h own (omega (arith, can.next, lt)));
+        ahead_tags = λ t own lt. begun_later.blocks.untagged t refl (part.ahead_tags t own (omega (arith, can.next, lt)));
+        unsaid = λ x own lt. begun_later.blocks.unsaid x (grind (arith, keys, lt)) (part.unsaid x own (omega (arith, can.next, lt)));
+        few_made = omega (arith, serial_few);
+        few_begun = can.few;
+        running = record { own = refl; last = refl; is_actor = can.is_actor; at = knows };
+      }
+
+      begins_sound : (at : Standing S) → StandingKnows N there op idle.memory at
+          → AllSound N (with_actor m op.actor (runs_at at)) (ghost_said op o g)
+      begins_sound at knows = record {
+        sound = saying_sound here op o s.sound;
+        actors = λ b. changed (λ z. ActorSound N there b z) m.actors op.actor (runs_at at) b (λ e. rw e (begins at knows))
+            (λ d. actor_stays op.actor b here there (weaken _ _ here there (said_own op) begun_later) (other_number b op.actor d)
+            (m.actors b) (s.actors b));
+      }
+
+    -- it has said what its command appends
+    has_said : HasSaid (there (command_bytes c)) op c
+    has_said bytes e = says_now here op (command_bytes c) bytes e (part.unsaid op refl (omega (arith, can.next)))
+
+    began_sound : P.serves c ≡ true → AllSound N (after P m (Own op (Began c))) (ghost_said op (command_bytes c) g)
+    began_sound served = begins_sound (command_bytes c) (Goes (P.starts m.counts c))
+        (laws.begins m.counts (there (command_bytes c)) op idle.memory c
+        (saying_sound here op (command_bytes c) s.sound).tree.root_made (new (command_bytes c)) has_said serial_few served)
 
     -- a refused op has its answer, of which nothing is owed
     refused_sound : AllSound N (after P m (Own op (NotBegun c))) g
-    refused_sound = begins_sound NoRoom tt
+    refused_sound = begins_sound None NoRoom tt
 
   -- an actor has no running command any more
   module _ (m : WorldState S) (g : Ghost) (s : AllSound N m g) (a : ℕ) where
@@ -267,7 +342,16 @@ module _ {S : Type 0} (P : Programs S) (D : Deciding S Answer) (N : Known S Answ
     rests : (mem : Memory) (stopped : Bool) → IsAsTrue (m.actors a).memory mem
         → ActorSound N (world_of m g) a record (m.actors a) { memory = mem; running = None; stopped = stopped }
     rests mem stopped k = let part : ActorSound N (world_of m g) a (m.actors a) = s.actors a
-        in record { remembers = k.0; ahead = part.ahead; few_made = rw k.1 part.few_made; few_begun = part.few_begun; running = tt }
+        in record {
+          remembers = k.0;
+          ahead = part.ahead;
+          ahead_rows = part.ahead_rows;
+          ahead_tags = part.ahead_tags;
+          unsaid = part.unsaid;
+          few_made = rw k.1 part.few_made;
+          few_begun = part.few_begun;
+          running = tt;
+        }
 
     ends_at : (o : Option (Running S)) → RunningKnows N (world_of m g) a (m.actors a).memory (m.actors a).number o
         → ActorSound N (world_of m g) a (ended P m.counts (m.actors a) o)
@@ -309,8 +393,15 @@ pub opening_all_sound : {S : Type 0} (N : Known S Answer) (counts : Counts) → 
 opening_all_sound N counts = record {
   sound = opening_sound;
   actors = λ a. record {
-    remembers = record { files = λ one i le lt. grind (arith, maps); dirs = λ one i le lt. grind (arith, maps) };
+    remembers = record {
+      files = λ one i le lt. grind (arith, maps);
+      dirs = λ one i le lt. grind (arith, maps);
+      blocks = λ one i le lt. refl;
+    };
     ahead = λ h own lt. refl;
+    ahead_rows = λ h own lt. refl;
+    ahead_tags = λ t own lt. refl;
+    unsaid = λ op own lt. refl;
     few_made = omega arith;
     few_begun = omega arith;
     running = tt;

@@ -3,6 +3,7 @@ use Rattle.std.specs.Prelude.{◌≡◌, ℕ, ◌+◌, ◌<◌, ◌≤◌, ◌^�
 use Rattle.tect_ids.specs.declared.ids.Counts.{Counts}
 use Rattle.tect_ids.specs.declared.ids.Hold.{Hold}
 use Rattle.tect_ids.specs.declared.ids.OpId.{OpId}
+use Rattle.tect_ids.specs.declared.ids.Tag.{Tag}
 use Rattle.tect_ids.specs.declared.answer.Answer.{Answer}
 use Rattle.program_forms.specs.declared.standing.Standing.{Standing}
 use Rattle.program_forms.specs.declared.standing.Standing.TheVariants.{Goes, Left, NoRoom}
@@ -34,10 +35,14 @@ abbrev pub RunningKnows : {S : Type 0} → Known S Answer → World → ℕ → 
 RunningKnows N w a m number None = Unit {0}
 RunningKnows N w a m number (Some r) = RunsSoundly N w a m number r
 
--- Of an actor: its memory is true, no hold was granted by an op that it has not begun, and each op makes at most one object.
+-- Of an actor: its memory is true, an op that it has not begun was granted no hold, gave no tag to a row and said nothing, and each op makes
+-- at most one object.
 pub record ActorSound {S : Type 0} (N : Known S Answer) (w : World) (a : ℕ) (actor : Actor S) : Type 0 where
   pub remembers : Remembers w a actor.memory
   pub ahead : (h : Hold) → h.op.actor ≡ a → actor.number < h.op.number → w.ghost.given h ≡ None
+  pub ahead_rows : (h : Hold) → h.op.actor ≡ a → actor.number < h.op.number → w.ghost.row_given h ≡ None
+  pub ahead_tags : (t : Tag) → t.op.actor ≡ a → actor.number < t.op.number → w.ghost.tagged t ≡ None
+  pub unsaid : (op : OpId) → op.actor ≡ a → actor.number < op.number → w.ghost.said op ≡ None
   pub few_made : actor.memory.serial ≤ actor.number + 1
   pub few_begun : actor.number < 2 ^ 31
   pub running : RunningKnows N w a actor.memory actor.number actor.running

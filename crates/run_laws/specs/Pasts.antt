@@ -1,4 +1,4 @@
--- The past of a run, event by event: a transaction changes it, and so does a decision.
+-- The past of a run, event by event: a transaction changes it, and so does a decision; at a command's begin it is noted what it appends.
 use Rattle.std.specs.Prelude.{Option, Some, None, List, [], ◌∷◌}
 use Rattle.tect_ids.specs.declared.ids.Counts.{Counts}
 use Rattle.tect_ids.specs.declared.ids.OpId.{OpId}
@@ -14,8 +14,8 @@ use Rattle.world_runs.specs.declared.event.Happening.TheVariants.{Began, NotBegu
 use Rattle.world_runs.specs.Actors.{Actor, Running, went_on}
 use Rattle.world_runs.specs.Moments.{WorldState, after, opening}
 use Rattle.world_runs.specs.OwnRuns.{stored_after}
-use Rattle.store_pasts.specs.Worlds.{Ghost, World, opening_ghost, ghost_next, ghost_settled}
-use Rattle.program_laws.specs.Known.{Deciding}
+use Rattle.store_pasts.specs.Worlds.{Ghost, World, opening_ghost, ghost_next, ghost_settled, ghost_said}
+use Rattle.program_laws.specs.Known.{Deciding, command_bytes}
 
 -- what is decided where a command stands: one that did not hear its last reply decided nothing by it
 abbrev pub standing_decided : {S : Type 0} → Deciding S Answer → Standing S → Option Answer
@@ -31,7 +31,7 @@ running_decided D (Some r) = standing_decided D r.at
 abbrev pub ghost_by : {S : Type 0} → Programs S → Deciding S Answer → Counts → Actor S → Store → Ghost → OpId → Happening → Ghost
 ghost_by P D c a s g op (Acted q x h) =
     ghost_settled op (running_decided D a.running) (running_decided D (went_on P c a a.running q x h).running) (ghost_next s g q)
-ghost_by P D c a s g op (Began k) = g
+ghost_by P D c a s g op (Began k) = ghost_said op (command_bytes k) g
 ghost_by P D c a s g op (NotBegun k) = g
 ghost_by P D c a s g op (Ended x) = g
 ghost_by P D c a s g op Stopped = g

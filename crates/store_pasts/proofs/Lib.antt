@@ -1,2 +1,3 @@
 pub mod Laters
 pub mod Over
+pub mod Sayings

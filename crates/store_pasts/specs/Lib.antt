@@ -1,6 +1,8 @@
+pub mod Contents
 pub mod Ghosts
 pub mod Pasts
 pub mod Later
+pub mod Learned
 pub mod Roles
 pub mod Worlds
 pub mod Requests

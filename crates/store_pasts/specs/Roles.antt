@@ -1,12 +1,15 @@
 -- The role of each request: what it does to the past, which nodes it makes and names, what has to be known before it is made, and what
 -- its reply teaches. What it does with a hold stands in store_rules' Holds.
-use Rattle.std.specs.Prelude.{◌≡◌, ◌≢◌, true, false, Option, Some, None, is_some}
+use Rattle.std.specs.Prelude.{◌≡◌, ◌≢◌, Bool, true, false, Option, Some, None, is_some}
 use Rattle.std.specs.FinMap.{get}
+use Rattle.tect_ids.specs.declared.ids.BlkId.{BlkId}
 use Rattle.tect_ids.specs.declared.ids.DirId.{DirId}
 use Rattle.tect_ids.specs.declared.ids.Hold.{Hold}
 use Rattle.tect_ids.specs.declared.ids.Node.{Node}
 use Rattle.tect_ids.specs.declared.ids.Node.TheVariants.{Dir, File}
+use Rattle.tect_ids.specs.declared.ids.Tag.{Tag}
 use Rattle.tect_ids.specs.declared.key.Key.{Key}
+use Rattle.tect_ids.specs.Keys.{tag_eq}
 use Rattle.store_rules.specs.declared.names.Replaced.{Replaced}
 use Rattle.store_rules.specs.declared.names.NameReq.{NameReq}
 use Rattle.store_rules.specs.declared.names.NameReq.TheVariants as names
@@ -22,8 +25,13 @@ use Rattle.store_rules.specs.declared.any.AnyReply.{AnyReply}
 use Rattle.store_rules.specs.Names.{key_in}
 use Rattle.store_rules.specs.Store.{Store}
 use Rattle.store_rules.specs.Views.{as_found, is_made, is_granted, as_bound, as_unbound, as_swapped}
+use Rattle.store_rules.specs.Views.{as_attached, as_block_list, as_location, as_bytes}
+use Rattle.store_pasts.specs.Contents.{disk_at, rows_in}
 use Rattle.store_pasts.specs.Ghosts.{Ghost, World, ghost_made, ghost_granted, ghost_bound, ghost_unbound}
-use Rattle.store_pasts.specs.Pasts.{was_made, is_spent, IsGranted}
+use Rattle.store_pasts.specs.Ghosts.{ghost_attached, ghost_row_granted, ghost_born}
+use Rattle.store_pasts.specs.Learned.{AttachNeeds, AttachTaught, ListedTaught, NewBlockNeeds, NewBlockTaught, SealNeeds, SealTaught, BlockTaught}
+use Rattle.store_pasts.specs.Learned.{RowGrantNeeds, RowGrantTaught, PutNeeds, PutTaught, GotTaught}
+use Rattle.store_pasts.specs.Pasts.{was_made, is_spent, is_row_spent, IsGranted}
 
 -- ---- what has to be known
 
@@ -77,19 +85,32 @@ GrantTaught v n h k x = is_granted x ≡ true → IsGranted v h n k
 
 -- ---- the table
 
--- what is done to the past where the store is changed, the node that is made, the node that is named, what is so of the request's own
--- words, what has to be known before, and what the reply teaches
+-- what is done to the past where the store is changed, the node or the block that is made, the node that is named, the tags of the rows
+-- or chunks, the block that is sealed, what is so of the request's own words, what has to be known before, and what the reply teaches
 pub record Role : Type 1 where
   pub ghost : Store → Ghost → Ghost
   pub makes : Option Node
+  pub makes_block : Option BlkId
   pub names : Option Node
+  pub tags : Tag → Bool
+  pub seals : Option BlkId
   pub fits : Type 0
   pub needs : World → Type 0
   pub taught : World → AnyReply → Type 0
 
 -- a request with no role: what it does is seen of no past
 abbrev pub plain : Role
-plain = record { ghost = λ s g. g; makes = None; names = None; fits = Unit {0}; needs = λ w. Unit {0}; taught = λ v x. Unit {0} }
+plain = record {
+  ghost = λ s g. g;
+  makes = None;
+  makes_block = None;
+  names = None;
+  tags = λ t. false;
+  seals = None;
+  fits = Unit {0};
+  needs = λ w. Unit {0};
+  taught = λ v x. Unit {0};
+}
 
 -- no command asks for it yet
 abbrev pub unasked : Role
@@ -155,19 +176,37 @@ file_role (files.Grant f h k) =
     }
 file_role (files.Release f h) = record plain { needs = λ w. is_spent w h ≡ true }
 file_role (files.TakeToken f t) = unmodelled
-file_role (files.Attach f t b n h) = unasked
-file_role (files.ListBlocks f) = unasked
+file_role (files.Attach f t b n h) =
+    record plain {
+      ghost = λ s g. ghost_attached g b f h (rows_in (get s.files f));
+      needs = λ w. AttachNeeds w f b n h;
+      taught = λ v x. AttachTaught v f b n h (as_attached x);
+    }
+file_role (files.ListBlocks f) = record plain { taught = λ v x. ListedTaught v f (as_block_list x) }
 
 abbrev pub block_role : BlockReq → Role
-block_role (blocks.MakeBlock b c n f h rs) = unmodelled
-block_role (blocks.SealBlock b) = unasked
-block_role (blocks.GetBlock b) = unasked
-block_role (blocks.Grant b h f) = unasked
-block_role (blocks.Release b h) = unasked
+block_role (blocks.MakeBlock b c n f h rs) =
+    record plain {
+      ghost = λ s g. ghost_born g b c n f h rs;
+      makes_block = Some b;
+      tags = λ t. is_some (disk_at rs t);
+      needs = λ w. NewBlockNeeds w b n f h rs;
+      taught = λ v x. NewBlockTaught v b c n f h rs x;
+    }
+block_role (blocks.SealBlock b) = record plain { seals = Some b; needs = λ w. SealNeeds w b; taught = λ v x. SealTaught v b }
+block_role (blocks.GetBlock b) = record plain { taught = λ v x. BlockTaught v b (as_location x) }
+block_role (blocks.Grant b h f) =
+    record plain {
+      ghost = λ s g. ghost_row_granted g b h f;
+      needs = λ w. RowGrantNeeds w h f;
+      taught = λ v x. RowGrantTaught v b h f x;
+    }
+block_role (blocks.Release b h) = record plain { needs = λ w. is_row_spent w h ≡ true }
 
 abbrev pub disk_role : DiskReq → Role
-disk_role (disks.Put c bytes) = unasked
-disk_role (disks.Get c) = unasked
+disk_role (disks.Put c bytes) =
+    record plain { tags = λ t. tag_eq t c.tag; needs = λ w. PutNeeds w c bytes; taught = λ v x. PutTaught v c bytes }
+disk_role (disks.Get c) = record plain { taught = λ v x. GotTaught v c (as_bytes x) }
 
 abbrev pub role : AnyReq → Role
 role (any.Name q) = name_role q

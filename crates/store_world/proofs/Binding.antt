@@ -9,7 +9,7 @@ use Rattle.tect_ids.specs.declared.key.Key.{Key}
 use Rattle.tect_ids.specs.declared.values.Over.{Over}
 use Rattle.tect_ids.specs.declared.values.Want.{Want}
 use Rattle.tect_ids.specs.Numbers.{root}
-use Rattle.key_maps.proofs.Lookups.{maps}
+use Rattle.key_words.proofs.Lookups.{maps}
 use Rattle.store_rules.specs.declared.names.DirectoryEntry.{DirectoryEntry}
 use Rattle.store_rules.specs.declared.names.Replaced.{Replaced}
 use Rattle.store_rules.specs.declared.names.NameReq.TheVariants as names
@@ -19,6 +19,7 @@ use Rattle.store_rules.specs.Store.{Store, store_changes, store_reply}
 use Rattle.store_rules.specs.Views.{is_made, as_bound, as_unbound, as_swapped}
 use Rattle.store_pasts.specs.Worlds.{World, Live, done}
 use Rattle.store_pasts.specs.Pasts.{was_made, dead_in, IsGranted}
+use Rattle.store_pasts.proofs.Laters.{rows_same, blocks_same, chunks_same}
 use Rattle.store_world.specs.Sound.{Sound, parent}
 use Rattle.store_pasts.specs.Requests.{Needs, BoundTaught, SwappedTaught, UnboundTaught}
 use Rattle.store_world.specs.Kept.{Kept}
@@ -82,6 +83,9 @@ module _ (w : World) (s : Sound w) (k : Key) (n : Node) (h : Hold) (o : Over) (n
               s.tree.root_home,
             );
           };
+          rows = s.rows;
+          blocks = s.blocks;
+          chunks = s.chunks;
         };
         later = record {
           made = λ m e. e;
@@ -92,6 +96,9 @@ module _ (w : World) (s : Sound w) (k : Key) (n : Node) (h : Hold) (o : Over) (n
           live = λ x g o e l. grind (arith, maps, s.entries.bound k);
           kept = λ x p e. grind (arith, maps, s.entries.bound k);
           spent = λ x e. grind (arith, maps, able, s.entries.bound k);
+          rows = rows_same _ _ _;
+          blocks = blocks_same _ _;
+          chunks = chunks_same _ _;
         };
         taught = grind (arith, maps, s.entries.bound k);
       }
@@ -154,6 +161,9 @@ module _ (w : World) (s : Sound w) (k : Key) (want : Want) where
         root_home = s.tree.root_home;
         root_free = λ x g is low. grind (arith, maps, s.tree.root_free x g, s.entries.bound k, s.entries.at_home k, s.tree.root_home);
       };
+      rows = s.rows;
+      blocks = s.blocks;
+      chunks = s.chunks;
     };
     later = record {
       made = λ m e. e;
@@ -164,6 +174,9 @@ module _ (w : World) (s : Sound w) (k : Key) (want : Want) where
       live = λ x g o e l. grind (arith, maps, s.entries.bound k);
       kept = λ x p e. grind (arith, maps, s.entries.bound k);
       spent = λ x e. grind (arith, maps, s.entries.bound k);
+      rows = rows_same _ _ _;
+      blocks = blocks_same _ _;
+      chunks = chunks_same _ _;
     };
     taught = rw (unbind_says ok) (grind (arith, maps, s.entries.bound k));
   }
@@ -279,6 +292,9 @@ module _ (w : World) (s : Sound w) (d : DirId) (from to : List ℕ) (n : Node) (
               s.tree.root_home,
             );
           };
+          rows = s.rows;
+          blocks = s.blocks;
+          chunks = s.chunks;
         };
         later = record {
           made = λ m e. e;
@@ -289,6 +305,9 @@ module _ (w : World) (s : Sound w) (d : DirId) (from to : List ℕ) (n : Node) (
           live = λ x g o e l. grind (arith, maps, s.entries.bound from_key, s.entries.bound to_key);
           kept = λ x p e. grind (arith, maps, s.entries.bound from_key, s.entries.bound to_key);
           spent = λ x e. grind (arith, maps, able, s.entries.bound from_key, s.entries.bound to_key);
+          rows = rows_same _ _ _;
+          blocks = blocks_same _ _;
+          chunks = chunks_same _ _;
         };
         taught = rw (swap_says ok) (grind (arith, maps, s.entries.bound from_key, s.entries.bound to_key));
       }

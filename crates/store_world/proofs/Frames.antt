@@ -1,5 +1,7 @@
 -- the row of a request; what a request that changes nothing keeps, and a request that is refused or done
-use Rattle.std.proofs.Common.{◌≡◌, Bool, true, false, Some, None, refl, sym, ◌∙◌}
+use Rattle.std.proofs.Common.{◌≡◌, Bool, true, false, ◌||◌, Option, Some, None, is_some, refl, sym, ◌∙◌}
+use Rattle.tect_ids.specs.declared.ids.BlkId.{BlkId}
+use Rattle.tect_ids.specs.declared.ids.Node.{Node}
 use Rattle.store_rules.specs.declared.any.AnyReq.{AnyReq}
 use Rattle.store_rules.specs.declared.any.AnyReply.{AnyReply}
 use Rattle.store_rules.specs.Holds.{Grant, grant_of}
@@ -8,7 +10,7 @@ use Rattle.store_rules.specs.Views.{is_made}
 use Rattle.store_pasts.specs.Worlds.{World, done, next}
 use Rattle.store_pasts.specs.Pasts.{was_made}
 use Rattle.store_pasts.specs.Roles.{role}
-use Rattle.store_pasts.specs.Requests.{Needs, Taught, MadeTaught, GrantTaught}
+use Rattle.store_pasts.specs.Requests.{Needs, Taught, makes, MadeTaught, GrantTaught}
 use Rattle.store_pasts.specs.RoleLaws.{RoleLaws}
 use Rattle.store_pasts.proofs.Laters.{later_same}
 use Rattle.store_world.specs.Sound.{Sound}
@@ -33,25 +35,42 @@ pub record Row (q : AnyReq) : Type 0 where
   pub kept : (w : World) → Sound w → Needs w q → Kept w (next w q) q
   pub laws : RoleLaws q
 
--- it grants no hold for an entry and makes no node; one that is not modelled yet may reply that it made something else
-pub grants_none : (q : AnyReq) → grant_of q ≡ None → (role q).makes ≡ None
+-- what makes nothing makes no node
+no_node : (o : Option Node) (b : Option BlkId) → (is_some o || is_some b) ≡ false → (n : Node) → o ≡ Some n → ⊥
+no_node None b none n e = let k : None ≡ Some n = e in cc
+no_node (Some m) b none n e = let k : true ≡ false = none in cc
+
+-- it grants no hold for an entry and makes nothing; one that is not modelled yet may reply that it made something
+pub grants_none : (q : AnyReq) → grant_of q ≡ None → makes q ≡ false
     → ((s : Store) → (role q).fits → is_made (store_reply s q) ≡ false) → ((w : World) → Needs w q → (role q).fits) → RoleLaws q
 grants_none q none makes_no untold fits = record {
   new = λ w g e needs. absurd (let k : None ≡ Some g = sym none ∙ e in cc);
   granted = λ v x g e ok t. absurd (let k : None ≡ Some g = sym none ∙ e in cc);
-  told = λ v x e t. absurd (let k : false ≡ true = (rw makes_no at e) in cc);
+  told = λ v x e t. absurd (let k : false ≡ true = sym makes_no ∙ e in cc);
   untold = λ s e f. untold s f;
-  fresh = λ w n e needs. absurd (let k : None ≡ Some n = sym makes_no ∙ e in cc);
+  fresh = λ w n e needs. absurd (no_node (role q).makes (role q).makes_block makes_no n e);
   fits = fits;
 }
 
 -- the same where it replies so in no store
-pub grants_nothing : (q : AnyReq) → grant_of q ≡ None → (role q).makes ≡ None → ((s : Store) → is_made (store_reply s q) ≡ false)
+pub grants_nothing : (q : AnyReq) → grant_of q ≡ None → makes q ≡ false → ((s : Store) → is_made (store_reply s q) ≡ false)
     → ((w : World) → Needs w q → (role q).fits) → RoleLaws q
 grants_nothing q none makes_no untold fits = grants_none q none makes_no (λ s f. untold s) fits
 
+-- it makes a block, and grants a hold for a row
+pub makes_block : (q : AnyReq) → grant_of q ≡ None → (role q).makes ≡ None → makes q ≡ true
+    → ((v : World) (x : AnyReply) → Taught v q x → is_made x ≡ true) → ((w : World) → Needs w q → (role q).fits) → RoleLaws q
+makes_block q none nodeless makes_it teaches fits = record {
+  new = λ w g e needs. absurd (let k : None ≡ Some g = sym none ∙ e in cc);
+  granted = λ v x g e ok t. absurd (let k : None ≡ Some g = sym none ∙ e in cc);
+  told = λ v x e t. teaches v x t;
+  untold = λ s e f. absurd (let k : true ≡ false = sym makes_it ∙ e in cc);
+  fresh = λ w n e needs. absurd (let k : None ≡ Some n = sym nodeless ∙ e in cc);
+  fits = fits;
+}
+
 -- a request whose needs are never met
-pub unasked_row : (q : AnyReq) → ((w : World) → Needs w q → ⊥) → grant_of q ≡ None → (role q).makes ≡ None
+pub unasked_row : (q : AnyReq) → ((w : World) → Needs w q → ⊥) → grant_of q ≡ None → makes q ≡ false
     → ((s : Store) → (role q).fits → is_made (store_reply s q) ≡ false) → Row q
 unasked_row q unmet none makes_no untold = record {
   kept = λ w s needs. absurd (unmet w needs);
@@ -64,14 +83,14 @@ module _ (q : AnyReq) (a : Grant) (grants : grant_of q ≡ Some a) (needs : (w :
   same_grant g e = let f : Some a ≡ Some g = sym grants ∙ e in cc
 
   -- it grants a hold of a node that was made
-  pub grants_one : (role q).makes ≡ None → ((s : Store) → is_made (store_reply s q) ≡ false)
+  pub grants_one : makes q ≡ false → ((s : Store) → is_made (store_reply s q) ≡ false)
       → ((v : World) (x : AnyReply) → Taught v q x → GrantTaught v a.node a.hold a.key x) → RoleLaws q
   grants_one makes_no untold teaches = record {
     new = λ w g e k. rw (← same_grant g e) (needs w k);
     granted = λ v x g e ok t. rw (← same_grant g e) (teaches v x t ok);
-    told = λ v x e t. absurd (let k : false ≡ true = (rw makes_no at e) in cc);
+    told = λ v x e t. absurd (let k : false ≡ true = sym makes_no ∙ e in cc);
     untold = λ s e f. untold s;
-    fresh = λ w n e k. absurd (let f : None ≡ Some n = sym makes_no ∙ e in cc);
+    fresh = λ w n e k. absurd (no_node (role q).makes (role q).makes_block makes_no n e);
     fits = fits;
   }
 

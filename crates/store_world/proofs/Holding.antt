@@ -1,21 +1,24 @@
 -- requests that grant and release holds
-use Rattle.std.proofs.Common.{◌≡◌, true, false, Option, refl, arith}
+use Rattle.std.proofs.Common.{◌≡◌, ℕ, true, false, Option, refl, arith}
 use Rattle.tect_ids.specs.declared.ids.DirId.{DirId}
 use Rattle.tect_ids.specs.declared.ids.FileId.{FileId}
 use Rattle.tect_ids.specs.declared.ids.Hold.{Hold}
 use Rattle.tect_ids.specs.declared.ids.Node.TheVariants.{Dir, File}
 use Rattle.tect_ids.specs.declared.key.Key.{Key}
-use Rattle.key_maps.proofs.Lookups.{maps}
+use Rattle.key_words.proofs.Lookups.{maps}
 use Rattle.store_rules.specs.declared.names.NameReq.TheVariants as names
 use Rattle.store_rules.specs.declared.files.FileReq.TheVariants as files
 use Rattle.store_rules.specs.declared.any.AnyReq.TheVariants as any
 use Rattle.store_rules.specs.Store.{Store, store_changes, store_reply}
 use Rattle.store_rules.specs.Views.{is_made}
 use Rattle.store_pasts.specs.Worlds.{World, done}
+use Rattle.store_pasts.specs.Pasts.{row_at}
+use Rattle.store_pasts.proofs.Laters.{rows_same, rows_stay, blocks_same, chunks_same}
 use Rattle.store_world.specs.Sound.{Sound, parent}
 use Rattle.store_pasts.specs.Requests.{Needs, GrantTaught}
 use Rattle.store_world.specs.Kept.{Kept}
 use Rattle.store_world.proofs.Frames.{Row, by_answer, by_reading, grants_nothing, grants_one}
+use Rattle.store_world.proofs.Alike.{rows_alike}
 use Rattle.store_world.proofs.Chains.{climbs_still}
 
 -- Grant at a directory
@@ -57,6 +60,9 @@ module _ (w : World) (s : Sound w) (d : DirId) (h : Hold) (k : Key) (needs : Nee
         root_home = s.tree.root_home;
         root_free = λ x g is low. grind (arith, maps, s.tree.root_free x g, s.tree.root_home);
       };
+      rows = s.rows;
+      blocks = s.blocks;
+      chunks = s.chunks;
     };
     later = record {
       made = λ m e. e;
@@ -67,6 +73,9 @@ module _ (w : World) (s : Sound w) (d : DirId) (h : Hold) (k : Key) (needs : Nee
       live = λ x g o e l. grind (arith, maps);
       kept = λ x p e. grind (arith, maps);
       spent = λ x e. grind (arith, maps);
+      rows = rows_same _ _ _;
+      blocks = blocks_same _ _;
+      chunks = chunks_same _ _;
     };
     taught = grind (arith, maps);
   }
@@ -88,6 +97,10 @@ grant_dir_row d h k = record {
 
 -- Grant at a file
 module _ (w : World) (s : Sound w) (f : FileId) (h : Hold) (k : Key) (needs : Needs w (any.File (files.Grant f h k))) where
+  -- the rows of files are as before
+  same_rows : (x : FileId) (i : ℕ) → row_at (done w (any.File (files.Grant f h k))).store x i ≡ row_at w.store x i
+  same_rows x i = grind (arith, maps)
+
   file_granted : store_changes w.store (any.File (files.Grant f h k)) ≡ true
       → Kept w (done w (any.File (files.Grant f h k))) (any.File (files.Grant f h k))
   file_granted ok = record {
@@ -118,6 +131,9 @@ module _ (w : World) (s : Sound w) (f : FileId) (h : Hold) (k : Key) (needs : Ne
         root_home = s.tree.root_home;
         root_free = λ x g is low. grind (arith, maps, s.tree.root_free x g);
       };
+      rows = rows_alike _ _ _ _ _ s.rows _ same_rows;
+      blocks = s.blocks;
+      chunks = s.chunks;
     };
     later = record {
       made = λ m e. e;
@@ -128,6 +144,9 @@ module _ (w : World) (s : Sound w) (f : FileId) (h : Hold) (k : Key) (needs : Ne
       live = λ x g o e l. grind (arith, maps);
       kept = λ x p e. grind (arith, maps);
       spent = λ x e. grind (arith, maps);
+      rows = rows_stay _ _ _ _ same_rows;
+      blocks = blocks_same _ _;
+      chunks = chunks_same _ _;
     };
     taught = grind (arith, maps);
   }
@@ -186,6 +205,9 @@ module _ (w : World) (s : Sound w) (d : DirId) (h : Hold) (needs : Needs w (any.
         root_home = s.tree.root_home;
         root_free = s.tree.root_free;
       };
+      rows = s.rows;
+      blocks = s.blocks;
+      chunks = s.chunks;
     };
     later = record {
       made = λ m e. e;
@@ -196,6 +218,9 @@ module _ (w : World) (s : Sound w) (d : DirId) (h : Hold) (needs : Needs w (any.
       live = λ x g o e l. e;
       kept = λ x p e. e;
       spent = λ x e. grind (arith, maps);
+      rows = rows_same _ _ _;
+      blocks = blocks_same _ _;
+      chunks = chunks_same _ _;
     };
     taught = tt;
   }
@@ -211,6 +236,10 @@ release_dir_row d h = record {
 
 -- Release at a file
 module _ (w : World) (s : Sound w) (f : FileId) (h : Hold) (needs : Needs w (any.File (files.Release f h))) where
+  -- the rows of files are as before
+  same_rows_after : (x : FileId) (i : ℕ) → row_at (done w (any.File (files.Release f h))).store x i ≡ row_at w.store x i
+  same_rows_after x i = grind (arith, maps)
+
   file_released : Kept w (done w (any.File (files.Release f h))) (any.File (files.Release f h))
   file_released = record {
     sound = record {
@@ -227,6 +256,9 @@ module _ (w : World) (s : Sound w) (f : FileId) (h : Hold) (needs : Needs w (any
         named_made = s.nodes.named_made;
       };
       tree = s.tree;
+      rows = rows_alike _ _ _ _ _ s.rows _ same_rows_after;
+      blocks = s.blocks;
+      chunks = s.chunks;
     };
     later = record {
       made = λ m e. e;
@@ -237,6 +269,9 @@ module _ (w : World) (s : Sound w) (f : FileId) (h : Hold) (needs : Needs w (any
       live = λ x g o e l. e;
       kept = λ x p e. e;
       spent = λ x e. e;
+      rows = rows_stay _ _ _ _ same_rows_after;
+      blocks = blocks_same _ _;
+      chunks = chunks_same _ _;
     };
     taught = tt;
   }

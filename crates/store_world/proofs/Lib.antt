@@ -1,9 +1,17 @@
 pub mod Chains
 pub mod Frames
+pub mod Alike
+pub mod BlockMaps
+pub mod NewRows
 pub mod Making
 pub mod Binding
 pub mod Holding
 pub mod Reading
 pub mod Unasked
+pub mod Attaching
+pub mod Blocks
+pub mod BlockHolds
+pub mod Chunks
 pub mod Rows
 pub mod Over
+pub mod Sayings

@@ -8,21 +8,28 @@ use Rattle.tect_ids.specs.declared.ids.OpId.{OpId}
 use Rattle.tect_ids.specs.declared.key.Key.{Key}
 use Rattle.tect_ids.specs.Keys.{dir_eq}
 use Rattle.tect_ids.specs.Numbers.{root}
-use Rattle.key_maps.proofs.Lookups.{maps}
+use Rattle.key_words.proofs.Lookups.{maps}
 use Rattle.store_rules.specs.declared.names.NameReq.TheVariants as names
 use Rattle.store_rules.specs.declared.files.FileReq.TheVariants as files
 use Rattle.store_rules.specs.declared.any.AnyReq.TheVariants as any
 use Rattle.store_rules.specs.Store.{store_changes}
 use Rattle.store_pasts.specs.Worlds.{World, done}
+use Rattle.store_pasts.specs.Pasts.{row_at}
+use Rattle.store_pasts.proofs.Laters.{rows_same, rows_stay, blocks_same, chunks_same}
 use Rattle.store_world.specs.Sound.{Sound, parent, above}
 use Rattle.store_pasts.specs.Requests.{Needs}
 use Rattle.store_world.specs.Kept.{Kept}
 use Rattle.store_world.proofs.Frames.{Row, by_answer, makes_one}
+use Rattle.store_world.proofs.Alike.{rows_alike, rows_made}
 use Rattle.store_world.proofs.Chains.{climbs_still, climbs_from}
 
 -- MakeFile
 module _ (w : World) (s : Sound w) (f : FileId) (h : Hold) (k : Key) (t : Option OpId) (needs : Needs w (any.File (files.MakeFile f h k t)))
   where
+    -- the rows of files are as before: it has none
+    same_rows : (x : FileId) (i : ℕ) → row_at (done w (any.File (files.MakeFile f h k t))).store x i ≡ row_at w.store x i
+    same_rows x i = grind (arith, maps, s.nodes.standing_made (File f))
+
     file_made : store_changes w.store (any.File (files.MakeFile f h k t)) ≡ true
         → Kept w (done w (any.File (files.MakeFile f h k t))) (any.File (files.MakeFile f h k t))
     file_made ok = record {
@@ -53,6 +60,9 @@ module _ (w : World) (s : Sound w) (f : FileId) (h : Hold) (k : Key) (t : Option
           root_home = s.tree.root_home;
           root_free = λ x g is low. grind (arith, maps, s.tree.root_free x g);
         };
+        rows = rows_alike _ _ _ _ _ (rows_made _ _ _ _ _ s.rows _ (λ m is. grind (arith, maps))) _ same_rows;
+        blocks = s.blocks;
+        chunks = s.chunks;
       };
       later = record {
         made = λ m e. grind (arith, maps);
@@ -63,6 +73,9 @@ module _ (w : World) (s : Sound w) (f : FileId) (h : Hold) (k : Key) (t : Option
         live = λ x g o e l. grind (arith, maps);
         kept = λ x p e. grind (arith, maps);
         spent = λ x e. grind (arith, maps);
+        rows = rows_stay _ _ _ _ same_rows;
+        blocks = blocks_same _ _;
+        chunks = chunks_same _ _;
       };
       taught = grind (arith, maps, s.nodes.named_made (File f));
     }
@@ -137,6 +150,9 @@ module _ (w : World) (s : Sound w) (d up : DirId) (h : Hold) (k : Key) (needs : 
         root_home = s.tree.root_home;
         root_free = λ x g is low. grind (arith, maps, s.tree.root_free x g, s.tree.root_made);
       };
+      rows = rows_made _ _ _ _ _ s.rows _ (λ m is. grind (arith, maps));
+      blocks = s.blocks;
+      chunks = s.chunks;
     };
     later = record {
       made = λ m e. grind (arith, maps);
@@ -147,6 +163,9 @@ module _ (w : World) (s : Sound w) (d up : DirId) (h : Hold) (k : Key) (needs : 
       live = λ x g o e l. grind (arith, maps);
       kept = λ x p e. grind (arith, maps);
       spent = λ x e. grind (arith, maps, s.holds.upper_made x);
+      rows = rows_same _ _ _;
+      blocks = blocks_same _ _;
+      chunks = chunks_same _ _;
     };
     taught = grind (arith, maps, s.nodes.named_made (Dir d));
   }

@@ -3,7 +3,7 @@
 use Rattle.std.proofs.Common.{Option, Some, None, refl}
 use Rattle.tect_ids.specs.declared.ids.OpId.{OpId}
 use Rattle.store_pasts.specs.Worlds.{World, over, settled}
-use Rattle.store_pasts.proofs.Over.{before, set_stays, leads_stay}
+use Rattle.store_pasts.proofs.Over.{before, set_stays, leads_stay, row_before, row_set_stays, row_leads_stay}
 use Rattle.store_world.specs.Sound.{Sound}
 
 pub over_sound : (w : World) (op : OpId) → Sound w → Sound (over op w)
@@ -31,6 +31,17 @@ over_sound w op s = record {
     root_home = s.tree.root_home;
     root_free = λ h g is low. s.tree.root_free h _ (before w op h g is).is low;
   };
+  rows = record {
+    bound = λ f i r is. row_set_stays w op r.hold r.blk f i (s.rows.bound f i r is);
+    has_hold = s.rows.has_hold;
+    sealed_as = s.rows.sealed_as;
+    set = λ h g i is p. s.rows.set h g i ((row_before w op h g is).set i p) p;
+    live = λ h g is l. s.rows.live h g ((row_before w op h g is).live l) l;
+    listed = λ b h u is. rw (row_leads_stay w op h) (s.rows.listed b h u is);
+    file_made = λ h g is. s.rows.file_made h _ (row_before w op h g is).is;
+  };
+  blocks = s.blocks;
+  chunks = s.chunks;
 }
 
 -- ---- at a step

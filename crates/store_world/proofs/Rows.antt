@@ -1,10 +1,14 @@
 -- every request has its row, and the opening is sound
-use Rattle.std.proofs.Common.{refl, arith}
-use Rattle.key_maps.proofs.Lookups.{maps}
+use Rattle.std.proofs.Common.{◌≡◌, Some, None, refl, arith}
+use Rattle.key_words.proofs.Lookups.{maps}
 use Rattle.store_rules.specs.declared.names.NameReq.{NameReq}
 use Rattle.store_rules.specs.declared.names.NameReq.TheVariants as names
 use Rattle.store_rules.specs.declared.files.FileReq.{FileReq}
 use Rattle.store_rules.specs.declared.files.FileReq.TheVariants as files
+use Rattle.store_rules.specs.declared.blocks.BlockReq.{BlockReq}
+use Rattle.store_rules.specs.declared.blocks.BlockReq.TheVariants as blocks
+use Rattle.store_rules.specs.declared.disks.DiskReq.{DiskReq}
+use Rattle.store_rules.specs.declared.disks.DiskReq.TheVariants as disks
 use Rattle.store_rules.specs.declared.any.AnyReq.{AnyReq}
 use Rattle.store_rules.specs.declared.any.AnyReq.TheVariants as any
 use Rattle.store_rules.specs.Store.{opening_store}
@@ -18,7 +22,11 @@ use Rattle.store_world.proofs.Reading.{check_row, look_row, list_row}
 use Rattle.store_world.proofs.Making.{make_dir_row, make_file_row}
 use Rattle.store_world.proofs.Binding.{bind_row, swap_row, unbind_row}
 use Rattle.store_world.proofs.Holding.{grant_dir_row, grant_file_row, release_dir_row, release_file_row}
-use Rattle.store_world.proofs.Unasked.{take_token_row, attach_row, list_blocks_row, block_row, disk_row}
+use Rattle.store_world.proofs.Unasked.{take_token_row}
+use Rattle.store_world.proofs.Attaching.{attach_row, list_blocks_row}
+use Rattle.store_world.proofs.Blocks.{make_block_row, seal_block_row, get_block_row}
+use Rattle.store_world.proofs.BlockHolds.{grant_block_row, release_block_row}
+use Rattle.store_world.proofs.Chunks.{put_row, get_row}
 
 name_row : (q : NameReq) → Row (any.Name q)
 name_row (names.CheckDir d) = check_row d
@@ -38,6 +46,17 @@ file_row (files.Release f h) = release_file_row f h
 file_row (files.TakeToken f t) = take_token_row f t
 file_row (files.Attach f t b n h) = attach_row f t b n h
 file_row (files.ListBlocks f) = list_blocks_row f
+
+block_row : (q : BlockReq) → Row (any.Block q)
+block_row (blocks.MakeBlock b c n f h rs) = make_block_row b c n f h rs
+block_row (blocks.SealBlock b) = seal_block_row b
+block_row (blocks.GetBlock b) = get_block_row b
+block_row (blocks.Grant b h f) = grant_block_row b h f
+block_row (blocks.Release b h) = release_block_row b h
+
+disk_row : (q : DiskReq) → Row (any.Disk q)
+disk_row (disks.Put c bytes) = put_row c bytes
+disk_row (disks.Get c) = get_row c
 
 row : (q : AnyReq) → Row q
 row (any.Name q) = name_row q
@@ -80,5 +99,27 @@ opening_sound = record {
     root_made = grind (arith, maps);
     root_home = refl;
     root_free = λ h g is low. grind arith;
+  };
+  rows = record {
+    bound = λ f i r is. grind (arith, maps);
+    has_hold = λ f i r is. grind (arith, maps);
+    sealed_as = λ f i r is. grind (arith, maps);
+    set = λ h g i is p. grind arith;
+    live = λ h g is l. grind arith;
+    listed = λ b h u is. grind (arith, maps);
+    file_made = λ h g is. grind arith;
+  };
+  blocks = record {
+    shape = λ b. grind (arith, maps);
+    rows = λ b. grind (arith, maps);
+    version = λ b. grind (arith, maps);
+    length = λ b. refl;
+    some = λ b n is. absurd (let k : None ≡ Some n = is in cc);
+    at_home = λ b d t is. grind arith;
+  };
+  chunks = record {
+    at_home = λ c is. grind (arith, maps);
+    content = λ c bytes is. grind (arith, maps);
+    stored = λ b d t sealed is. grind arith;
   };
 }

@@ -1,7 +1,7 @@
 -- The tree: directories, entries and files, with one rule for each step. It has no layers, holds, shards or caches.
 use Rattle.std.specs.Prelude.{◌≡◌, ℕ, Bool, true, false, not, List, Option, Some, None, is_some, nat_le, if◌then◌else◌, map}
 use Rattle.std.specs.FinMap.{FinMap, empty, get, len, entries}
-use Rattle.ordered_rows.specs.Maps.{set_at}
+use Rattle.map_words.specs.Maps.{set_at}
 use Rattle.tect_ids.specs.declared.ids.DirId.{DirId}
 use Rattle.tect_ids.specs.declared.ids.FileId.{FileId}
 use Rattle.tect_ids.specs.declared.ids.Node.{Node}
@@ -14,7 +14,7 @@ use Rattle.tect_ids.specs.declared.values.Over.TheVariants as over
 use Rattle.tect_ids.specs.declared.values.Want.{Want}
 use Rattle.tect_ids.specs.declared.values.Want.TheVariants.{AnyFile, Exactly}
 use Rattle.tect_ids.specs.Keys.{dir_cmp, file_cmp, key_cmp, node_cmp, node_eq, name_eq}
-use Rattle.key_maps.specs.Maps.{within}
+use Rattle.key_words.specs.Maps.{within}
 use Rattle.tree_model.specs.declared.step.TreeDir.{TreeDir}
 use Rattle.tree_model.specs.declared.step.TreeFile.{TreeFile}
 use Rattle.tree_model.specs.declared.step.TreeStep.{TreeStep}

@@ -1,6 +1,6 @@
 ghost use Rattle.std.specs.Prelude.{◌≡◌, Some, None, IfOk, OnOk, OnErr, true, false, map};
 ghost use Rattle.std.specs.FinMap.{get, entries};
-ghost use Rattle.key_maps.specs.Maps.{within};
+ghost use Rattle.key_words.specs.Maps.{within};
 ghost use Rattle.tect_ids.specs.Keys.{name_eq};
 ghost use Rattle.tree_model.specs.Tree.{opening_tree, tree_reply, tree_change, tree_next, is_ok, at_name, as_listed, set_name};
 ghost use Rattle.tree_model.specs.Tree.{check_reply, look_reply, list_reply, make_reply, bind_reply, swap_reply, swap_over};

@@ -1,5 +1,5 @@
 -- the tree has made no more than was made in the past of the store
-use Rattle.std.proofs.Common.{◌≡◌, Bool, true, false, Option, Some, None, List, [], ◌∷◌, is_some, refl, arith}
+use Rattle.std.proofs.Common.{◌≡◌, ℕ, Bool, true, false, Option, Some, None, List, [], ◌∷◌, is_some, refl, arith}
 use Rattle.std.specs.FinMap.{get}
 use Rattle.tect_ids.specs.declared.ids.DirId.{DirId}
 use Rattle.tect_ids.specs.declared.ids.FileId.{FileId}
@@ -8,7 +8,7 @@ use Rattle.tect_ids.specs.declared.ids.Node.{Node}
 use Rattle.tect_ids.specs.declared.ids.OpId.{OpId}
 use Rattle.tect_ids.specs.declared.key.Key.{Key}
 use Rattle.tect_ids.specs.declared.answer.Answer.{Answer}
-use Rattle.key_maps.proofs.Lookups.{maps}
+use Rattle.key_words.proofs.Lookups.{maps}
 use Rattle.store_rules.specs.declared.names.NameReq.{NameReq}
 use Rattle.store_rules.specs.declared.names.NameReq.TheVariants as names
 use Rattle.store_rules.specs.declared.files.FileReq.{FileReq}
@@ -21,7 +21,7 @@ use Rattle.store_rules.specs.declared.any.AnyReq.{AnyReq}
 use Rattle.store_rules.specs.declared.any.AnyReq.TheVariants as any
 use Rattle.store_rules.specs.declared.any.AnyReply.{AnyReply}
 use Rattle.store_rules.specs.Store.{Store, store_reply, store_changes}
-use Rattle.store_pasts.specs.Worlds.{Ghost, ghost_change, ghost_next, ghost_settled}
+use Rattle.store_pasts.specs.Worlds.{Ghost, ghost_change, ghost_next, ghost_settled, ghost_said}
 use Rattle.store_pasts.specs.Pasts.{was_made}
 use Rattle.tree_model.specs.declared.step.TreeStep.{TreeStep}
 use Rattle.tree_model.specs.declared.step.TreeStep.TheVariants as step
@@ -35,7 +35,7 @@ use Rattle.world_runs.specs.declared.event.Event.TheVariants.{Own, Dumped}
 use Rattle.world_runs.specs.declared.event.Happening.TheVariants.{Began, NotBegun, Acted, Ended, Stopped, Failed}
 use Rattle.world_runs.specs.Moments.{WorldState, May, RunFrom, after}
 use Rattle.claim_words.specs.TreeSteps.{Told, where_refused, told_as, told_of, tree_steps, tree_step, says, tree_after}
-use Rattle.program_laws.specs.Known.{Deciding}
+use Rattle.program_laws.specs.Known.{Deciding, command_bytes}
 use Rattle.run_laws.specs.Pasts.{ghost_after, ghosts_after}
 use Rattle.telling_laws.specs.View.{Made}
 use Rattle.telling_laws.proofs.Histories.{tree_after-append}
@@ -154,6 +154,11 @@ settled_within op None None g made within = within
 settled_within op None (Some a) g made within = within
 settled_within op (Some b) now g made within = within
 
+-- nor does what a command says at its begin
+said_within : (op : OpId) (o : Option (List ℕ)) (g : Ghost) (made : Made) → WithinPast g made → WithinPast (ghost_said op o g) made
+said_within op None g made within = within
+said_within op (Some bytes) g made within = within
+
 module _ {S : Type 0} (P : Programs S) (D : Deciding S Answer) where
   acted_within : (m : WorldState S) (g : Ghost) (t : Tree) (op : OpId) (q : AnyReq) (x : AnyReply) (h : Heard)
       → May P m (Own op (Acted q x h)) → WithinPast g t.made
@@ -164,7 +169,7 @@ module _ {S : Type 0} (P : Programs S) (D : Deciding S Answer) where
   pub event_within : (m : WorldState S) (g : Ghost) (t : Tree) (e : Event) → May P m e → WithinPast g t.made
       → WithinPast (ghost_after P D m g e) (tree_after t (told_of e)).made
   event_within m g t (Own op (Acted q x h)) may within = acted_within m g t op q x h may within
-  event_within m g t (Own op (Began c)) may within = within
+  event_within m g t (Own op (Began c)) may within = said_within op (command_bytes c) g t.made within
   event_within m g t (Own op (NotBegun c)) may within = within
   event_within m g t (Own op (Ended a)) may within = within
   event_within m g t (Own op Stopped) may within = within

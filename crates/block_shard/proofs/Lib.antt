@@ -1,0 +1,4 @@
+pub mod IndexKept
+pub mod MadeRows
+pub mod OnDisk
+pub mod SameBlocks

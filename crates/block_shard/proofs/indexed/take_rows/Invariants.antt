@@ -1,0 +1,8 @@
+use Rattle.std.proofs.Common.{◌≡◌, None, take, if◌then◌else◌}
+use Rattle.std.specs.FinMap.{get}
+use Rattle.key_maps.specs.declared.disk_blk.DiskBlk.{DiskBlk}
+use Rattle.block_shard.specs.Index.{is_row_of}
+use Rattle.block_shard.proofs.indexed.take_rows.Given as goal
+
+abbrev pub invariant-loop-row : goal.invariant-loop-row
+invariant-loop-row l = (at : DiskBlk) → get l.index at ≡ (if is_row_of l.fn.blk (take l.row-index l.rows) at then None else get l.fn.index at)

@@ -1,0 +1,2 @@
+pub mod ByDisk
+pub mod OnceEach

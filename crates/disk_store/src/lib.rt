@@ -1,0 +1,7 @@
+//! A shard of the disks: chunks of blocks, by disk, block and tag.
+#![tactic(auto)]
+
+mod dump;
+mod shard;
+
+pub use shard::Disk;
