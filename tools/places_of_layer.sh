@@ -2,12 +2,14 @@
 # Where a layer of shards has a place in the code outside its own crate: the files that name its shard or its variant of an enum that lists the
 # layers, crate by crate, from the lowest crate up, each with how many of its lines do, and how many these are. So one sees where a new layer
 # has to be put. The crates that say what its requests mean are left out, and so are tests, edits and lists of modules.
-# places_of_layer.sh [LAYER] (File if left out); LAYER is File or Name.
+# places_of_layer.sh [LAYER] (File if left out); LAYER is Name, File, Block or Disk.
 cd "$(dirname "$0")/../crates" || exit 1
 layer=${1:-File}
 case $layer in
 File) own=file_shard ;;
 Name) own=name_shard ;;
+Block) own='block_shard|block_maps' ;;
+Disk) own=disk_store ;;
 *)
     echo "places_of_layer: write down the crate of $layer in this script" >&2
     exit 2
