@@ -6,12 +6,12 @@ use Rattle.std.proofs.lemmas.List.{map-set, set-get_or}
 use Rattle.std.proofs.Math.ListN.{length-map}
 use Rattle.tect_ids.specs.declared.ids.Counts.{Counts}
 use Rattle.tect_ids.specs.declared.ids.Place.{Place}
-use Rattle.tect_ids.specs.Places.{HasPlaces, kept_count, layer_at}
+use Rattle.tect_ids.specs.Places.{HasPlaces, place_count, layer_at}
 use Rattle.store_rules.specs.declared.any.AnyReq.{AnyReq}
 use Rattle.store_rules.specs.Alone.{opening_of, request_layer}
 use Rattle.store_rules.specs.Places.{request_place}
 use Rattle.store_rules.specs.Store.{Store, opening_store, store_reply, store_step}
-use Rattle.store_rules.proofs.Asked.{asked_layer}
+use Rattle.store_shards.proofs.Asked.{asked_layer}
 use Rattle.store_shards.specs.Rows.{together, AreShards}
 use Rattle.store_shards.specs.Shards.{root_place}
 use Rattle.store_shards.proofs.Rows.{row_index, row_reply, row_done, row_stays, row_opens}
@@ -66,7 +66,7 @@ pub record IsOpening (c : Counts) (n : ℕ) (m : AnyMachine) : Type 0 where
   pub state : alone m ≡ opening_of (layer_at c n) (n == (root_place c).0)
   pub layer : layer_of m ≡ layer_at c n
 
-module _ (c : Counts) (places : HasPlaces c) (ms : List AnyMachine) (new : AllAt (IsOpening c) (kept_count c) ms) where
+module _ (c : Counts) (places : HasPlaces c) (ms : List AnyMachine) (new : AllAt (IsOpening c) (place_count c) ms) where
   opens : (together (map alone ms) ≡ opening_store) × AreShards c (map alone ms)
   opens = row_opens c (map alone ms) places (length-map ms alone ∙ new.number)
       (λ n s e. let item = got_of_map alone ms n s e in sym item.2 ∙ (new.each n item.0 item.1).state)

@@ -1,12 +1,11 @@
-ghost use Rattle.std.specs.Prelude.{◌≡◌, ◌++◌, IfOk, OnOk, map, true};
-ghost use Rattle.tect_ids.specs.Places.{is_kept};
+ghost use Rattle.std.specs.Prelude.{◌≡◌, ◌++◌, IfOk, OnOk, map};
 ghost use Rattle.store_rules.specs.Dumps.{store_dump};
 ghost use Rattle.store_shards.specs.Rows.{together, AreShards};
 ghost use Rattle.layers.specs.Dumps.{ids_of, layer_dump, lines_of};
 ghost use Rattle.layers.specs.Machines.{alone, lent_as};
 
 use crate::shards::Shards;
-use layers::{AnyMachine, KEPT_LAYERS, LentMachine};
+use layers::{AnyMachine, LAYERS, LentMachine};
 use std::alloc::Global;
 use std::marker::Model;
 use tect_ids::{Counts, DumpLine, Layer, NoMemory, place_of};
@@ -37,7 +36,8 @@ impl<'a> Model for LentShards<'a> {
 
 impl Shards {
     /// The lines that a dump of the whole store shows: the directories of all shards by identifier, each followed by its
-    /// entries by name; then the files of all shards by identifier.
+    /// entries by name; then the files and the blocks of all shards by identifier; then the chunks of all disks, disk by disk,
+    /// each disk's by block and tag.
     pub fn dump(&self) -> Result<Vec<DumpLine>, NoMemory>
         ensures { IfOk result (λ lines. lines.items ≡ store_dump self.now.store) }
     {
@@ -71,12 +71,13 @@ impl<'a> LentShards<'a> {
     }
 
     /// The lines that a dump of the whole store shows: the directories of all shards by identifier, each followed by its
-    /// entries by name; then the files of all shards by identifier.
+    /// entries by name; then the files and the blocks of all shards by identifier; then the chunks of all disks, disk by disk,
+    /// each disk's by block and tag.
     pub fn dump(&self) -> Result<Vec<DumpLine>, NoMemory>
         ensures { IfOk result (λ lines. lines.items ≡ store_dump self.now.store) }
     {
         let mut lines = Vec::new(self.alloc);
-        for layer in &KEPT_LAYERS {
+        for layer in &LAYERS {
             self.dump_layer(*layer, &mut lines)?;
         }
         Ok(lines)
@@ -84,7 +85,6 @@ impl<'a> LentShards<'a> {
 
     // Adds the lines of what the shards of a layer have, by identifier.
     fn dump_layer(&self, layer: Layer, lines: &mut Vec<DumpLine>) -> Result<(), NoMemory>
-        requires { is_kept layer ≡ true }
         ensures { OnOk result (lines.new.items ≡ lines.old.items ++ layer_dump self.now.store layer) }
     {
         let ids = self.ids(layer)?;
@@ -96,7 +96,6 @@ impl<'a> LentShards<'a> {
 
     // The identifiers of what the shards of a layer have, rising.
     fn ids(&self, layer: Layer) -> Result<Vec<u64>, NoMemory>
-        requires { is_kept layer ≡ true }
         ensures { IfOk result (λ ids. ids.items ≡ ids_of layer self.now.store) }
     {
         let mut ids = Vec::new(self.alloc);
@@ -109,7 +108,6 @@ impl<'a> LentShards<'a> {
 
     // Adds the lines of what has that identifier in a layer, as the shard of its place has it.
     fn dump_one(&self, layer: Layer, id: u64, lines: &mut Vec<DumpLine>) -> Result<(), NoMemory>
-        requires { is_kept layer ≡ true }
         ensures { OnOk result (lines.new.items ≡ lines.old.items ++ lines_of layer self.now.store id) }
     {
         let place = place_of(layer, id, &self.counts);

@@ -8,7 +8,7 @@ use std::alloc::Global;
 use std::marker::Model;
 use store_rules::{AnyReply, AnyReq};
 use tect_calls::{Asked, place};
-use tect_ids::{Counts, Layer, NoMemory, Place, ROOT, kept_count, layer_at, place_of};
+use tect_ids::{Counts, Layer, NoMemory, Place, ROOT, layer_at, place_count, place_of};
 
 /// All shards of the store, in the order of their places. Contracts see how many there are of each layer, and the whole store that
 /// they are together.
@@ -36,14 +36,13 @@ impl Model for Shards {
 
 impl Shards {
     /// The shards before anything was done: the root alone, in the shard of its place.
-    #[tactic(auto, using(tect_ids::proofs::Layers::is_kept_at))]
     pub fn start(alloc: Global, counts: Counts) -> Result<Shards, NoMemory>
         requires places { HasPlaces counts }
         ensures { IfOk result (λ shards. shards ≡ record { counts = counts; store = opening_store }) }
     {
         let root = place_of(Layer::Names, ROOT.0, &counts);
         let mut machines = Vec::new(alloc);
-        for number in 0..kept_count(&counts) {
+        for number in 0..place_count(&counts) {
             let layer = layer_at(&counts, Place(number));
             machines.push(AnyMachine::opening(alloc, layer, number == root.0)?)?;
         }
@@ -54,7 +53,7 @@ impl Shards {
         })
     }
 
-    /// The shard that a request goes to. It takes no memory.
+    /// The shard or disk that a request goes to. It takes no memory.
     pub fn place(&self, req: &AnyReq) -> Place
         ensures { result ≡ request_place self.now.counts req.now }
     {

@@ -1,6 +1,6 @@
 -- the disks of the rows that a block is made with
-use Rattle.std.proofs.Common.{◌≡◌, ℕ, ◌+◌, ◌<◌, true, false, ◌||◌, List, [], ◌∷◌, ◌++◌, Option, Some, None, is_some, if◌then◌else◌, Bor}
-use Rattle.std.proofs.Common.{map, reverse, take, drop, length, get_or, ap, ◌∙◌, sym, arith}
+use Rattle.std.proofs.Common.{◌≡◌, ℕ, ◌+◌, ◌<◌, false, ◌||◌, List, [], ◌∷◌, ◌++◌, Option, Some, None, is_some, if◌then◌else◌, Bor}
+use Rattle.std.proofs.Common.{map, reverse, take, drop, length, get_or, ap, ◌∙◌, arith}
 use Rattle.std.proofs.lemmas.List.{take_more, take-append-drop, reverse-append, map-append}
 use Rattle.std.specs.FinMap.{FinMap, get}
 use Rattle.tect_ids.specs.declared.ids.BlkId.{BlkId}
@@ -8,11 +8,11 @@ use Rattle.tect_ids.specs.declared.ids.DiskId.{DiskId}
 use Rattle.tect_ids.specs.declared.values.NewRow.{NewRow}
 use Rattle.tect_ids.specs.Keys.{disk_eq}
 use Rattle.tect_ids.proofs.KeyTests.{blk_eq_cases}
-use Rattle.ordered_rows.specs.Maps.{set_at}
-use Rattle.key_maps.specs.declared.disk_blk.DiskBlk.{DiskBlk}
-use Rattle.key_maps.specs.DiskIndexes.{disk_blk_cmp, disk_blk_eq}
-use Rattle.key_maps.proofs.BlockLookups.{block_maps}
-use Rattle.key_maps.proofs.DiskIndexes.{get-disk_blk_at}
+use Rattle.map_words.specs.Maps.{set_at}
+use Rattle.block_maps.specs.declared.disk_blk.DiskBlk.{DiskBlk}
+use Rattle.block_maps.specs.DiskIndexes.{disk_blk_cmp, disk_blk_eq}
+use Rattle.key_words.proofs.BlockLookups.{block_maps}
+use Rattle.block_maps.proofs.DiskIndexes.{get-disk_blk_at}
 use Rattle.store_rules.specs.Blocks.{rows_from}
 use Rattle.block_shard.specs.Index.{pair, is_row_of}
 

@@ -1,17 +1,16 @@
 -- the blocks that the index has on a disk are those with a row there
-use Rattle.std.proofs.Common.{◌≡◌, Bool, true, false, cond, if◌then◌else◌, List, [], ◌∷◌, map, Option, Some, None, is_some, T, refl, sym, ap, ◌∙◌, arith}
+use Rattle.std.proofs.Common.{◌≡◌, Bool, true, false, if◌then◌else◌, List, [], ◌∷◌, map, Option, Some, None, is_some, T, refl, sym, ap, ◌∙◌, arith}
 use Rattle.std.specs.List.{filter}
-use Rattle.std.specs.Ordering.{eq_by_cmp}
 use Rattle.std.specs.FinMap.{FinMap, get, entries, find, entries_sorted, get-entries}
 use Rattle.std.specs.FinMap.Entries.{below_all, same_entries}
 use Rattle.tect_ids.specs.declared.ids.BlkId.{BlkId}
 use Rattle.tect_ids.specs.declared.ids.DiskId.{DiskId}
-use Rattle.tect_ids.specs.Keys.{blk_eq, disk_eq, blk_cmp}
+use Rattle.tect_ids.specs.Keys.{disk_eq, blk_cmp}
 use Rattle.tect_ids.proofs.KeyTests.{block_keys, blk_ties, blk_cmp_total, blk_antisymmetric}
-use Rattle.ordered_rows.specs.Pairs.{IsRising}
-use Rattle.key_maps.specs.declared.disk_blk.DiskBlk.{DiskBlk}
-use Rattle.key_maps.specs.DiskIndexes.{disk_blk_cmp, disk_blk_eq, blks_on}
-use Rattle.key_maps.proofs.DiskIndexes.{disk_blk_ties}
+use Rattle.map_words.specs.Pairs.{IsRising}
+use Rattle.block_maps.specs.declared.disk_blk.DiskBlk.{DiskBlk}
+use Rattle.block_maps.specs.DiskIndexes.{disk_blk_cmp, disk_blk_eq, blks_on}
+use Rattle.block_maps.proofs.DiskIndexes.{disk_blk_ties}
 use Rattle.store_rules.specs.declared.blocks.Block.{Block}
 use Rattle.store_rules.specs.Blocks.{Blocks}
 use Rattle.block_shard.specs.Index.{IsIndexOf, pair, block_row, blocks_on}

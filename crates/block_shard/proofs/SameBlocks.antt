@@ -3,8 +3,8 @@ use Rattle.std.proofs.Common.{◌≡◌, Option, sym}
 use Rattle.std.specs.FinMap.{get}
 use Rattle.tect_ids.specs.declared.ids.BlkId.{BlkId}
 use Rattle.tect_ids.proofs.KeyTests.{blk_cmp_total, blk_antisymmetric}
-use Rattle.ordered_rows.specs.Maps.{set_at}
-use Rattle.ordered_rows.proofs.Maps.{set_at_same}
+use Rattle.map_words.specs.Maps.{set_at}
+use Rattle.map_words.proofs.Maps.{set_at_same}
 use Rattle.store_rules.specs.declared.blocks.Block.{Block}
 use Rattle.store_rules.specs.Blocks.{Blocks}
 

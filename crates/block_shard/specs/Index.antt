@@ -7,8 +7,8 @@ use Rattle.tect_ids.specs.declared.ids.DiskId.{DiskId}
 use Rattle.tect_ids.specs.declared.values.BlockRow.{BlockRow}
 use Rattle.tect_ids.specs.declared.values.NewRow.{NewRow}
 use Rattle.tect_ids.specs.Keys.{blk_eq}
-use Rattle.key_maps.specs.declared.disk_blk.DiskBlk.{DiskBlk}
-use Rattle.key_maps.specs.DiskIndexes.{disk_blk_cmp}
+use Rattle.block_maps.specs.declared.disk_blk.DiskBlk.{DiskBlk}
+use Rattle.block_maps.specs.DiskIndexes.{disk_blk_cmp}
 use Rattle.store_rules.specs.declared.blocks.Block.{Block}
 use Rattle.store_rules.specs.Blocks.{Blocks, rows_from}
 

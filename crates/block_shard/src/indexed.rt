@@ -2,17 +2,13 @@ ghost use Rattle.std.specs.Prelude.{◌≡◌, false, Some, None, OnOk, OnErr, i
 ghost use Rattle.std.specs.FinMap.{get};
 ghost use Rattle.tect_ids.specs.declared.ids.DiskId.{DiskId};
 ghost use Rattle.block_shard.specs.Index.{pair, is_row_of};
-ghost use Rattle.key_maps.specs.declared.disk_blk.DiskBlk.{DiskBlk as Pair};
+ghost use Rattle.block_maps.specs.declared.disk_blk.DiskBlk.{DiskBlk as Pair};
 
-use key_maps::{DiskBlk, DiskIndex};
+use block_maps::{DiskBlk, DiskIndex};
 use tect_ids::{BlkId, NewRow, NoMemory};
 
 // Lists the block under the disks of these rows. For want of memory it is listed nowhere, as before.
-pub(crate) fn list_rows(
-    index: &mut DiskIndex,
-    blk: BlkId,
-    rows: &[NewRow],
-) -> Result<(), NoMemory>
+pub(crate) fn list_rows(index: &mut DiskIndex, blk: BlkId, rows: &[NewRow]) -> Result<(), NoMemory>
     requires { (d : DiskId) → get index.old (pair d blk) ≡ None }
     ensures listed { OnOk result ((at : Pair) → get index.new at ≡ (if is_row_of blk rows.now at then Some tt else get index.old at)) }
     ensures unchanged { OnErr result ((at : Pair) → get index.new at ≡ get index.old at) }

@@ -1,13 +1,14 @@
 ghost use Rattle.std.specs.Prelude.{◌≡◌, Some, None, IfOk, OnOk, OnErr, is_some, map};
 ghost use Rattle.std.specs.FinMap.{get, entries};
-ghost use Rattle.ordered_rows.specs.Maps.{set_at};
+ghost use Rattle.map_words.specs.Maps.{set_at};
 ghost use Rattle.store_rules.specs.Blocks.{rows_from, new_block, make_block_answer, seal_block_answer, seal_block_change, sealed_block};
 ghost use Rattle.store_rules.specs.Blocks.{get_block_answer, shown_row, grant_block_answer, grant_block_change, block_with_hold};
 ghost use Rattle.store_rules.specs.Blocks.{release_block_answer, release_block_change, block_lists};
 
 use crate::indexed::{list_rows, take_rows};
 use crate::shard::BlockShard;
-use key_maps::{BlkMap, BlockRows, HoldList};
+use block_maps::BlkMap;
+use small_maps::{BlockRows, HoldList};
 use std::alloc::Global;
 use store_rules::{Block, BlockReply, Outcome};
 use tect_ids::{BlkId, BlockRow, Class, FileId, Hold, Items, NewRow, NoMemory, Row, Upper};

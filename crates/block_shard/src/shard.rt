@@ -1,11 +1,11 @@
 ghost use Rattle.std.specs.Prelude.{◌≡◌, true, IsTrue, IsOk, IfOk, OnOk, OnErr};
 ghost use Rattle.std.specs.FinMap.{empty};
-ghost use Rattle.key_maps.specs.DiskIndexes.{blks_left};
+ghost use Rattle.block_maps.specs.DiskIndexes.{blks_left};
 ghost use Rattle.store_rules.specs.Outcomes.{changes, reply};
 ghost use Rattle.store_rules.specs.Blocks.{block_answer, block_change, block_rule, block_step};
 ghost use Rattle.block_shard.specs.Index.{blocks_on};
 
-use key_maps::{BlkMap, BlksOnDisk, DiskIndex};
+use block_maps::{BlkMap, BlksOnDisk, DiskIndex};
 use std::alloc::Global;
 use std::marker::Model;
 use store_rules::{Block, BlockReply, BlockReq, Outcome};
@@ -120,8 +120,8 @@ impl BlockShard {
         }
     }
 
-    /// Goes over the blocks that have a row on the disk, in the order of their identifiers. It looks at no other block, and takes
-    /// no memory.
+    /// Goes over the blocks that have a row on the disk, in the order of their identifiers. It takes no memory, and its time goes
+    /// by these blocks alone but for a look-up.
     pub fn on_disk(&self, disk: DiskId) -> BlksOnDisk<'_>
         ensures { blks_left result ≡ blocks_on self.now disk }
     {

@@ -81,6 +81,9 @@ StopsWalk k (Ok (shown.Node (Dir d))) a = ⊥
 StopsWalk k (Ok shown.Done) a = ⊥
 StopsWalk k (Ok (shown.Parent p sealed)) a = ⊥
 StopsWalk k (Ok (shown.Entries sealed items)) a = ⊥
+StopsWalk k (Ok (shown.Attached i)) a = ⊥
+StopsWalk k (Ok (shown.Blocks sealed rows)) a = ⊥
+StopsWalk k (Ok (shown.Bytes bytes)) a = ⊥
 
 abbrev pub Finds : Key → TreeReply → Answer → Type 0
 Finds k (Refused why) a = a ≡ refusal_answer k why
@@ -88,6 +91,9 @@ Finds k (Ok (shown.Node n)) a = a ≡ answers.Found n
 Finds k (Ok shown.Done) a = ⊥
 Finds k (Ok (shown.Parent p sealed)) a = ⊥
 Finds k (Ok (shown.Entries sealed items)) a = ⊥
+Finds k (Ok (shown.Attached i)) a = ⊥
+Finds k (Ok (shown.Blocks sealed rows)) a = ⊥
+Finds k (Ok (shown.Bytes bytes)) a = ⊥
 
 abbrev pub Lists : Key → TreeReply → Answer → Type 0
 Lists k (Refused why) a = a ≡ refusal_answer k why
@@ -95,6 +101,9 @@ Lists k (Ok (shown.Entries sealed items)) a = a ≡ answers.Entries items
 Lists k (Ok shown.Done) a = ⊥
 Lists k (Ok (shown.Parent p sealed)) a = ⊥
 Lists k (Ok (shown.Node n)) a = ⊥
+Lists k (Ok (shown.Attached i)) a = ⊥
+Lists k (Ok (shown.Blocks sealed rows)) a = ⊥
+Lists k (Ok (shown.Bytes bytes)) a = ⊥
 
 -- a rename's look ends it where it is refused, and where the names are equal
 abbrev pub FindsSource : Key → List ℕ → TreeReply → Answer → Type 0

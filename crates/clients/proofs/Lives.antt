@@ -3,7 +3,7 @@ use Rattle.std.proofs.Common.{◌≡◌, ◌+◌, ◌<◌, ◌^◌, Option, List
 use Rattle.std.proofs.lemmas.List.{append-nil, length-map}
 use Rattle.tect_ids.specs.declared.ids.Counts.{Counts}
 use Rattle.tect_ids.specs.Places.{HasPlaces}
-use Rattle.tect_calls.specs.Knowing.{IsActor}
+use Rattle.memories.specs.Knowing.{IsActor}
 use Rattle.tect_ids.specs.declared.ids.OpId.{OpId}
 use Rattle.program_forms.specs.Kinds.{Programs}
 use Rattle.program_calls.specs.Keeping.{KeepsSerial}

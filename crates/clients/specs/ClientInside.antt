@@ -3,7 +3,7 @@ use Rattle.std.specs.Prelude.{◌≡◌, ◌<◌, ◌^◌, ◌⊎◌, true, List
 use Rattle.std.specs.List.{All}
 use Rattle.std.specs.Option.{ForSome}
 use Rattle.tect_ids.specs.Places.{HasPlaces}
-use Rattle.tect_calls.specs.Knowing.{IsActor}
+use Rattle.memories.specs.Knowing.{IsActor}
 use Rattle.passes.specs.declared.pass.Pass.{Pass}
 use Rattle.passes.specs.Commits.{IsFullForBegin}
 use Rattle.program_forms.specs.Kinds.{Programs}

@@ -2,17 +2,18 @@ ghost use Rattle.std.specs.Prelude.{◌≡◌, ◌+◌, ◌^◌, ◌<◌, IfOk, 
 ghost use Rattle.std.specs.Option.{ForSome, option_copied};
 ghost use Rattle.store_rules.specs.declared.any.AnyReq.{AnyReq};
 ghost use Rattle.tect_ids.specs.Places.{HasPlaces};
-ghost use Rattle.tect_calls.specs.Knowing.{IsActor};
+ghost use Rattle.memories.specs.Knowing.{IsActor};
 ghost use Rattle.world_runs.specs.Actors.{idle_actor, begun, not_begun, program_ask};
 ghost use Rattle.clients.specs.ActorState.{op_of, next_op_of};
 ghost use Rattle.clients.specs.ActorCalls.{looked, asks_now, says_now, IsPlainOf, Advances, let_go, left_behind};
 
+use memories::Memory;
 use program_calls::{Programs, Turned};
 use program_forms::Standing;
 use std::alloc::Global;
 use std::marker::Model;
 use store_rules::AnyReply;
-use tect_calls::{Asked, Memory};
+use tect_calls::Asked;
 use tect_ids::{Answer, Command, Counts, NoMemory, OpId, Place};
 
 /// An actor: how many commands it began, whether it stopped for good, what it knows between commands, and where its running

@@ -1,7 +1,7 @@
 ghost use Rattle.std.specs.Prelude.{◌≡◌, ◌≢◌, ◌+◌, ◌^◌, ◌<◌, ◌≤◌, ◌++◌, [], ◌∷◌, max, IfOk, OnOk, OnErr, IsSome, IsNone, IsTrue};
 ghost use Rattle.std.specs.Prelude.{MatchResult, is_some, true, false, vec_len, vec_capacity};
 ghost use Rattle.tect_ids.specs.Places.{HasPlaces};
-ghost use Rattle.tect_calls.specs.Knowing.{IsActor};
+ghost use Rattle.memories.specs.Knowing.{IsActor};
 ghost use Rattle.entry_words.specs.declared.entry.Refused.TheVariants as refusals;
 ghost use Rattle.program_forms.specs.Lacks.{no_room};
 ghost use Rattle.world_runs.specs.declared.event.Event.TheVariants as events;
@@ -45,7 +45,7 @@ impl<P: Programs> Model for Client<P> {
 }
 
 /// The same command once more.
-#[tactic(auto, using(tect_ids::proofs::Clones::same_command))]
+#[tactic(auto, using(entry_words::proofs::WordClones::same_command))]
 fn again(command: &Command) -> Result<Command, NoMemory>
     ensures { IfOk result (λ same. same ≡ command.now) }
 {

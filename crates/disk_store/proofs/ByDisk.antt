@@ -15,9 +15,9 @@ use Rattle.tect_ids.specs.declared.key.ChunkKey.{ChunkKey}
 use Rattle.tect_ids.specs.declared.dump.DumpLine.{DumpLine}
 use Rattle.tect_ids.specs.Keys.{disk_eq, disk_cmp, chunk_cmp}
 use Rattle.tect_ids.proofs.KeyTests.{disk_eq_cases, disk_cmp_total, disk_ties, chunk_cmp_total, chunk_antisymmetric}
-use Rattle.ordered_rows.proofs.Entries.{some_passes, same_retained}
-use Rattle.key_maps.specs.Chunks.{on_disk}
-use Rattle.key_maps.proofs.ChunkFront.{entries-on_disk}
+use Rattle.map_words.proofs.Entries.{some_passes, same_retained}
+use Rattle.block_maps.specs.Chunks.{on_disk}
+use Rattle.block_maps.proofs.ChunkFront.{entries-on_disk}
 use Rattle.store_rules.specs.Disks.{Chunks}
 use Rattle.store_rules.specs.Dumps.{chunk_line, chunks_dump}
 use Rattle.disk_store.specs.Dumps.{disk_dump, used_disks, disks_of}

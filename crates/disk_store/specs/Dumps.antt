@@ -4,7 +4,7 @@ use Rattle.std.specs.FinMap.{FinMap, entries, from_entries, keys}
 use Rattle.tect_ids.specs.declared.ids.DiskId.{DiskId}
 use Rattle.tect_ids.specs.declared.dump.DumpLine.{DumpLine}
 use Rattle.tect_ids.specs.Keys.{disk_cmp}
-use Rattle.key_maps.specs.Chunks.{on_disk}
+use Rattle.block_maps.specs.Chunks.{on_disk}
 use Rattle.store_rules.specs.Disks.{Chunks}
 use Rattle.store_rules.specs.Dumps.{chunk_line}
 

@@ -4,7 +4,7 @@ ghost use Rattle.store_rules.specs.Outcomes.{changes, reply};
 ghost use Rattle.store_rules.specs.Disks.{disk_answer, disk_change, disk_rule, disk_step};
 ghost use Rattle.store_rules.specs.Disks.{get_answer, put_answer, put_change};
 
-use key_maps::ChunkMap;
+use block_maps::ChunkMap;
 use std::alloc::Global;
 use std::marker::Model;
 use store_rules::{DiskReply, DiskReq, Outcome};

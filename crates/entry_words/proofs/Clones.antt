@@ -3,8 +3,8 @@ use Rattle.std.proofs.Common.{◌≡◌, ℕ, arith, rules}
 use Rattle.tect_ids.specs.declared.answer.Answer.{Answer}
 use Rattle.tect_ids.specs.declared.command.Command.{Command}
 use Rattle.tect_ids.specs.declared.ids.OpId.{OpId}
-use Rattle.tect_ids.proofs.Clones.{same_answer, same_command}
-use Rattle.store_rules.proofs.Clones.{same_req, same_reply}
+use Rattle.entry_words.proofs.WordClones.{same_answer, same_command}
+use Rattle.entry_words.proofs.RequestClones.{same_req, same_reply}
 use Rattle.entry_words.specs.contracts.entry.EntryClone.TheImpl as entry_clone
 use Rattle.entry_words.specs.contracts.entry.MomentClone.TheImpl as moment_clone
 use Rattle.entry_words.specs.contracts.entry.NoteClone.TheImpl as note_clone

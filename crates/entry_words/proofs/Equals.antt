@@ -2,7 +2,7 @@
 use Rattle.std.proofs.Common.{◌≡◌, ℕ, Bool, ◌&&◌, Decides, true, eqb, refl, arith, rules}
 use Rattle.tect_ids.specs.contracts.ids.PlacePartialEq.TheImpl as place_eq
 use Rattle.tect_ids.specs.declared.ids.Place.{Place}
-use Rattle.store_rules.proofs.Equals.{req_decides, reply_decides}
+use Rattle.entry_words.proofs.RequestEquals.{req_decides, reply_decides}
 use Rattle.store_rules.specs.contracts.any.AnyReplyPartialEq.TheImpl as any_reply
 use Rattle.store_rules.specs.contracts.any.AnyReqPartialEq.TheImpl as any_req
 use Rattle.entry_words.specs.contracts.entry.EntryPartialEq.TheImpl as entry

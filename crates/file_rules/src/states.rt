@@ -1,5 +1,6 @@
 use crate::gathered::Gathered;
-use tect_calls::{BlockMade, BlockSealed, GrantedRow, MadeFile, PathKey, RowMade, Spent, Stored};
+use memories::PathKey;
+use tect_calls::{BlockMade, BlockSealed, GrantedRow, MadeFile, RowMade, Spent, Stored};
 use tect_ids::{Answer, BlkId, Bytes, ChunkKey, FileId, Items, Key, RowPart, Token};
 
 /// A file is opened: it is found, and a new token is written into it.

@@ -3,8 +3,8 @@ use Rattle.std.proofs.Common.{◌≡◌, Option, sym}
 use Rattle.std.specs.FinMap.{get}
 use Rattle.tect_ids.specs.declared.ids.FileId.{FileId}
 use Rattle.tect_ids.proofs.KeyTests.{file_cmp_total, file_antisymmetric}
-use Rattle.ordered_rows.specs.Maps.{set_at}
-use Rattle.ordered_rows.proofs.Maps.{set_at_same}
+use Rattle.map_words.specs.Maps.{set_at}
+use Rattle.map_words.proofs.Maps.{set_at_same}
 use Rattle.store_rules.specs.declared.files.File.{File}
 use Rattle.store_rules.specs.Files.{Files}
 

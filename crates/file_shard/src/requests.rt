@@ -1,12 +1,13 @@
 ghost use Rattle.std.specs.Prelude.{◌≡◌, Some, None, OnOk, OnErr, is_some};
 ghost use Rattle.std.specs.FinMap.{get};
-ghost use Rattle.ordered_rows.specs.Maps.{set_at};
+ghost use Rattle.map_words.specs.Maps.{set_at};
 ghost use Rattle.store_rules.specs.Files.{make_file_answer, make_file_change, grant_file_answer, grant_file_change};
 ghost use Rattle.store_rules.specs.Files.{release_file_answer, release_file_change, file_with_hold, file_lists};
 
 use crate::refused::refused;
 use crate::shard::FileShard;
-use key_maps::{FileMap, HoldList};
+use key_maps::FileMap;
+use small_maps::HoldList;
 use std::alloc::Global;
 use store_rules::{File, FileReply, FileRows, Outcome};
 use tect_ids::{FileId, Hold, Key, NoMemory, Refusal, Token, Upper};

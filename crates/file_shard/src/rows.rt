@@ -1,6 +1,6 @@
 ghost use Rattle.std.specs.Prelude.{◌≡◌, map, Some, IfOk, OnOk, OnErr};
 ghost use Rattle.std.specs.FinMap.{get};
-ghost use Rattle.ordered_rows.specs.Maps.{set_at};
+ghost use Rattle.map_words.specs.Maps.{set_at};
 ghost use Rattle.store_rules.specs.Files.{attach_answer, attach_change, file_with_row, has_token};
 ghost use Rattle.store_rules.specs.Files.{list_blocks_answer, row_part};
 

@@ -1,6 +1,6 @@
 ghost use Rattle.std.specs.Prelude.{◌≡◌, Some};
 ghost use Rattle.std.specs.FinMap.{get};
-ghost use Rattle.ordered_rows.specs.Maps.{set_at};
+ghost use Rattle.map_words.specs.Maps.{set_at};
 ghost use Rattle.store_rules.specs.Files.{take_token_answer, take_token_change, file_with_token};
 
 use crate::refused::refused;

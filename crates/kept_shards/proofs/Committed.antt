@@ -14,7 +14,7 @@ use Rattle.store_rules.specs.declared.any.AnyReply.{AnyReply}
 use Rattle.store_rules.specs.Alone.{request_layer}
 use Rattle.store_rules.specs.Places.{request_place}
 use Rattle.store_rules.specs.Store.{Store, store_step}
-use Rattle.store_rules.proofs.Asked.{asked_layer}
+use Rattle.store_shards.proofs.Asked.{asked_layer}
 use Rattle.store_shards.specs.Rows.{together, AreShards}
 use Rattle.store_shards.proofs.Rows.{row_index, row_reply, row_done, row_stays}
 use Rattle.entry_words.specs.declared.entry.Entry.{Entry}

@@ -4,7 +4,7 @@ use Rattle.std.specs.Prelude.{slice_get}
 use Rattle.std.proofs.lemmas.List.{length-set}
 use Rattle.std.proofs.Math.ListN.{length-map}
 use Rattle.tect_ids.specs.declared.ids.Counts.{Counts}
-use Rattle.tect_ids.specs.Places.{HasPlaces, kept_count}
+use Rattle.tect_ids.specs.Places.{HasPlaces, place_count}
 use Rattle.store_rules.specs.Alone.{opening_of}
 use Rattle.store_rules.specs.Store.{opening_store}
 use Rattle.store_shards.specs.Rows.{together, AreShards}
@@ -42,7 +42,7 @@ none_yet (k ∷ ks) each =
     let rest : map history_of ks ≡ replicate (length ks) [] = none_yet ks (λ n l e. each (suc n) l e) in
     ap (λ (es : List Entry). es ∷ map history_of ks) first ∙ ap (λ (es : List (List Entry)). [] ∷ es) rest
 
-module _ (c : Counts) (places : HasPlaces c) (ks : List AnyKept) (new : AllAt (IsNew c) (kept_count c) ks) where
+module _ (c : Counts) (places : HasPlaces c) (ks : List AnyKept) (new : AllAt (IsNew c) (place_count c) ks) where
   pub all_started : AreStarted c ks
   all_started = record { number = new.number; labels = λ n k e. (new.each n k e).label }
 
@@ -50,5 +50,5 @@ module _ (c : Counts) (places : HasPlaces c) (ks : List AnyKept) (new : AllAt (I
   all_open = row_opens c (map machine_of ks) places (length-map ks machine_of ∙ new.number)
       (λ n s e. let item = got_of_map machine_of ks n s e in sym item.2 ∙ (new.each n item.0 item.1).machine)
 
-  pub all_new : map history_of ks ≡ replicate (kept_count c) []
+  pub all_new : map history_of ks ≡ replicate (place_count c) []
   all_new = none_yet ks (λ n k e. (new.each n k e).history) ∙ ap (λ (n : ℕ). replicate n []) new.number

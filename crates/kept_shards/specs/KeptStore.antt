@@ -4,12 +4,9 @@ use Rattle.std.specs.Coded.{Coded, code_by, coded×, coded_list}
 use Rattle.tect_ids.specs.declared.ids.Counts.{Counts}
 use Rattle.store_rules.specs.declared.any.AnyReq.{AnyReq}
 use Rattle.store_rules.specs.declared.any.AnyReply.{AnyReply}
-use Rattle.store_rules.specs.Files.{Files}
-use Rattle.store_rules.specs.Names.{Names}
 use Rattle.store_rules.specs.Places.{request_place}
 use Rattle.store_rules.specs.Store.{Store, store_reply, store_step}
-use Rattle.name_shard.specs.Codes.{names_code}
-use Rattle.file_shard.specs.Codes.{files_code}
+use Rattle.layers.specs.Codes.{store_code}
 use Rattle.entry_words.specs.declared.entry.Entry.{Entry}
 use Rattle.entry_words.specs.contracts.entry.Entry as entry
 use Rattle.entry_words.specs.declared.entry.Moment.TheVariants.{Act}
@@ -29,10 +26,8 @@ pub record KeptStore : Type 0 where
 
 abbrev pub kept_code : Coded KeptStore
 kept_code =
-    code_by (Counts × (Names × (Files × List (List Entry))))
-    (coded× counts_code (coded× names_code (coded× files_code (coded_list (coded_list entry.the_row.coded)))))
-    (λ w. (w.counts, (w.store.names, (w.store.files, w.entries))))
-    (λ p. record { counts = p.0; store = record { names = p.1.0; files = p.1.1.0 }; entries = p.1.1.1 }) (λ _. refl)
+    code_by (Counts × (Store × List (List Entry))) (coded× counts_code (coded× store_code (coded_list (coded_list entry.the_row.coded))))
+    (λ w. (w.counts, (w.store, w.entries))) (λ p. record { counts = p.0; store = p.1.0; entries = p.1.1 }) (λ _. refl)
 
 abbrev pub entries_at : KeptStore → ℕ → List Entry
 entries_at w place = slice_index_or w.entries place []

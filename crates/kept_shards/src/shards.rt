@@ -1,5 +1,5 @@
 ghost use Rattle.std.specs.Prelude.{◌≡◌, [], map, replicate, OnOk, OnErr, IfOk, ◌↔◌};
-ghost use Rattle.tect_ids.specs.Places.{HasPlaces, kept_count};
+ghost use Rattle.tect_ids.specs.Places.{HasPlaces, place_count};
 ghost use Rattle.store_rules.specs.Dumps.{store_dump};
 ghost use Rattle.store_rules.specs.Places.{request_place};
 ghost use Rattle.store_rules.specs.Store.{opening_store};
@@ -16,10 +16,10 @@ use place_kit::AnyKept;
 use std::alloc::Global;
 use std::marker::Model;
 use tect_calls::{AnyReply, Asked, place};
-use tect_ids::{Counts, DumpLine, NoMemory, Place, kept_count};
+use tect_ids::{Counts, DumpLine, NoMemory, Place, place_count};
 
-/// All shards of the store, each with its history. Contracts see how many there are of each layer, the whole store that they
-/// are together, and the entries of each place.
+/// All shards and disks of the store, each with its history. Contracts see how many there are of each layer, the whole store that
+/// they are together, and the entries of each place.
 #[derive(Drop)]
 pub struct KeptShards {
     alloc: Global,
@@ -46,10 +46,10 @@ impl KeptShards {
     pub fn start(alloc: Global, counts: Counts) -> Result<KeptShards, NoMemory>
         requires { HasPlaces counts }
         ensures { IfOk result
-            (λ shards. shards ≡ record { counts = counts; store = opening_store; entries = replicate (kept_count counts) [] }) }
+            (λ shards. shards ≡ record { counts = counts; store = opening_store; entries = replicate (place_count counts) [] }) }
     {
         let mut kepts = Vec::new(alloc);
-        for number in 0..kept_count(&counts) {
+        for number in 0..place_count(&counts) {
             kepts.push(AnyKept::start(alloc, &counts, Place(number))?)?;
         }
         Ok(KeptShards {
@@ -83,7 +83,7 @@ impl KeptShards {
     }
 
     /// The lines that a dump of the whole store shows: the directories of all shards by identifier, each followed by its
-    /// entries by name; then the files of all shards by identifier.
+    /// entries by name; then the files, the blocks and the chunks of all shards by identifier.
     pub fn dump(&self) -> Result<Vec<DumpLine>, NoMemory>
         ensures { IfOk result (λ lines. lines.items ≡ store_dump self.now.store) }
     {

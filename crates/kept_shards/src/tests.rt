@@ -27,7 +27,7 @@ fn check_root(shards: &mut KeptShards, pass: &mut Pass) -> Result<(), Refused> {
 /// How many entries all places have together.
 fn count_entries(rt: &impl Abort, shards: KeptShards) -> Result<usize, Fail> {
     let kepts = shards.into_kepts();
-    assert_eq!(rt; kepts.len(), 5);
+    assert_eq!(rt; kepts.len(), 7);
     let mut count: usize = 0;
     for kept in &kepts {
         count = count.saturating_add(kept.history().len());

@@ -13,33 +13,45 @@ use Rattle.std.specs.declared.cmp.Ordering.{Ordering}
 use Rattle.std.specs.declared.cmp.Ordering.TheVariants.{Less, Equal, Greater}
 use Rattle.std.specs.Ordering.{is_lt, is_eq, nat_cmp, ordering_reverse}
 use Rattle.std.specs.Cmp.{IsTotalOrder, tied_itself}
-use Rattle.std.specs.FinMap.{FinMap, IsAntisymmetric, get, contains_key, keys, entries, entries_sorted, find, from_entries, is_sorted, get-entries}
+use Rattle.std.specs.FinMap.{FinMap, IsAntisymmetric, get, contains_key, keys, entries, entries_sorted, find, from_entries, is_sorted}
+use Rattle.std.specs.FinMap.{get-entries, get-from_entries, same_map}
 use Rattle.std.specs.FinMap.Entries.{below_all}
+use Rattle.tect_ids.specs.declared.ids.BlkId.{BlkId}
 use Rattle.tect_ids.specs.declared.ids.Counts.{Counts}
 use Rattle.tect_ids.specs.declared.ids.DirId.{DirId}
+use Rattle.tect_ids.specs.declared.ids.DiskId.{DiskId}
 use Rattle.tect_ids.specs.declared.ids.FileId.{FileId}
 use Rattle.tect_ids.specs.declared.ids.Layer.{Layer}
 use Rattle.tect_ids.specs.declared.ids.Layer.TheVariants as layers
 use Rattle.tect_ids.specs.declared.ids.Place.{Place}
-use Rattle.tect_ids.specs.declared.dump.DumpLine.{DumpLine}
-use Rattle.tect_ids.specs.Places.{is_kept, place_number}
-use Rattle.tect_ids.specs.Keys.{dir_cmp, file_cmp}
-use Rattle.tect_ids.proofs.KeyTests.{num_eq_cases, dir_cmp_total, file_cmp_total, dir_antisymmetric, file_antisymmetric}
-use Rattle.key_maps.specs.Maps.{within}
+use Rattle.tect_ids.specs.Places.{place_number}
+use Rattle.tect_ids.specs.Keys.{blk_cmp, dir_cmp, disk_cmp, file_cmp}
+use Rattle.tect_ids.proofs.KeyTests.{num_eq_cases, blk_cmp_total, dir_cmp_total, disk_cmp_total, file_cmp_total}
+use Rattle.tect_ids.proofs.KeyTests.{blk_antisymmetric, dir_antisymmetric, disk_antisymmetric, file_antisymmetric}
+use Rattle.tect_ids.proofs.Layers.{has_place}
+use Rattle.block_maps.specs.Chunks.{on_disk}
+use Rattle.key_words.specs.Maps.{within}
+use Rattle.store_rules.specs.declared.blocks.Block.{Block}
 use Rattle.store_rules.specs.declared.files.File.{File}
 use Rattle.store_rules.specs.declared.names.Directory.{Directory}
 use Rattle.store_rules.specs.Alone.{no_store}
+use Rattle.store_rules.specs.Disks.{Chunks}
 use Rattle.store_rules.specs.Names.{Names}
-use Rattle.store_rules.specs.Dumps.{dir_lines, names_dump, file_line, files_dump, store_dump}
+use Rattle.store_rules.specs.Dumps.{block_line, chunk_line, dir_lines, file_line}
+use Rattle.store_rules.specs.Dumps.{blocks_dump, chunks_dump, files_dump, names_dump, store_dump}
 use Rattle.store_rules.specs.Store.{Store}
-use Rattle.store_shards.specs.Rows.{AreShards, files_together, names_together, together}
-use Rattle.store_shards.specs.Shards.{dir_place, file_place, place_eq}
+use Rattle.store_shards.specs.Rows.{AreShards, blocks_together, chunks_together, files_together, names_together, together}
+use Rattle.store_shards.specs.Shards.{blk_place, dir_place, disk_place, file_place, place_eq}
+use Rattle.store_shards.proofs.Found.{found_at_home}
 use Rattle.store_shards.proofs.Names.{same_within}
 use Rattle.store_shards.proofs.Rows.{chosen, place_own}
 use Rattle.name_shard.specs.DirDumps.{lines_of_dir, dir_dump}
 use Rattle.layers.specs.Dumps.{ids_of, layer_dump, lines_of, maybe_line}
-use Rattle.layers.specs.declared.machine.TheConstants.{KEPT_LAYERS}
-use Rattle.layers.proofs.Sorted.{both, sorted_keys, distinct_keys}
+use Rattle.disk_store.specs.Dumps.{disks_of, used_disks}
+use Rattle.layers.specs.declared.machine.TheConstants.{LAYERS}
+use Rattle.disk_store.proofs.ByDisk.{disks_shown, same_used}
+use Rattle.layers.proofs.ByDisk.{same_there, used_here}
+use Rattle.layers.proofs.Sorted.{both, sorted_keys, distinct_keys, none_some}
 
 -- ---- the entries of a map, one after another
 
@@ -98,11 +110,21 @@ files_shown s =
     (λ e. file_line e ∷ []) (λ f x. refl)
     ∙ flat_map_single file_line (entries s.files)
 
+blocks_shown : (s : Store) → layer_dump s layers.Blocks ≡ blocks_dump s.blocks
+blocks_shown s =
+    flat_map-map (lines_of layers.Blocks s) (λ (b : BlkId). b.0) (keys s.blocks)
+    ∙ over_keys blk_cmp_total s.blocks (λ (b : BlkId) (x : Option Block). maybe_line (option_map (λ row. block_line (b, row)) x))
+    (λ e. block_line e ∷ []) (λ b x. refl)
+    ∙ flat_map_single block_line (entries s.blocks)
+
+chunks_shown : (s : Store) → layer_dump s layers.Disks ≡ chunks_dump s.chunks
+chunks_shown s = flat_map-map (lines_of layers.Disks s) (λ (d : DiskId). d.0) (disks_of s.chunks) ∙ disks_shown s.chunks
+
 -- a dump of the store shows its layers in their order
-pub all_layers : (s : Store) → flat_map (layer_dump s) KEPT_LAYERS ≡ store_dump s
+pub all_layers : (s : Store) → flat_map (layer_dump s) LAYERS ≡ store_dump s
 all_layers s =
-    ap (λ (ls : List DumpLine). ls ++ (layer_dump s layers.Files ++ [])) (names_shown s)
-    ∙ ap (λ (ls : List DumpLine). names_dump s.names ++ ls) (append-nil (layer_dump s layers.Files) ∙ files_shown s)
+    let last = append-nil (layer_dump s layers.Disks) ∙ chunks_shown s in
+    λ i. names_shown s i ++ (files_shown s i ++ (blocks_shown s i ++ last i))
 
 -- ---- what is read in the one shard of an id
 
@@ -175,6 +197,12 @@ dir_order m n = grind arith
 file_order : (m n : ℕ) → is_lt (file_cmp (record { 0 = m }) (record { 0 = n })) ≡ is_lt (nat_cmp m n)
 file_order m n = grind arith
 
+blk_order : (m n : ℕ) → is_lt (blk_cmp (record { 0 = m }) (record { 0 = n })) ≡ is_lt (nat_cmp m n)
+blk_order m n = grind arith
+
+disk_order : (m n : ℕ) → is_lt (disk_cmp (record { 0 = m }) (record { 0 = n })) ≡ is_lt (nat_cmp m n)
+disk_order m n = grind arith
+
 module _ (c : Counts) (row : List Store) (is : AreShards c row) where
   dir_home : (i : ℕ) (d : DirId) → contains_key (get_or row i no_store).names.dirs d ≡ true → (dir_place c d).0 ≡ i
   dir_home i d has = sym (same_place (record { 0 = i }) (dir_place c d)
@@ -183,6 +211,19 @@ module _ (c : Counts) (row : List Store) (is : AreShards c row) where
   file_home : (i : ℕ) (f : FileId) → contains_key (get_or row i no_store).files f ≡ true → (file_place c f).0 ≡ i
   file_home i f has = sym (same_place (record { 0 = i }) (file_place c f)
       (is_chosen _ _ (ap is_some (sym (is.whole.files (record { 0 = i }) f)) ∙ has)))
+
+  blk_home : (i : ℕ) (b : BlkId) → contains_key (get_or row i no_store).blocks b ≡ true → (blk_place c b).0 ≡ i
+  blk_home i b has = sym (same_place (record { 0 = i }) (blk_place c b)
+      (is_chosen _ _ (ap is_some (sym (is.whole.blocks (record { 0 = i }) b)) ∙ has)))
+
+  disk_home : (i : ℕ) (d : DiskId) → contains_key (used_disks (get_or row i no_store).chunks) d ≡ true → (disk_place c d).0 ≡ i
+  disk_home i d has = sym (same_place (record { 0 = i }) (disk_place c d)
+      (used_here (λ o. place_eq (record { 0 = i }) (disk_place c o)) _ _ (is.whole.chunks (record { 0 = i })) d has))
+
+  -- the disk of an id has its chunks in the shard of its place
+  at_home : (d : DiskId) → on_disk (get_or row (disk_place c d).0 no_store).chunks d ≡ on_disk (chunks_together row) d
+  at_home d =
+      same_there (λ o. place_eq (disk_place c d) (disk_place c o)) _ _ (is.whole.chunks (disk_place c d)) d (place_own (disk_place c d))
 
   all_dirs : (collected xs : List ℕ) → collected ≡ flat_map (ids_of layers.Names) row → IsPermutation collected xs → IsSorted nat_cmp xs
       → xs ≡ map (λ d. d.0) (keys (names_together row).dirs)
@@ -196,13 +237,35 @@ module _ (c : Counts) (row : List Store) (is : AreShards c row) where
   all_files = ids_sorted file_cmp_total file_antisymmetric (λ f. f.0) (λ n. record { 0 = n }) (λ f. refl) (λ n. refl) file_order
       (λ s. s.files) (λ f. (file_place c f).0) row (λ i f lt has. file_home i f has)
 
+  all_blocks : (collected xs : List ℕ) → collected ≡ flat_map (ids_of layers.Blocks) row → IsPermutation collected xs → IsSorted nat_cmp xs
+      → xs ≡ map (λ b. b.0) (keys (blocks_together row))
+  unfolding blocks_together
+  all_blocks = ids_sorted blk_cmp_total blk_antisymmetric (λ b. b.0) (λ n. record { 0 = n }) (λ b. refl) (λ n. refl) blk_order
+      (λ s. s.blocks) (λ b. (blk_place c b).0) row (λ i b lt has. blk_home i b has)
+
+  -- the disks that have chunks in any shard are those that have some in the store
+  used_together : from_entries {R = disk_cmp} (flat_map (λ s. entries (used_disks s.chunks)) row) ≡ used_disks (chunks_together row)
+  used_together = same_map disk_cmp_total disk_antisymmetric _ _ (λ d.
+      get-from_entries disk_cmp_total _ d
+      ∙ found_at_home (λ (s : Store). used_disks s.chunks) d no_store row (disk_place c d).0
+      (subst (λ n. (disk_place c d).0 < n) (sym is.number) (has_place c layers.Disks d.0 is.places))
+      (λ i lt apart. none_some _ (λ has. apart (sym (disk_home i d has))))
+      ∙ same_used _ (chunks_together row) d (at_home d))
+
+  all_disks : (collected xs : List ℕ) → collected ≡ flat_map (ids_of layers.Disks) row → IsPermutation collected xs → IsSorted nat_cmp xs
+      → xs ≡ map (λ d. d.0) (disks_of (chunks_together row))
+  all_disks collected xs all moves sorted =
+      ids_sorted disk_cmp_total disk_antisymmetric (λ d. d.0) (λ n. record { 0 = n }) (λ d. refl) (λ n. refl) disk_order
+      (λ s. used_disks s.chunks) (λ d. (disk_place c d).0) row (λ i d lt has. disk_home i d has) collected xs all moves sorted
+      ∙ ap (λ (m : FinMap disk_cmp (Unit {0})). map (λ d. d.0) (keys m)) used_together
+
   -- the ids of all shards, sorted, are those of the store
-  pub row_ids : (l : Layer) → is_kept l ≡ true → (collected xs : List ℕ) → collected ≡ flat_map (ids_of l) row
+  pub row_ids : (l : Layer) → (collected xs : List ℕ) → collected ≡ flat_map (ids_of l) row
       → IsPermutation collected xs → IsSorted nat_cmp xs → xs ≡ ids_of l (together row)
-  row_ids layers.Names kept collected xs all moves sorted = all_dirs collected xs all moves sorted
-  row_ids layers.Files kept collected xs all moves sorted = all_files collected xs all moves sorted
-  row_ids layers.Blocks kept collected xs all moves sorted = absurd (grind (arith, kept))
-  row_ids layers.Disks kept collected xs all moves sorted = absurd (grind (arith, kept))
+  row_ids layers.Names collected xs all moves sorted = all_dirs collected xs all moves sorted
+  row_ids layers.Files collected xs all moves sorted = all_files collected xs all moves sorted
+  row_ids layers.Blocks collected xs all moves sorted = all_blocks collected xs all moves sorted
+  row_ids layers.Disks collected xs all moves sorted = all_disks collected xs all moves sorted
 
   -- the shard of its place shows it as the store would
   pub row_lines : (l : Layer) (id : ℕ) → lines_of l (get_or row (place_number c l id) no_store) id ≡ lines_of l (together row) id
@@ -214,5 +277,8 @@ module _ (c : Counts) (row : List Store) (is : AreShards c row) where
       let f : FileId = record { 0 = id } in
       ap (λ (x : Option File). maybe_line (option_map (λ row. file_line (f, row)) x))
       (is.whole.files (file_place c f) f ∙ chosen _ _ (place_own (file_place c f)))
-  row_lines layers.Blocks id = refl
-  row_lines layers.Disks id = refl
+  row_lines layers.Blocks id =
+      let b : BlkId = record { 0 = id } in
+      ap (λ (x : Option Block). maybe_line (option_map (λ row. block_line (b, row)) x))
+      (is.whole.blocks (blk_place c b) b ∙ chosen _ _ (place_own (blk_place c b)))
+  row_lines layers.Disks id = ap (λ (m : Chunks). map chunk_line (entries m)) (at_home (record { 0 = id }))

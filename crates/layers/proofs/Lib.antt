@@ -1,4 +1,5 @@
 pub mod Alone
 pub mod Sorted
+pub mod ByDisk
 pub mod Dumped
 pub mod Elsewhere

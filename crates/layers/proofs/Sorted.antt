@@ -117,7 +117,7 @@ module _ {K X : Type 0} {R : K → K → Ordering} (o : IsTotalOrder R) (same : 
 
 -- ---- keys of several maps
 
-or_none : (b c : Bool) → (b || c) ≡ false → (b ≡ false) × (c ≡ false)
+pub or_none : (b c : Bool) → (b || c) ≡ false → (b ≡ false) × (c ≡ false)
 or_none true c e = absurd (grind (arith, e))
 or_none false c e = (refl, e)
 
@@ -142,7 +142,7 @@ distinct_append e itself (x ∷ xs) ys (first, rest) k apart = (
   distinct_append e itself xs ys rest k (λ q h. apart q (ap (λ (b : Bool). e q x || b) h ∙ or_true (e q x))),
 )
 
-none_some : {X : Type 0} (o : Option X) → (is_some o ≡ true → ⊥) → o ≡ None
+pub none_some : {X : Type 0} (o : Option X) → (is_some o ≡ true → ⊥) → o ≡ None
 none_some None h = refl
 none_some (Some x) h = absurd (h refl)
 

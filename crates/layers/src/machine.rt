@@ -1,39 +1,42 @@
-ghost use Rattle.std.specs.Prelude.{◌≡◌, true, IfOk, OnOk, OnErr};
-ghost use Rattle.tect_ids.specs.Places.{is_kept};
+ghost use Rattle.std.specs.Prelude.{◌≡◌, IfOk, OnOk, OnErr};
 ghost use Rattle.store_rules.specs.Alone.{opening_of, request_layer};
 ghost use Rattle.store_rules.specs.Dumps.{store_dump};
 ghost use Rattle.store_rules.specs.Store.{store_reply, store_step};
 ghost use Rattle.layers.specs.Machines.{alone, layer_of, lent_as};
 
 use crate::lent::LentMachine;
+use block_shard::BlockShard;
+use disk_store::Disk;
 use file_shard::FileShard;
 use name_shard::NameShard;
 use std::alloc::Global;
 use store_rules::{AnyReply, AnyReq};
 use tect_ids::{DumpLine, Layer, NoMemory};
 
-/// The layers of which there are shards so far, in the order in which a dump shows them.
-pub const KEPT_LAYERS: [Layer; 2] = [Layer::Names, Layer::Files];
+/// All layers, in the order in which a dump shows them.
+pub const LAYERS: [Layer; 4] = [Layer::Names, Layer::Files, Layer::Blocks, Layer::Disks];
 
-/// A shard of any layer.
+/// A shard of any layer; one of the Disk layer is a disk.
 #[derive(Drop)]
 pub enum AnyMachine {
     Name(NameShard),
     File(FileShard),
+    Block(BlockShard),
+    Disk(Disk),
 }
 
 impl AnyMachine {
-    /// A shard of a layer before anything was done. Only a name shard can have the root directory; else there is nothing in it.
-    /// The layer is one of those that have shards. A file shard takes no memory.
+    /// A shard of a layer before anything was done. Only a name shard can have the root directory; else there is nothing in it,
+    /// and it takes no memory.
     pub fn opening(alloc: Global, layer: Layer, rooted: bool) -> Result<AnyMachine, NoMemory>
-        requires { is_kept layer ≡ true }
         ensures state { IfOk result (λ machine. alone machine ≡ opening_of layer rooted) }
         ensures layer { IfOk result (λ machine. layer_of machine ≡ layer) }
     {
         match layer {
             Layer::Names => Ok(AnyMachine::Name(NameShard::new(alloc, rooted)?)),
             Layer::Files => Ok(AnyMachine::File(FileShard::new(alloc))),
-            Layer::Blocks | Layer::Disks => unreachable!(),
+            Layer::Blocks => Ok(AnyMachine::Block(BlockShard::new(alloc))),
+            Layer::Disks => Ok(AnyMachine::Disk(Disk::new(alloc))),
         }
     }
 
@@ -45,6 +48,10 @@ impl AnyMachine {
         match (self, req) {
             (AnyMachine::Name(shard), AnyReq::Name(req)) => Ok(AnyReply::Name(shard.reply(req)?)),
             (AnyMachine::File(shard), AnyReq::File(req)) => Ok(AnyReply::File(shard.reply(req)?)),
+            (AnyMachine::Block(shard), AnyReq::Block(req)) => {
+                Ok(AnyReply::Block(shard.reply(req)?))
+            }
+            (AnyMachine::Disk(disk), AnyReq::Disk(req)) => Ok(AnyReply::Disk(disk.reply(req)?)),
             _ => unreachable!(),
         }
     }
@@ -62,6 +69,10 @@ impl AnyMachine {
         match (self, req) {
             (AnyMachine::Name(shard), AnyReq::Name(req)) => Ok(AnyReply::Name(shard.step(req)?)),
             (AnyMachine::File(shard), AnyReq::File(req)) => Ok(AnyReply::File(shard.step(req)?)),
+            (AnyMachine::Block(shard), AnyReq::Block(req)) => {
+                Ok(AnyReply::Block(shard.step(req)?))
+            }
+            (AnyMachine::Disk(disk), AnyReq::Disk(req)) => Ok(AnyReply::Disk(disk.step(req)?)),
             _ => unreachable!(),
         }
     }
@@ -73,6 +84,8 @@ impl AnyMachine {
         match self {
             AnyMachine::Name(shard) => shard.dump(),
             AnyMachine::File(shard) => shard.dump(),
+            AnyMachine::Block(shard) => shard.dump(),
+            AnyMachine::Disk(disk) => disk.dump(),
         }
     }
 
@@ -83,6 +96,8 @@ impl AnyMachine {
         match self {
             AnyMachine::Name(shard) => LentMachine::Name(shard),
             AnyMachine::File(shard) => LentMachine::File(shard),
+            AnyMachine::Block(shard) => LentMachine::Block(shard),
+            AnyMachine::Disk(disk) => LentMachine::Disk(disk),
         }
     }
 }

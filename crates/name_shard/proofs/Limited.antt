@@ -5,9 +5,9 @@ use Rattle.tect_ids.specs.declared.ids.DirId.{DirId}
 use Rattle.tect_ids.specs.declared.key.Key.{Key}
 use Rattle.tect_ids.specs.Keys.{key_cmp}
 use Rattle.tect_ids.proofs.KeyTests.{dir_eq_cases}
-use Rattle.ordered_rows.specs.Maps.{set_at}
-use Rattle.key_maps.specs.Maps.{within as entries_of}
-use Rattle.key_maps.proofs.Counts.{len-within_put, len-within_taken, len-within_positive}
+use Rattle.map_words.specs.Maps.{set_at}
+use Rattle.key_words.specs.Maps.{within as entries_of}
+use Rattle.key_words.proofs.Counts.{len-within_put, len-within_taken, len-within_positive}
 use Rattle.store_rules.specs.declared.names.DirectoryEntry.{DirectoryEntry}
 use Rattle.store_rules.specs.Names.{entry_limit, key_in}
 use Rattle.name_shard.specs.Limits.{HasRoom, IsWithinLimit}

@@ -4,8 +4,8 @@ use Rattle.std.specs.FinMap.{FinMap, same_map}
 use Rattle.tect_ids.specs.declared.key.Key.{Key}
 use Rattle.tect_ids.specs.Keys.{key_cmp, key_eq}
 use Rattle.tect_ids.proofs.KeyTests.{key_cmp_total, key_antisymmetric}
-use Rattle.ordered_rows.specs.Maps.{set_at}
-use Rattle.key_maps.proofs.Lookups.{maps}
+use Rattle.map_words.specs.Maps.{set_at}
+use Rattle.key_words.proofs.Lookups.{maps}
 
 module _ {X : Type 0} (m : FinMap key_cmp X) (j k : Key) (x : X) where
   pub renamed : key_eq j k ≡ false → set_at (set_at m k (Some x)) j None ≡ set_at (set_at m j None) k (Some x)

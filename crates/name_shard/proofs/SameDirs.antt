@@ -4,8 +4,8 @@ use Rattle.std.specs.FinMap.{FinMap, get}
 use Rattle.tect_ids.specs.declared.ids.DirId.{DirId}
 use Rattle.tect_ids.specs.Keys.{dir_cmp}
 use Rattle.tect_ids.proofs.KeyTests.{dir_cmp_total, dir_antisymmetric}
-use Rattle.ordered_rows.specs.Maps.{set_at}
-use Rattle.ordered_rows.proofs.Maps.{set_at_same}
+use Rattle.map_words.specs.Maps.{set_at}
+use Rattle.map_words.proofs.Maps.{set_at_same}
 use Rattle.store_rules.specs.declared.names.Directory.{Directory}
 
 -- a directory that is not there, or whose row stays as it was

@@ -4,7 +4,7 @@ use Rattle.std.specs.FinMap.{FinMap, get, len}
 use Rattle.tect_ids.specs.declared.ids.DirId.{DirId}
 use Rattle.tect_ids.specs.declared.key.Key.{Key}
 use Rattle.tect_ids.specs.Keys.{key_cmp}
-use Rattle.key_maps.specs.Maps.{within}
+use Rattle.key_words.specs.Maps.{within}
 use Rattle.store_rules.specs.declared.names.DirectoryEntry.{DirectoryEntry}
 use Rattle.store_rules.specs.Names.{entry_limit}
 

@@ -1,7 +1,7 @@
 ghost use Rattle.std.specs.Prelude.{◌≡◌, true, Some, None, IfOk, OnOk, OnErr, is_some};
 ghost use Rattle.std.specs.Option.{option_copied};
 ghost use Rattle.std.specs.FinMap.{get};
-ghost use Rattle.ordered_rows.specs.Maps.{set_at};
+ghost use Rattle.map_words.specs.Maps.{set_at};
 ghost use Rattle.tect_ids.specs.Keys.{node_eq};
 ghost use Rattle.store_rules.specs.declared.names.NameReply.TheVariants.{Unbound};
 ghost use Rattle.store_rules.specs.Names.{bind_answer, bind_over, bind_change, swap_answer, swap_over, swap_change};

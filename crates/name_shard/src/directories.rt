@@ -1,12 +1,13 @@
 ghost use Rattle.std.specs.Prelude.{◌≡◌, Some, None, OnOk, OnErr, is_some};
 ghost use Rattle.std.specs.FinMap.{get};
-ghost use Rattle.ordered_rows.specs.Maps.{set_at};
+ghost use Rattle.map_words.specs.Maps.{set_at};
 ghost use Rattle.store_rules.specs.Names.{make_dir_answer, make_dir_change, grant_dir_answer, grant_dir_change};
 ghost use Rattle.store_rules.specs.Names.{release_dir_answer, release_dir_change, dir_with_hold, dir_lists};
 
 use crate::refused::refused;
 use crate::shard::NameShard;
-use key_maps::{DirMap, HoldList};
+use key_maps::DirMap;
+use small_maps::HoldList;
 use store_rules::{Directory, NameReply, Outcome};
 use tect_ids::{DirId, Hold, Key, NoMemory, Refusal, Upper};
 

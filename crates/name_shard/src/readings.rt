@@ -1,6 +1,6 @@
 ghost use Rattle.std.specs.Prelude.{◌≡◌, map, IfOk};
 ghost use Rattle.std.specs.FinMap.{entries};
-ghost use Rattle.key_maps.specs.Maps.{within};
+ghost use Rattle.key_words.specs.Maps.{within};
 ghost use Rattle.store_rules.specs.Names.{check_dir_answer, look_answer, list_answer, listed};
 
 use crate::refused::refused;

@@ -2,7 +2,8 @@ ghost use Rattle.std.specs.Prelude.{◌≡◌, true, IsTrue, IsOk, IfOk, OnOk, O
 ghost use Rattle.store_rules.specs.Names.{root_names, no_names, name_rule, name_answer, name_change, name_step};
 ghost use Rattle.store_rules.specs.Outcomes.{changes, reply};
 
-use key_maps::{DirMap, EntryTable, HoldList};
+use key_maps::{DirMap, EntryTable};
+use small_maps::HoldList;
 use std::alloc::Global;
 use std::marker::Model;
 use store_rules::{Directory, DirectoryEntry, NameReply, NameReq, Outcome};

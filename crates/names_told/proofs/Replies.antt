@@ -75,6 +75,9 @@ entries_shown (Ok (shown.Entries sealed items)) = Some items
 entries_shown (Ok shown.Done) = None
 entries_shown (Ok (shown.Parent p sealed)) = None
 entries_shown (Ok (shown.Node n)) = None
+entries_shown (Ok (shown.Attached i)) = None
+entries_shown (Ok (shown.Blocks sealed rows)) = None
+entries_shown (Ok (shown.Bytes bytes)) = None
 entries_shown (Refused why) = None
 
 lists_so : (k : Key) (r : TreeReply) (items : List Listed) → entries_shown r ≡ Some items → Lists k r (answers.Entries items)
@@ -82,6 +85,9 @@ lists_so k (Ok (shown.Entries sealed there)) items e = cc
 lists_so k (Ok shown.Done) items e = absurd (let z : None ≡ Some items = e in cc)
 lists_so k (Ok (shown.Parent p sealed)) items e = absurd (let z : None ≡ Some items = e in cc)
 lists_so k (Ok (shown.Node n)) items e = absurd (let z : None ≡ Some items = e in cc)
+lists_so k (Ok (shown.Attached i)) items e = absurd (let z : None ≡ Some items = e in cc)
+lists_so k (Ok (shown.Blocks sealed rows)) items e = absurd (let z : None ≡ Some items = e in cc)
+lists_so k (Ok (shown.Bytes bytes)) items e = absurd (let z : None ≡ Some items = e in cc)
 lists_so k (Refused why) items e = absurd (let z : None ≡ Some items = e in cc)
 
 -- ---- the store's replies

@@ -10,10 +10,11 @@ ghost use Rattle.program_rules.specs.Delete.{delete_asks, unbound, delete_hears}
 use crate::places::place_of_dir;
 use crate::refusals::refused;
 use crate::release;
+use memories::Memory;
 use program_parts::Next;
 use program_rules::Delete;
 use store_rules::AnyReply;
-use tect_calls::{Asked, Freed, Memory, name_unbind};
+use tect_calls::{Asked, Freed, name_unbind};
 use tect_ids::{Answer, Key, NoMemory, Place, Want};
 
 /// Its request.

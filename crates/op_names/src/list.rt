@@ -7,10 +7,11 @@ ghost use Rattle.op_names.specs.Shards.{dir_shard};
 
 use crate::places::place_of_dir;
 use crate::refusals::dir_refused;
+use memories::Memory;
 use program_parts::Next;
 use program_rules::List;
 use store_rules::{AnyReply, NameReply};
-use tect_calls::{Asked, Memory, name_list};
+use tect_calls::{Asked, name_list};
 use tect_ids::Answer;
 
 /// Its request.

@@ -5,10 +5,11 @@ ghost use Rattle.program_rules.specs.Look.{look_starts, look_asks, checked, look
 
 use crate::places::place_of_dir;
 use crate::refusals::{dir_refused, refused};
+use memories::Memory;
 use program_parts::Next;
 use program_rules::Look;
 use store_rules::{AnyReply, NameReply};
-use tect_calls::{Asked, Memory, name_check_dir, name_look};
+use tect_calls::{Asked, name_check_dir, name_look};
 use tect_ids::{Answer, DirId, Key, Name, NoMemory, Node, Place};
 
 /// A look in that directory, or at it.

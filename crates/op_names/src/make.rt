@@ -1,7 +1,7 @@
 ghost use Rattle.std.specs.Prelude.{◌≡◌, IfOk};
 ghost use Rattle.store_rules.specs.Places.{request_place};
 ghost use Rattle.store_rules.specs.Views.{as_bound};
-ghost use Rattle.tect_calls.specs.Knowing.{number_for};
+ghost use Rattle.memories.specs.Knowing.{number_for};
 ghost use Rattle.tect_calls.specs.Readings.{bound_freed};
 ghost use Rattle.program_parts.specs.Parts.{within};
 ghost use Rattle.program_parts.specs.Releases.{then_release};
@@ -12,11 +12,12 @@ use crate::operations::hold_of;
 use crate::places::{place_of_dir, place_of_node};
 use crate::refusals::refused;
 use crate::release;
+use memories::Memory;
 use program_parts::{Next, Releasing};
 use program_rules::{Make, NewNode};
 use store_rules::AnyReply;
 use tect_calls::{
-    Asked, Freed, Granted, MadeDir, Memory, file_make_file, made_hold, name_bind, name_make_dir,
+    Asked, Freed, Granted, MadeDir, file_make_file, made_hold, name_bind, name_make_dir,
 };
 use tect_ids::{Answer, DirId, FileId, Hold, Key, Name, NoMemory, Node, OpId, Over, Place};
 

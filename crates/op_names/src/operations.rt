@@ -3,10 +3,11 @@ ghost use Rattle.tect_ids.specs.Numbers.{own_hold};
 ghost use Rattle.program_rules.specs.Operations.{begins_in, operation_asks, operation_hears};
 
 use crate::{delete, list, look, make, rename};
+use memories::Memory;
 use program_parts::Next;
 use program_rules::{Delete, List, Make, Operation, OperationState, Rename};
 use store_rules::AnyReply;
-use tect_calls::{Asked, MadeDir, Memory};
+use tect_calls::{Asked, MadeDir};
 use tect_ids::{Answer, Hold, Key, NoMemory, OpId};
 
 /// The one hold of a command.

@@ -1,7 +1,7 @@
 ghost use Rattle.std.specs.Prelude.{◌≡◌};
 ghost use Rattle.op_names.specs.Shards.{dir_shard, node_shard};
 
-use tect_calls::Memory;
+use memories::Memory;
 use tect_ids::{DirId, Layer, Node, Place, place_of};
 
 /// The shard of a directory.

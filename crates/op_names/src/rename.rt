@@ -16,12 +16,12 @@ use crate::operations::hold_of;
 use crate::places::{place_of_dir, place_of_node};
 use crate::refusals::refused;
 use crate::release;
+use memories::Memory;
 use program_parts::{Next, Releasing};
 use program_rules::{NamePair, Rename};
 use store_rules::AnyReply;
 use tect_calls::{
-    Asked, Freed, Granted, MadeDir, Memory, file_grant, granted_hold, name_grant, name_look,
-    name_swap,
+    Asked, Freed, Granted, MadeDir, file_grant, granted_hold, name_grant, name_look, name_swap,
 };
 use tect_ids::{Answer, DirId, Hold, Key, Name, NoMemory, Node, OpId, Place};
 

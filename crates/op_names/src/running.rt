@@ -4,13 +4,14 @@ ghost use Rattle.op_names.specs.Going.{answer_of, went_on};
 
 use crate::start::start;
 use crate::walk::{self, Going};
+use memories::Memory;
 use program_calls::Programs;
 use program_parts::Next;
 use std::alloc::Global;
 use std::marker::Model;
 use std::mem;
 use store_rules::AnyReply;
-use tect_calls::{Asked, Memory};
+use tect_calls::Asked;
 use tect_ids::{Answer, Command, NoMemory, OpId};
 
 /// A running command: it goes on, with the tokens that its next request needs, or has its answer, which is no want of memory or of room.

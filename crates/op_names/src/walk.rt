@@ -11,10 +11,11 @@ ghost use Rattle.op_names.specs.Ways.{walk_end, walk_from};
 use crate::operations;
 use crate::places::place_of_dir;
 use crate::refusals::refused;
+use memories::Memory;
 use program_parts::{Next, Walking};
 use program_rules::{Operation, OperationState};
 use store_rules::AnyReply;
-use tect_calls::{Asked, MadeDir, Memory, found_dir, name_look};
+use tect_calls::{Asked, MadeDir, found_dir, name_look};
 use tect_ids::{Answer, Key, Name, NoMemory, OpId, PathPart, Place};
 
 /// A command that walks, or is in a state of its operation.

@@ -1,6 +1,8 @@
 -- what is found in a page, and what a change of the page makes of all pairs
-use Rattle.std.proofs.Common.{◌≡◌, ℕ, zero, suc, ◌+◌, ◌-◌, ◌<◌, ◌≤◌, List, [], ◌∷◌, ◌++◌, length, get_or, set, take, drop, map, Vec, Some, None}
-use Rattle.std.proofs.Common.{◌⊎◌, inl, Option, is_some, Result, Ok, Err, IfOk, T, vec_capacity, if◌then◌else◌, true, refl, sym, ap, ◌∙◌, arith}
+use Rattle.std.proofs.Common.{◌≡◌, ℕ, zero, suc, ◌+◌, ◌-◌, ◌<◌, ◌≤◌, List, [], ◌∷◌, ◌++◌, length, get_or}
+use Rattle.std.proofs.Common.{set, take, drop, map, Vec, Some, None}
+use Rattle.std.proofs.Common.{◌⊎◌, inl, Option, is_some, Result, Ok, Err, IfOk, T, vec_capacity, if◌then◌else◌}
+use Rattle.std.proofs.Common.{true, refl, sym, ap, ◌∙◌, arith}
 use Rattle.std.specs.Prelude.{All}
 use Rattle.std.specs.List.{insert, remove}
 use Rattle.std.specs.declared.cmp.Ordering.{Ordering}
@@ -11,10 +13,11 @@ use Rattle.std.specs.FinMap.{find, put}
 use Rattle.std.specs.FinMap.Entries.{below_all, is_sorted-put}
 use Rattle.std.proofs.lemmas.List.{append-nil, map-append, length-append, length-set, set-get_or, take_all, length-drop, drop-map}
 use Rattle.std.proofs.lemmas.List.Elements.{All-nil, All-cons, All-head, All-tail}
-use Rattle.ordered_rows.specs.Pairs.{pairs, set_value, IsRising, without}
+use Rattle.ordered_rows.specs.Pairs.{pairs, set_value}
+use Rattle.map_words.specs.Pairs.{IsRising, without}
 use Rattle.ordered_rows.specs.Pages.{page_at, shown, IsPageOf, ArePages, AreRows}
-use Rattle.ordered_rows.specs.Places.{IsAt, IsGap}
-use Rattle.ordered_rows.proofs.Finds.{find_below, at_tail, find_at, put_at, put_gap, find_gap, without_at, without_gap}
+use Rattle.map_words.specs.Places.{IsAt, IsGap}
+use Rattle.map_words.proofs.Finds.{find_below, at_tail, find_at, put_at, put_gap, find_gap, without_at, without_gap}
 use Rattle.ordered_rows.proofs.PageEdits.{get_or_any, shown_at, shown_set, count_shown, pages_set, size_at}
 use Rattle.ordered_rows.proofs.Searched.{tail_of, find_page, put_page, without_page, rising_page}
 use Rattle.ordered_rows.proofs.Starts.{all_front, all_back}
@@ -27,7 +30,8 @@ length_set (q ∷ pages) zero page lt = omega (arith, length-append q (pairs pag
 length_set (q ∷ pages) (suc i) page lt =
     omega (arith, length-append q (pairs pages), length-append q (pairs (set pages i page)), length_set pages i page (omega (arith, lt)))
 
-module _ {K V : Type 0} (R : K → K → Ordering) (o : IsTotalOrder R) (k : K) (pages : List (List (K × V))) (i : ℕ) (of : IsPageOf R k pages i) where
+module _ {K V : Type 0} (R : K → K → Ordering) (o : IsTotalOrder R) (k : K) (pages : List (List (K × V))) (i : ℕ)
+    (of : IsPageOf R k pages i) where
   pub put_gap_there : (j : ℕ) (v : V) → IsGap R k (page_at pages i) j
       → pairs (set pages i (insert (page_at pages i) j (k, v))) ≡ put R k v (pairs pages)
   put_gap_there j v gap = ap (λ p. pairs (set pages i p)) (sym (put_gap R k (page_at pages i) j v gap)) ∙ put_page R k pages i of v
@@ -105,7 +109,8 @@ module _ {K V : Type 0} (R : K → K → Ordering) (o : IsTotalOrder R) (k : K) 
   tied_above x (e ∷ es) tied below =
       All-cons (λ (e : K × V). R k e.0 ≡ Less) e es (grind (arith, o.congr k x e.0)) (tied_above x es tied (grind arith))
 
-  valued_at : (page : List (K × V)) (j : ℕ) (d : K × V) → IsRising R page → IsAt R k page j → valued page ≡ set page j ((get_or page j d).0, v)
+  valued_at : (page : List (K × V)) (j : ℕ) (d : K × V) → IsRising R page → IsAt R k page j
+      → valued page ≡ set page j ((get_or page j d).0, v)
   valued_at [] j d rising at = absurd (omega (arith, at.in_range))
   valued_at (e ∷ page) zero d rising at =
       let rest = same_above page (tied_above e.0 page (at.here d) (tail_of R e page rising).0) in grind (arith, at.here d, rest)
@@ -188,7 +193,8 @@ module _ {K V A : Type 0} (R : K → K → Ordering) (o : IsTotalOrder R) (k : K
     v_set =
         shown_set pages i w (valued R o k x v.items) (written ∙ ap (λ (y : K × V). set v.items j (y.0, x)) same
         ∙ sym (valued_at R o k x v.items j e page_rises there))
-        ∙ ap (λ p. set (shown pages) i (valued R o k x p)) (sym here) ∙ sym (valued_page R o k x (shown pages) i of) ∙ sym (set_value_found R o k x (shown pages) e.1 (v_found j e there same))
+        ∙ ap (λ p. set (shown pages) i (valued R o k x p)) (sym here) ∙ sym (valued_page R o k x (shown pages) i of)
+        ∙ sym (set_value_found R o k x (shown pages) e.1 (v_found j e there same))
 
     pub v_rows : (count : ℕ) → AreRows R pages count → vec_capacity w ≡ vec_capacity v → AreRows R (set pages i w) count
     v_rows count rows keeps =

@@ -1,5 +1,6 @@
 -- pages as code keeps them, when a page is changed, split or joined
-use Rattle.std.proofs.Common.{◌≡◌, ◌≢◌, ℕ, zero, suc, ◌+◌, ◌<◌, ◌≤◌, List, [], ◌∷◌, ◌++◌, length, get_or, set, take, drop, Vec, vec_capacity}
+use Rattle.std.proofs.Common.{◌≡◌, ◌≢◌, ℕ, zero, suc, ◌+◌, ◌<◌, ◌≤◌, List, [], ◌∷◌, ◌++◌}
+use Rattle.std.proofs.Common.{length, get_or, set, take, drop, Vec, vec_capacity}
 use Rattle.std.proofs.Common.{Result, Ok, Err, OnOk, subst, inl, inr, ◌⊎◌, refl, sym, ap, ◌∙◌, arith}
 use Rattle.std.specs.Prelude.{All}
 use Rattle.std.proofs.lemmas.Bool.{cases_lt}
@@ -81,7 +82,8 @@ module _ {X : Type 0} where
       λ page least most. record { some = omega (arith, least); most = most; least = λ two. least } in
       let count : length (insert (set pages i a) (suc i) b) ≡ n + 1 =
       length-insert (set pages i a) (suc i) b (omega (arith, length-set pages i a)) ∙ ap (λ x. x + 1) (length-set pages i a) in
-      paged_of (n + 1) (insert (set pages i a) (suc i) b) count (All-insert (IsSized (n + 1)) (set pages i a) (suc i) b (size b b_least b_most)
+      paged_of (n + 1) (insert (set pages i a) (suc i) b) count
+      (All-insert (IsSized (n + 1)) (set pages i a) (suc i) b (size b b_least b_most)
       (sized_set (n + 1) pages i a lt (size a a_least a_most) others))
 
   -- two neighbours are joined

@@ -9,7 +9,8 @@ use Rattle.std.specs.FinMap.{find, put}
 use Rattle.std.specs.FinMap.Entries.{below_all}
 use Rattle.std.proofs.lemmas.List.{append_assoc}
 use Rattle.std.proofs.lemmas.List.Elements.{All-nil, All-cons, All-head, All-tail}
-use Rattle.ordered_rows.specs.Pairs.{pairs, IsRising, without}
+use Rattle.ordered_rows.specs.Pairs.{pairs}
+use Rattle.map_words.specs.Pairs.{IsRising, without}
 use Rattle.ordered_rows.specs.Pages.{IsPageOf}
 
 module _ {K V : Type 0} (R : K → K → Ordering) (k : K) where
@@ -23,22 +24,38 @@ module _ {K V : Type 0} (R : K → K → Ordering) (k : K) where
   find_past : (front rest : List (K × V)) → Below front → find R k (front ++ rest) ≡ find R k rest
   find_past [] rest below = refl
   find_past (e ∷ front) rest below =
-      grind (arith, All-head (λ (e : K × V). R k e.0 ≡ Greater) e front below, find_past front rest (All-tail (λ (x : K × V). R k x.0 ≡ Greater) e front below))
+      grind (
+        arith,
+        All-head (λ (e : K × V). R k e.0 ≡ Greater) e front below,
+        find_past front rest (All-tail (λ (x : K × V). R k x.0 ≡ Greater) e front below),
+      )
 
   put_past : (front rest : List (K × V)) (v : V) → Below front → put R k v (front ++ rest) ≡ front ++ put R k v rest
   put_past [] rest v below = refl
   put_past (e ∷ front) rest v below =
-      grind (arith, All-head (λ (e : K × V). R k e.0 ≡ Greater) e front below, put_past front rest v (All-tail (λ (x : K × V). R k x.0 ≡ Greater) e front below))
+      grind (
+        arith,
+        All-head (λ (e : K × V). R k e.0 ≡ Greater) e front below,
+        put_past front rest v (All-tail (λ (x : K × V). R k x.0 ≡ Greater) e front below),
+      )
 
   without_past : (front rest : List (K × V)) → Below front → without R k (front ++ rest) ≡ front ++ without R k rest
   without_past [] rest below = refl
   without_past (e ∷ front) rest below =
-      grind (arith, All-head (λ (e : K × V). R k e.0 ≡ Greater) e front below, without_past front rest (All-tail (λ (x : K × V). R k x.0 ≡ Greater) e front below))
+      grind (
+        arith,
+        All-head (λ (e : K × V). R k e.0 ≡ Greater) e front below,
+        without_past front rest (All-tail (λ (x : K × V). R k x.0 ≡ Greater) e front below),
+      )
 
   find_none : (back : List (K × V)) → Above back → find R k back ≡ None
   find_none [] above = refl
   find_none (e ∷ back) above =
-      grind (arith, All-head (λ (e : K × V). R k e.0 ≡ Less) e back above, find_none back (All-tail (λ (x : K × V). R k x.0 ≡ Less) e back above))
+      grind (
+        arith,
+        All-head (λ (e : K × V). R k e.0 ≡ Less) e back above,
+        find_none back (All-tail (λ (x : K × V). R k x.0 ≡ Less) e back above),
+      )
 
   find_before : (es back : List (K × V)) → Above back → find R k (es ++ back) ≡ find R k es
   find_before [] back above = find_none back above
@@ -55,7 +72,11 @@ module _ {K V : Type 0} (R : K → K → Ordering) (k : K) where
   without_none : (back : List (K × V)) → Above back → without R k back ≡ back
   without_none [] above = refl
   without_none (e ∷ back) above =
-      grind (arith, All-head (λ (e : K × V). R k e.0 ≡ Less) e back above, without_none back (All-tail (λ (x : K × V). R k x.0 ≡ Less) e back above))
+      grind (
+        arith,
+        All-head (λ (e : K × V). R k e.0 ≡ Less) e back above,
+        without_none back (All-tail (λ (x : K × V). R k x.0 ≡ Less) e back above),
+      )
 
   without_before : (es back : List (K × V)) → Above back → without R k (es ++ back) ≡ without R k es ++ back
   without_before [] back above = without_none back above

@@ -11,10 +11,11 @@ use Rattle.std.specs.Cmp.{IsTotalOrder, alike_right}
 use Rattle.std.specs.FinMap.Entries.{below_all}
 use Rattle.std.proofs.lemmas.Bool.{cases_eq}
 use Rattle.std.proofs.lemmas.List.Elements.{All-nil, All-cons, All-head, All-tail, All-append, All-weaker}
-use Rattle.ordered_rows.specs.Pairs.{pairs, IsRising, IsDownwardClosed, pairs_past}
+use Rattle.ordered_rows.specs.Pairs.{pairs}
+use Rattle.map_words.specs.Pairs.{IsRising, IsDownwardClosed, pairs_past}
 use Rattle.ordered_rows.specs.Pages.{page_at, starts, IsPaged, IsPageOf}
 use Rattle.ordered_rows.proofs.PageEdits.{get_or_any}
-use Rattle.ordered_rows.proofs.Ranges.{up_to_closed}
+use Rattle.map_words.proofs.Ranges.{up_to_closed}
 use Rattle.ordered_rows.proofs.Searched.{joined_parts, tail_of, rising_back, rising_front}
 
 module _ {X : Type 0} (P : X → Type 0) where
@@ -80,7 +81,8 @@ module _ {K V : Type 0} (R : K → K → Ordering) where
         (pages_fail pages (rising_back R page (pairs pages) rising) (All-tail (λ (q : List (K × V)). starts p q ≡ false) page pages fail))
 
   -- where the pages that start with a passing key come first, as they do along rising pages
-  module _ (p : K → Bool) (closed : IsDownwardClosed R p) (pages : List (List (K × V))) (paged : IsPaged pages) (rising : IsRising R (pairs pages)) where
+  module _ (p : K → Bool) (closed : IsDownwardClosed R p) (pages : List (List (K × V))) (paged : IsPaged pages)
+      (rising : IsRising R (pairs pages)) where
     abbrev Passes : List (K × V) → Type 0
     Passes page = starts p page ≡ true
 
@@ -113,7 +115,8 @@ module _ {K V : Type 0} (R : K → K → Ordering) where
             ap (starts p) (get_or_any pages i d [] lt ∙ earlier.2) ∙ starts_at earlier.0 earlier.1
             ∙ closed earlier.0.0 later.0.0 first passes_later
 
-    module _ (n : ℕ) (le : n ≤ length pages) (point : IsPartitionPoint (λ page. starts p page ≡ true) (λ page. starts p page ≡ false) pages n) where
+    module _ (n : ℕ) (le : n ≤ length pages)
+        (point : IsPartitionPoint (λ page. starts p page ≡ true) (λ page. starts p page ≡ false) pages n) where
       pub behind_fails : All (λ e. p e.0 ≡ false) (pairs (drop n pages))
       behind_fails =
           pages_fail p closed (drop n pages) (drop_rises n pages rising) (fails_from n pages le point.1)
@@ -135,8 +138,11 @@ module _ {K V : Type 0} (R : K → K → Ordering) where
       last_start i is =
           let lt : i < length pages = omega (arith, is, le) in
           let first = start_of i lt in
-          let passes = point.0 i [] (omega arith) (omega (arith, is)) in
-          (first.0, sym (starts_at first.0 first.1) ∙ ap (starts p) (sym first.2) ∙ passes, pages_before pages i first.0 first.1 lt rising first.2)
+          let passes = point.0 i [] (omega arith) (omega (arith, is)) in (
+            first.0,
+            sym (starts_at first.0 first.1) ∙ ap (starts p) (sym first.2) ∙ passes,
+            pages_before pages i first.0 first.1 lt rising first.2,
+          )
 
 module _ {K : Type 0} (R : K → K → Ordering) (o : IsTotalOrder R) (k : K) where
   pub above_of : (x : K) → is_le (R x k) ≡ false → R k x ≡ Less
@@ -167,7 +173,8 @@ module _ {K : Type 0} (R : K → K → Ordering) (o : IsTotalOrder R) (k : K) wh
             in_range = lt;
             front = All-nil (λ (x : K × V). R k x.0 ≡ Greater);
             back =
-                greater (pairs (drop 1 pages)) (all_back (λ (x : K × V). is_le (R x.0 k) ≡ false) (page_at pages 0) (pairs (drop 1 pages)) all);
+                greater (pairs (drop 1 pages))
+                (all_back (λ (x : K × V). is_le (R x.0 k) ≡ false) (page_at pages 0) (pairs (drop 1 pages)) all);
           }
       by_point (suc m) e =
           let last : suc i ≡ n = omega (arith, is, e) in
@@ -221,7 +228,9 @@ module _ {K V : Type 0} (R : K → K → Ordering) (p : K → Bool) (closed : Is
       let parts : pairs pages ≡ front ++ (page_at pages i ++ back) =
       subst (λ m. pairs pages ≡ front ++ (page_at pages i ++ pairs (drop m pages))) is (joined_parts pages i (omega (arith, is, le))) in
       let start = last_start R p closed pages paged rising n le point i is in
-      let pass = All-weaker (λ (x : K × V). R x.0 start.0.0 ≡ Less) (λ x. p x.0 ≡ true) (λ x less. closed x.0 start.0.0 less start.1) front start.2 in
-      ap (pairs_past p) parts ∙ past_append p front (page_at pages i ++ back) ∙ ap (λ x. x ++ pairs_past p (page_at pages i ++ back)) (past_none p front pass)
+      let pass = All-weaker (λ (x : K × V). R x.0 start.0.0 ≡ Less) (λ x. p x.0 ≡ true)
+      (λ x less. closed x.0 start.0.0 less start.1) front start.2 in
+      ap (pairs_past p) parts ∙ past_append p front (page_at pages i ++ back)
+      ∙ ap (λ x. x ++ pairs_past p (page_at pages i ++ back)) (past_none p front pass)
       ∙ past_append p (page_at pages i) back
       ∙ ap (λ x. pairs_past p (page_at pages i) ++ x) (past_all p back (behind_fails R p closed pages paged rising n le point))

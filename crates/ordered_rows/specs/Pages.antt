@@ -1,6 +1,8 @@
 -- Rows in pages, each a list of pairs.
-use Rattle.std.specs.Prelude.{◌≡◌, ◌≢◌, ◌+◌, ℕ, suc, ◌<◌, ◌≤◌, List, [], ◌∷◌, map, length, slice_index_or, take, drop, All, Vec, vec_capacity}
-use Rattle.ordered_rows.specs.Pairs.{pairs, IsRising}
+use Rattle.std.specs.Prelude.{◌≡◌, ◌≢◌, ◌+◌, ℕ, suc, ◌<◌, ◌≤◌, List, [], ◌∷◌, map, length}
+use Rattle.std.specs.Prelude.{slice_index_or, take, drop, All, Vec, vec_capacity}
+use Rattle.ordered_rows.specs.Pairs.{pairs}
+use Rattle.map_words.specs.Pairs.{IsRising}
 use Rattle.std.specs.Prelude.{Bool, true}
 use Rattle.std.specs.declared.cmp.Ordering.{Ordering}
 use Rattle.std.specs.declared.cmp.Ordering.TheVariants.{Less, Greater}

@@ -5,10 +5,12 @@ ghost use Rattle.std.specs.Ordering.{is_le};
 ghost use Rattle.std.specs.FinMap.{find, put};
 ghost use Rattle.std.specs.Fn.{FnReturnsAt};
 ghost use Rattle.std.specs.Borrow.{LendsIf, sem};
-ghost use Rattle.ordered_rows.specs.Pairs.{pairs, left, pair_of, set_value, IsRising, without, pairs_after, pairs_past};
-ghost use Rattle.ordered_rows.specs.Pairs.{ComputesTest, IsDownwardClosed};
+ghost use Rattle.ordered_rows.specs.Pairs.{pairs, set_value};
+ghost use Rattle.map_words.specs.Pairs.{left, pair_of, IsRising, without, pairs_after, pairs_past};
+ghost use Rattle.ordered_rows.specs.Pairs.{ComputesTest};
+ghost use Rattle.map_words.specs.Pairs.{IsDownwardClosed};
 ghost use Rattle.ordered_rows.specs.Pages.{page_at, starts, IsPaged, IsPageOf};
-ghost use Rattle.ordered_rows.specs.Places.{IsAt, IsGap};
+ghost use Rattle.map_words.specs.Places.{IsAt, IsGap};
 ghost use Rattle.ordered_rows.specs.contracts.paged.Rows.{the_row};
 
 use crate::pages::{insert_at, start, take_at};

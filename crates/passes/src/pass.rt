@@ -77,7 +77,7 @@ impl Pass {
         self.running
     }
 
-    /// The bytes of the replies that are kept: those of names, and 32 for each item of a list. It takes no memory.
+    /// The bytes of the replies that are kept: those of names and of contents, and 32 for each item of a list. It takes no memory.
     pub fn bytes(&self) -> u128
         ensures { result ≡ self.now.bytes }
     {

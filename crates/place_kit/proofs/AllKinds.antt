@@ -5,11 +5,13 @@ use Rattle.tect_ids.specs.declared.ids.Layer.{Layer}
 use Rattle.tect_ids.specs.declared.ids.Layer.TheVariants as layers
 use Rattle.tect_ids.specs.Places.{HasPlaces, layer_at, place_number}
 use Rattle.tect_ids.proofs.KeyTests.{num_eq_cases}
-use Rattle.tect_ids.proofs.Layers.{kept_layer}
+use Rattle.tect_ids.proofs.Layers.{has_layer}
 use Rattle.store_rules.specs.declared.any.AnyReq.{AnyReq}
 use Rattle.store_rules.specs.declared.any.AnyReq.TheVariants as any
 use Rattle.store_rules.specs.declared.any.AnyReply.{AnyReply}
-use Rattle.store_rules.specs.Alone.{names_alone, files_alone, opening_of, request_layer}
+use Rattle.store_rules.specs.Alone.{names_alone, files_alone, blocks_alone, chunks_alone, opening_of, request_layer}
+use Rattle.store_rules.specs.Blocks.{Blocks, block_answer, block_change}
+use Rattle.store_rules.specs.Disks.{Chunks, disk_answer, disk_change}
 use Rattle.store_rules.specs.Files.{Files, file_answer, file_change}
 use Rattle.store_rules.specs.Names.{Names, name_answer, name_change}
 use Rattle.store_rules.specs.Outcomes.{changes}
@@ -17,11 +19,11 @@ use Rattle.store_rules.specs.Store.{Store, store_step}
 use Rattle.entry_words.specs.declared.entry.Entry.{Entry}
 use Rattle.passes.specs.declared.pass.Pass.{Pass}
 use Rattle.place_kit.specs.declared.any.AnyKept.{AnyKept}
-use Rattle.place_kit.specs.declared.any.AnyKept.TheVariants.{Name, File}
+use Rattle.place_kit.specs.declared.any.AnyKept.TheVariants.{Name, File, Block, Disk}
 use Rattle.place_kit.specs.Committed.{Committed, Served}
 use Rattle.place_kit.specs.Committing.{AnyCommitted, AnyServed}
 use Rattle.place_kit.specs.Kept.{base_of, clock_of, history_of, label_of}
-use Rattle.place_kit.specs.Machines.{name_after, file_after}
+use Rattle.place_kit.specs.Machines.{name_after, file_after, block_after, disk_after}
 use Rattle.place_kit.specs.Replay.{all_at, stamps_rise}
 
 -- ---- what every kept machine keeps
@@ -29,14 +31,20 @@ use Rattle.place_kit.specs.Replay.{all_at, stamps_rise}
 pub kept_rising : (k : AnyKept) → stamps_rise 0 (clock_of k) (history_of k) ≡ true
 kept_rising (Name k) = k.kept.rising
 kept_rising (File k) = k.kept.rising
+kept_rising (Block k) = k.kept.rising
+kept_rising (Disk k) = k.kept.rising
 
 pub kept_placed : (k : AnyKept) → all_at (label_of k).place (history_of k) ≡ true
 kept_placed (Name k) = k.kept.placed
 kept_placed (File k) = k.kept.placed
+kept_placed (Block k) = k.kept.placed
+kept_placed (Disk k) = k.kept.placed
 
 pub opened_base : (k : AnyKept) → (label_of k).folded ≡ false → base_of k ≡ opening_of (label_of k).layer (label_of k).rooted
 opened_base (Name k) whole = ap names_alone (k.kept.opened whole) ∙ ap (λ (l : Layer). opening_of l k.label.rooted) (sym k.layered)
 opened_base (File k) whole = ap files_alone (k.kept.opened whole) ∙ ap (λ (l : Layer). opening_of l k.label.rooted) (sym k.layered)
+opened_base (Block k) whole = ap blocks_alone (k.kept.opened whole) ∙ ap (λ (l : Layer). opening_of l k.label.rooted) (sym k.layered)
+opened_base (Disk k) whole = ap chunks_alone (k.kept.opened whole) ∙ ap (λ (l : Layer). opening_of l k.label.rooted) (sym k.layered)
 
 -- ---- a request of its layer changes a machine as the store in which it stands alone
 
@@ -50,13 +58,31 @@ files_by : (s n : Files) (b : Bool)
 files_by s n true = refl
 files_by s n false = refl
 
+blocks_by : (s n : Blocks) (b : Bool)
+    → (if b then record (blocks_alone s) { blocks = n } else blocks_alone s) ≡ blocks_alone (if b then n else s)
+blocks_by s n true = refl
+blocks_by s n false = refl
+
+chunks_by : (s n : Chunks) (b : Bool)
+    → (if b then record (chunks_alone s) { chunks = n } else chunks_alone s) ≡ chunks_alone (if b then n else s)
+chunks_by s n true = refl
+chunks_by s n false = refl
+
 pub names_step : (s : Names) (q : AnyReq) → request_layer q ≡ layers.Names → store_step (names_alone s) q ≡ names_alone (name_after s q)
 names_step s (any.Name r) own = names_by s (name_change s r) (changes (name_answer s r))
-names_step s (any.File r) own = cc
+names_step s q own = cc
 
 pub files_step : (s : Files) (q : AnyReq) → request_layer q ≡ layers.Files → store_step (files_alone s) q ≡ files_alone (file_after s q)
 files_step s (any.File r) own = files_by s (file_change s r) (changes (file_answer s r))
-files_step s (any.Name r) own = cc
+files_step s q own = cc
+
+pub blocks_step : (s : Blocks) (q : AnyReq) → request_layer q ≡ layers.Blocks → store_step (blocks_alone s) q ≡ blocks_alone (block_after s q)
+blocks_step s (any.Block r) own = blocks_by s (block_change s r) (changes (block_answer s r))
+blocks_step s q own = cc
+
+pub chunks_step : (s : Chunks) (q : AnyReq) → request_layer q ≡ layers.Disks → store_step (chunks_alone s) q ≡ chunks_alone (disk_after s q)
+chunks_step s (any.Disk r) own = chunks_by s (disk_change s r) (changes (disk_answer s r))
+chunks_step s q own = cc
 
 -- ---- a transaction at one kind of machine, and at any
 
@@ -64,8 +90,9 @@ module _ (p : Pass) (q : AnyReq) (r : AnyReply) (e : Entry) where
   abbrev pub ServedBy : AnyKept → AnyKept → Type 0
   ServedBy (Name k) (Name l) = Served k l p q r e
   ServedBy (File k) (File l) = Served k l p q r e
-  ServedBy (Name k) (File l) = ⊥
-  ServedBy (File k) (Name l) = ⊥
+  ServedBy (Block k) (Block l) = Served k l p q r e
+  ServedBy (Disk k) (Disk l) = Served k l p q r e
+  ServedBy old new = ⊥
 
   pub served : (old new : AnyKept) → (label_of old).layer ≡ request_layer q → ServedBy old new → AnyServed old new p q r e
   served (Name k) (Name l) own s = record {
@@ -90,15 +117,37 @@ module _ (p : Pass) (q : AnyReq) (r : AnyReply) (e : Entry) where
     early = s.early;
     spare = s.spare;
   }
-  served (Name k) (File l) own s = absurd s
-  served (File k) (Name l) own s = absurd s
+  served (Block k) (Block l) own s = record {
+    label = s.label;
+    base = ap blocks_alone s.base;
+    answer = s.answer;
+    state = ap blocks_alone s.state ∙ sym (blocks_step k.machine q (sym own ∙ k.layered));
+    entry_is = s.entry_is;
+    history = s.history;
+    clock = s.clock;
+    early = s.early;
+    spare = s.spare;
+  }
+  served (Disk k) (Disk l) own s = record {
+    label = s.label;
+    base = ap chunks_alone s.base;
+    answer = s.answer;
+    state = ap chunks_alone s.state ∙ sym (chunks_step k.machine q (sym own ∙ k.layered));
+    entry_is = s.entry_is;
+    history = s.history;
+    clock = s.clock;
+    early = s.early;
+    spare = s.spare;
+  }
+  served old new own s = absurd s
 
 module _ (p after : Pass) (q : AnyReq) (r : AnyReply) where
   abbrev pub CommittedBy : AnyKept → AnyKept → Type 0
   CommittedBy (Name k) (Name l) = Committed k l p after q r
   CommittedBy (File k) (File l) = Committed k l p after q r
-  CommittedBy (Name k) (File l) = ⊥
-  CommittedBy (File k) (Name l) = ⊥
+  CommittedBy (Block k) (Block l) = Committed k l p after q r
+  CommittedBy (Disk k) (Disk l) = Committed k l p after q r
+  CommittedBy old new = ⊥
 
   pub committed : (old new : AnyKept) → (label_of old).layer ≡ request_layer q → CommittedBy old new → AnyCommitted old new p after q r
   committed (Name k) (Name l) own d = record {
@@ -121,8 +170,27 @@ module _ (p after : Pass) (q : AnyReq) (r : AnyReply) where
     bytes = d.bytes;
     spare = d.spare;
   }
-  committed (Name k) (File l) own d = absurd d
-  committed (File k) (Name l) own d = absurd d
+  committed (Block k) (Block l) own d = record {
+    served = served p q r _ (Block k) (Block l) own d.served;
+    actor = d.actor;
+    running = d.running;
+    trail = d.trail;
+    clock = d.clock;
+    steps = d.steps;
+    bytes = d.bytes;
+    spare = d.spare;
+  }
+  committed (Disk k) (Disk l) own d = record {
+    served = served p q r _ (Disk k) (Disk l) own d.served;
+    actor = d.actor;
+    running = d.running;
+    trail = d.trail;
+    clock = d.clock;
+    steps = d.steps;
+    bytes = d.bytes;
+    spare = d.spare;
+  }
+  committed old new own d = absurd d
 
 -- ---- the opening
 
@@ -134,4 +202,4 @@ not_rooted c n places other = by (n == place_number c layers.Names 1) refl
     by false e = refl
     by true e =
         let here : n ≡ place_number c layers.Names 1 = grind (arith, num_eq_cases n (place_number c layers.Names 1)) in
-        absurd (other (ap (layer_at c) here ∙ kept_layer c layers.Names 1 places refl))
+        absurd (other (ap (layer_at c) here ∙ has_layer c layers.Names 1 places refl))

@@ -1,6 +1,6 @@
 -- An opening name shard has the root as it was asked for.
 use Rattle.std.proofs.Common.{◌≡◌, Bool, true, false, Option, Some, None, is_some, refl, arith}
-use Rattle.key_maps.proofs.Lookups.{maps}
+use Rattle.key_words.proofs.Lookups.{maps}
 use Rattle.store_rules.specs.declared.any.AnyReq.TheVariants.{Name}
 use Rattle.store_rules.specs.declared.any.AnyReply.TheVariants as replies
 use Rattle.store_rules.specs.declared.names.Directory.{Directory}

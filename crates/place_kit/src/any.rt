@@ -1,5 +1,5 @@
 ghost use Rattle.std.specs.Prelude.{◌≡◌, ◌<◌, ◌≤◌, ◌^◌, [], IfOk, OnOk, OnErr, IsOk, ◌↔◌};
-ghost use Rattle.tect_ids.specs.Places.{HasPlaces, kept_count};
+ghost use Rattle.tect_ids.specs.Places.{HasPlaces, place_count};
 ghost use Rattle.store_rules.specs.Alone.{opening_of, request_layer};
 ghost use Rattle.layers.specs.Machines.{lent_as};
 ghost use Rattle.entry_words.specs.Labels.{label_at};
@@ -7,6 +7,8 @@ ghost use Rattle.passes.specs.Commits.{IsFull};
 
 use crate::any_prepared::AnyPrepared;
 use crate::kept::Kept;
+use block_shard::BlockShard;
+use disk_store::Disk;
 use entry_words::{Entry, Label, Refused, label_at};
 use file_shard::FileShard;
 use layers::LentMachine;
@@ -21,6 +23,8 @@ use tect_ids::{Counts, Layer, NoMemory, Place};
 pub enum AnyKept {
     Name(Kept<NameShard>),
     File(Kept<FileShard>),
+    Block(Kept<BlockShard>),
+    Disk(Kept<Disk>),
 }
 
 impl AnyKept {
@@ -29,11 +33,11 @@ impl AnyKept {
     ghost use Rattle.place_kit.specs.Committing.{AnyCommitted, AnyServed};
     ghost use Rattle.place_kit.specs.Asked.{asked_in, IsReady};
 
-    /// The shard with which a place opens, with nothing done. The place is one of those that have shards, and each layer has 1 to 64.
+    /// The shard or disk with which a place opens, with nothing done, where each layer has 1 to 64.
     #[tactic(auto, using(crate::proofs::AllKinds::not_rooted))]
     pub fn start(alloc: Global, counts: &Counts, place: Place) -> Result<AnyKept, NoMemory>
         requires places { HasPlaces counts.now }
-        requires kept { place.0 < kept_count counts.now }
+        requires within { place.0 < place_count counts.now }
         ensures label { IfOk result (λ kept. label_of kept ≡ label_at counts.now place.0) }
         ensures state { IfOk result
             (λ kept. machine_of kept ≡ opening_of (label_at counts.now place.0).layer (label_at counts.now place.0).rooted) }
@@ -43,7 +47,8 @@ impl AnyKept {
         match label.layer {
             Layer::Names => Ok(AnyKept::Name(Kept::open_names(alloc, place, label.rooted)?)),
             Layer::Files => Ok(AnyKept::File(Kept::open_files(alloc, place))),
-            Layer::Blocks | Layer::Disks => unreachable!(),
+            Layer::Blocks => Ok(AnyKept::Block(Kept::open_blocks(alloc, place))),
+            Layer::Disks => Ok(AnyKept::Disk(Kept::open_disk(alloc, place))),
         }
     }
 
@@ -54,6 +59,8 @@ impl AnyKept {
         match self {
             AnyKept::Name(kept) => kept.label(),
             AnyKept::File(kept) => kept.label(),
+            AnyKept::Block(kept) => kept.label(),
+            AnyKept::Disk(kept) => kept.label(),
         }
     }
 
@@ -64,6 +71,8 @@ impl AnyKept {
         match self {
             AnyKept::Name(kept) => kept.history(),
             AnyKept::File(kept) => kept.history(),
+            AnyKept::Block(kept) => kept.history(),
+            AnyKept::Disk(kept) => kept.history(),
         }
     }
 
@@ -74,6 +83,8 @@ impl AnyKept {
         match self {
             AnyKept::Name(kept) => LentMachine::Name(kept.machine()),
             AnyKept::File(kept) => LentMachine::File(kept.machine()),
+            AnyKept::Block(kept) => LentMachine::Block(kept.machine()),
+            AnyKept::Disk(kept) => LentMachine::Disk(kept.machine()),
         }
     }
 
@@ -84,6 +95,8 @@ impl AnyKept {
         match self {
             AnyKept::Name(kept) => kept.spare(),
             AnyKept::File(kept) => kept.spare(),
+            AnyKept::Block(kept) => kept.spare(),
+            AnyKept::Disk(kept) => kept.spare(),
         }
     }
 
@@ -106,6 +119,14 @@ impl AnyKept {
             },
             (AnyKept::File(kept), AnyReq::File(req)) => match kept.commit(pass, req) {
                 Ok(reply) => Ok(AnyReply::File(reply)),
+                Err(refused) => Err(refused),
+            },
+            (AnyKept::Block(kept), AnyReq::Block(req)) => match kept.commit(pass, req) {
+                Ok(reply) => Ok(AnyReply::Block(reply)),
+                Err(refused) => Err(refused),
+            },
+            (AnyKept::Disk(kept), AnyReq::Disk(req)) => match kept.commit(pass, req) {
+                Ok(reply) => Ok(AnyReply::Disk(reply)),
                 Err(refused) => Err(refused),
             },
             _ => unreachable!(),
@@ -137,6 +158,14 @@ impl AnyKept {
             (AnyKept::File(kept), AnyPrepared::File(prepared)) => {
                 let (reply, receipt) = kept.serve(pass, prepared)?;
                 Ok((AnyReply::File(reply), receipt))
+            }
+            (AnyKept::Block(kept), AnyPrepared::Block(prepared)) => {
+                let (reply, receipt) = kept.serve(pass, prepared)?;
+                Ok((AnyReply::Block(reply), receipt))
+            }
+            (AnyKept::Disk(kept), AnyPrepared::Disk(prepared)) => {
+                let (reply, receipt) = kept.serve(pass, prepared)?;
+                Ok((AnyReply::Disk(reply), receipt))
             }
             _ => unreachable!(),
         }

@@ -3,6 +3,8 @@ ghost use Rattle.passes.specs.Commits.{spare_of};
 ghost use Rattle.place_kit.specs.Asked.{asked_in, spare_before, IsReady};
 
 use crate::prepared::Prepared;
+use block_shard::BlockShard;
+use disk_store::Disk;
 use file_shard::FileShard;
 use name_shard::NameShard;
 use passes::Pass;
@@ -14,6 +16,8 @@ use tect_ids::NoMemory;
 pub enum AnyPrepared {
     Name(Prepared<NameShard>),
     File(Prepared<FileShard>),
+    Block(Prepared<BlockShard>),
+    Disk(Prepared<Disk>),
 }
 
 impl AnyPrepared {
@@ -32,6 +36,8 @@ impl AnyPrepared {
         match req {
             AnyReq::Name(req) => Ok(AnyPrepared::Name(Prepared::new(pass, req)?)),
             AnyReq::File(req) => Ok(AnyPrepared::File(Prepared::new(pass, req)?)),
+            AnyReq::Block(req) => Ok(AnyPrepared::Block(Prepared::new(pass, req)?)),
+            AnyReq::Disk(req) => Ok(AnyPrepared::Disk(Prepared::new(pass, req)?)),
         }
     }
 
@@ -42,6 +48,8 @@ impl AnyPrepared {
         match self {
             AnyPrepared::Name(prepared) => prepared.spare(),
             AnyPrepared::File(prepared) => prepared.spare(),
+            AnyPrepared::Block(prepared) => prepared.spare(),
+            AnyPrepared::Disk(prepared) => prepared.spare(),
         }
     }
 }

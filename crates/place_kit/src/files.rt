@@ -47,7 +47,7 @@ impl Machine for FileShard {
     }
 
     fn decide(&self, req: &FileReq) -> Result<Outcome<FileReply>, NoMemory> {
-        Ok(FileShard::decide(self, req))
+        FileShard::decide(self, req)
     }
 
     fn apply(&mut self, req: &FileReq) -> Result<(), NoMemory> {
@@ -58,15 +58,23 @@ impl Machine for FileShard {
         AnyReq::File(req)
     }
 
-    // A clone may want memory. So a request that holds no name is made anew.
+    // A clone may want memory. So what belongs to requests that take none is made anew.
     fn copy_req(req: &FileReq) -> Result<AnyReq, NoMemory> {
         match *req {
             FileReq::Release { file, hold } => Ok(AnyReq::File(FileReq::Release { file, hold })),
+            FileReq::TakeToken { file, token } => {
+                Ok(AnyReq::File(FileReq::TakeToken { file, token }))
+            }
             _ => Ok(AnyReq::File(req.clone()?)),
         }
     }
 
     fn copy_reply(reply: &FileReply) -> Result<AnyReply, NoMemory> {
-        Ok(AnyReply::File(*reply))
+        match *reply {
+            FileReply::Released { was } => Ok(AnyReply::File(FileReply::Released { was })),
+            FileReply::Opened => Ok(AnyReply::File(FileReply::Opened)),
+            FileReply::Refused { why } => Ok(AnyReply::File(FileReply::Refused { why })),
+            _ => Ok(AnyReply::File(reply.clone()?)),
+        }
     }
 }

@@ -1,8 +1,10 @@
-//! Shards with the histories that made them.
+//! Shards and disks with the histories that made them.
 #![tactic(auto)]
 
 mod any;
 mod any_prepared;
+mod blocks;
+mod disks;
 mod files;
 mod kept;
 mod machine;

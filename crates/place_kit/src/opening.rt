@@ -4,6 +4,8 @@ ghost use Rattle.tect_ids.specs.declared.ids.Layer.TheVariants as layers;
 ghost use Rattle.place_kit.specs.Machines.{name_opening};
 
 use crate::kept::Kept;
+use block_shard::BlockShard;
+use disk_store::Disk;
 use file_shard::FileShard;
 use name_shard::NameShard;
 use std::alloc::Global;
@@ -34,5 +36,27 @@ impl Kept<FileShard> {
         ensures history { (result.history ≡ record { items = []; spare = 0 }) × (result.clock ≡ 0) }
     {
         Kept::start(alloc, place, FileShard::new(alloc))
+    }
+}
+
+impl Kept<BlockShard> {
+    /// A block shard with no block, at its place, with nothing done. It takes no memory.
+    pub fn open_blocks(alloc: Global, place: Place) -> Kept<BlockShard>
+        ensures label { result.label ≡ record { place = place; layer = layers.Blocks; rooted = false; folded = false } }
+        ensures state { result.machine ≡ empty }
+        ensures history { (result.history ≡ record { items = []; spare = 0 }) × (result.clock ≡ 0) }
+    {
+        Kept::start(alloc, place, BlockShard::new(alloc))
+    }
+}
+
+impl Kept<Disk> {
+    /// A disk with no chunk, at its place, with nothing done. It takes no memory.
+    pub fn open_disk(alloc: Global, place: Place) -> Kept<Disk>
+        ensures label { result.label ≡ record { place = place; layer = layers.Disks; rooted = false; folded = false } }
+        ensures state { result.machine ≡ empty }
+        ensures history { (result.history ≡ record { items = []; spare = 0 }) × (result.clock ≡ 0) }
+    {
+        Kept::start(alloc, place, Disk::new(alloc))
     }
 }

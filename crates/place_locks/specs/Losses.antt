@@ -1,7 +1,7 @@
 -- Why the machines of all places are lost when they are taken out.
 use Rattle.std.specs.Prelude.{◌≡◌, ◌≢◌, ◌<◌}
 use Rattle.tect_ids.specs.declared.ids.Counts.{Counts}
-use Rattle.tect_ids.specs.Places.{kept_count}
+use Rattle.tect_ids.specs.Places.{place_count}
 use Rattle.entry_words.specs.Labels.{label_at}
 use Rattle.entry_words.specs.declared.entry.Refused.{Refused}
 use Rattle.entry_words.specs.declared.entry.Refused.TheVariants.{NoMemory, HistoryFull, Astray}
@@ -10,4 +10,4 @@ use Rattle.entry_words.specs.declared.entry.Refused.TheVariants.{NoMemory, Histo
 abbrev pub IsLoss : Counts → Refused → Type 0
 IsLoss c NoMemory = Unit {0}
 IsLoss c (HistoryFull place) = ⊥
-IsLoss c (Astray want found) = (want.place.0 < kept_count c) × (want ≡ label_at c want.place.0) × (found ≢ want)
+IsLoss c (Astray want found) = (want.place.0 < place_count c) × (want ≡ label_at c want.place.0) × (found ≢ want)

@@ -34,13 +34,13 @@ pub struct Places {
 impl Model for Places {
     ghost use Rattle.std.specs.Prelude.{◌≡◌, vec_len};
     ghost use Rattle.tect_ids.specs.declared.ids.Counts.{Counts};
-    ghost use Rattle.tect_ids.specs.Places.{HasPlaces, kept_count};
+    ghost use Rattle.tect_ids.specs.Places.{HasPlaces, place_count};
 
     ghost Value = { Counts };
 
     ghost view = { λ p. p.counts };
 
-    ghost invariant = { λ p. HasPlaces p.counts × (vec_len p.kepts ≡ kept_count p.counts) };
+    ghost invariant = { λ p. HasPlaces p.counts × (vec_len p.kepts ≡ place_count p.counts) };
 }
 
 impl Places {

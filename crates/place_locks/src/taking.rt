@@ -1,5 +1,5 @@
 ghost use Rattle.std.specs.Prelude.{◌≡◌, ◌<◌, ◌++◌, ◌∷◌, [], IfOk, IfErr, OnOk, vec_len};
-ghost use Rattle.tect_ids.specs.Places.{HasPlaces, kept_count};
+ghost use Rattle.tect_ids.specs.Places.{HasPlaces, place_count};
 ghost use Rattle.entry_words.specs.Labels.{label_at};
 ghost use Rattle.place_kit.specs.Kept.{label_of};
 ghost use Rattle.place_kit.specs.Started.{AreStarted};
@@ -20,7 +20,7 @@ pub(crate) fn take_all(
     places: Vec<CachePadded<Mutex<AnyKept>>>,
 ) -> Result<Vec<AnyKept>, Refused>
     requires places { HasPlaces counts.now }
-    requires all { vec_len places ≡ kept_count counts.now }
+    requires all { vec_len places ≡ place_count counts.now }
     ensures all { IfOk result (λ kepts. AreStarted counts.now kepts.items) }
     ensures lost { IfErr result (IsLoss counts.now) }
 {
@@ -39,7 +39,7 @@ fn take_out(
     number: u32,
 ) -> Result<AnyKept, Refused>
     requires places { HasPlaces counts.now }
-    requires within { number < kept_count counts.now }
+    requires within { number < place_count counts.now }
     ensures label { IfOk result (λ kept. label_of kept ≡ label_at counts.now number) }
     ensures lost { IfErr result (IsLoss counts.now) }
 {

@@ -92,7 +92,7 @@ fn two_actors_commit_at_their_places(rt: HostRuntime) -> Result<(), Fail> {
     let make = make_file(alloc, SECOND)?;
     is_told(&rt, alloc, &places, &mut second, make, "File(Made)")?;
     let kepts = places.take_apart()?;
-    has_lengths(&rt, kepts.as_slice(), &[0, 2, 1, 1]);
+    has_lengths(&rt, kepts.as_slice(), &[0, 2, 1, 1, 0, 0]);
     Ok(())
 }
 

@@ -32,7 +32,7 @@ fn answer_line<P: Programs, L: Player<P, At>, At>(
     })
 }
 
-#[tactic(auto, using(tect_ids::proofs::Clones::same_command))]
+#[tactic(auto, using(entry_words::proofs::WordClones::same_command))]
 fn begin_command<P: Programs, L: Player<P, At>, At>(
     player: &mut L,
     at: &mut At,

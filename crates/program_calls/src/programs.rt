@@ -5,9 +5,10 @@ ghost use Rattle.program_forms.specs.Kinds.{Programs as Rules, asked_by, next_do
 ghost use Rattle.program_calls.specs.Hearing.{Hears, IsPlain, SaysIn};
 ghost use Rattle.program_calls.specs.Keeping.{KeepsSerial};
 
+use memories::Memory;
 use std::alloc::Global;
 use store_rules::AnyReply;
-use tect_calls::{Asked, Memory};
+use tect_calls::Asked;
 use tect_ids::{Answer, Command, NoMemory, OpId};
 
 /// The programs of all commands, over the states of a running command. What each does is told by its rules.

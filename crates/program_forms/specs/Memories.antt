@@ -6,7 +6,7 @@ use Rattle.std.specs.Cmp.Lexicographic.{slice_cmp}
 use Rattle.std.specs.FinMap.{FinMap, empty}
 use Rattle.tect_ids.specs.declared.ids.FileId.{FileId}
 use Rattle.tect_ids.specs.declared.ids.OpId.{OpId}
-use Rattle.ordered_rows.specs.Maps.{set_at}
+use Rattle.map_words.specs.Maps.{set_at}
 use Rattle.store_rules.specs.declared.any.AnyReq.{AnyReq}
 use Rattle.store_rules.specs.declared.any.AnyReply.{AnyReply}
 use Rattle.store_rules.specs.Views.{is_made}

@@ -6,11 +6,11 @@ use Rattle.std.proofs.lemmas.Option.{get_or_from_slice_get}
 use Rattle.std.specs.List.{All, AllByRecursion, filter, slice_get}
 use Rattle.tect_ids.specs.declared.ids.Counts.{Counts}
 use Rattle.tect_ids.specs.declared.ids.Place.{Place}
-use Rattle.tect_ids.specs.Places.{HasPlaces, kept_count, layer_at}
+use Rattle.tect_ids.specs.Places.{HasPlaces, place_count, layer_at}
 use Rattle.store_rules.specs.Alone.{opening_of, request_layer}
 use Rattle.store_rules.specs.Places.{request_place}
 use Rattle.store_rules.specs.Store.{Store, opening_store, store_reply, store_step}
-use Rattle.store_rules.proofs.Asked.{asked_layer, asked_place}
+use Rattle.store_shards.proofs.Asked.{asked_layer, asked_place}
 use Rattle.store_shards.specs.Shards.{AreWhole, Parts, opening_parts, parts_step, place_eq}
 use Rattle.store_shards.proofs.Parts.{opening_whole, same_reply, step_whole}
 use Rattle.store_shards.proofs.Rows.{opening_is}
@@ -97,7 +97,7 @@ note_replies s stamp actor (notes.Stopped op) es r = (tt, r)
 
 -- each place's own moments are replied to by its part
 abbrev PlacesReplyFrom : Counts → Parts → List Moment → Type 0
-PlacesReplyFrom c parts ms = (p : Place) → p.0 < kept_count c → RepliesAre (parts p) (events_of (filter (is_at p.0) ms))
+PlacesReplyFrom c parts ms = (p : Place) → p.0 < place_count c → RepliesAre (parts p) (events_of (filter (is_at p.0) ms))
 
 rest_part : (s : Store) (e : Entry) (h : Heard) (ms : List Moment) (b : Bool) → RepliesAre s (events_of (if b then Act e h ∷ ms else ms))
     → RepliesAre (if b then store_step s e.req else s) (events_of ms)

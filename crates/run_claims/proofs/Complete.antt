@@ -52,12 +52,18 @@ finds_well k (shown.Node n) a h = succeeds_as a (answers.Found n) h tt
 finds_well k shown.Done a h = absurd h
 finds_well k (shown.Parent p sealed) a h = absurd h
 finds_well k (shown.Entries sealed items) a h = absurd h
+finds_well k (shown.Attached i) a h = absurd h
+finds_well k (shown.Blocks sealed rows) a h = absurd h
+finds_well k (shown.Bytes bytes) a h = absurd h
 
 lists_well : (k : Key) (v : StepValue) (a : Answer) → Lists k (Ok v) a → Succeeds a
 lists_well k (shown.Entries sealed items) a h = succeeds_as a (answers.Entries items) h tt
 lists_well k shown.Done a h = absurd h
 lists_well k (shown.Parent p sealed) a h = absurd h
 lists_well k (shown.Node n) a h = absurd h
+lists_well k (shown.Attached i) a h = absurd h
+lists_well k (shown.Blocks sealed rows) a h = absurd h
+lists_well k (shown.Bytes bytes) a h = absurd h
 
 -- a look on the way ends a command only where it is refused or finds a file
 stops_not : (k : Key) (v : StepValue) (a : Answer) → IsNoFile (Ok v) → StopsWalk k (Ok v) a → ⊥
@@ -66,6 +72,9 @@ stops_not k (shown.Node (Dir d)) a clear h = h
 stops_not k shown.Done a clear h = h
 stops_not k (shown.Parent p sealed) a clear h = h
 stops_not k (shown.Entries sealed items) a clear h = h
+stops_not k (shown.Attached i) a clear h = h
+stops_not k (shown.Blocks sealed rows) a clear h = h
+stops_not k (shown.Bytes bytes) a clear h = h
 
 look_well : (d : DirId) (p : List (List ℕ)) (s : TreeStep) (v : StepValue) (a : Answer) → LookDecides d p s (Ok v) a → Succeeds a
 look_well d [] (step.Check e) v a h = succeeds_as a (answers.Found (Dir d)) h.1 tt

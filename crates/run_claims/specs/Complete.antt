@@ -36,6 +36,9 @@ IsNoFile (Ok (shown.Node (Dir d))) = Unit {0}
 IsNoFile (Ok shown.Done) = Unit {0}
 IsNoFile (Ok (shown.Parent p sealed)) = Unit {0}
 IsNoFile (Ok (shown.Entries sealed items)) = Unit {0}
+IsNoFile (Ok (shown.Attached i)) = Unit {0}
+IsNoFile (Ok (shown.Blocks sealed rows)) = Unit {0}
+IsNoFile (Ok (shown.Bytes bytes)) = Unit {0}
 IsNoFile (Refused why) = Unit {0}
 
 -- the first steps of a command are the looks on its way, one for each name: no file was found there

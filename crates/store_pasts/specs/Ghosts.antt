@@ -1,7 +1,7 @@
 -- The store with what contracts alone see of its past, and what may be done to this past.
 use Rattle.std.specs.Prelude.{if◌then◌else◌, ℕ, List, Option, Some, None}
 use Rattle.std.specs.FinMap.{FinMap, empty}
-use Rattle.ordered_rows.specs.Maps.{set_at}
+use Rattle.map_words.specs.Maps.{set_at}
 use Rattle.tect_ids.specs.declared.ids.BlkId.{BlkId}
 use Rattle.tect_ids.specs.declared.ids.DiskId.{DiskId}
 use Rattle.tect_ids.specs.declared.ids.FileId.{FileId}

@@ -1,8 +1,8 @@
 -- A shard of the Block layer, and the rule of each request to it.
 use Rattle.std.specs.Prelude.{ℕ, Bool, true, false, not, List, [], ◌∷◌, map, Option, Some, None, is_some, if◌then◌else◌}
 use Rattle.std.specs.FinMap.{FinMap, empty, get, entries}
-use Rattle.ordered_rows.specs.Maps.{set_at}
-use Rattle.key_maps.specs.RowsOfBlocks.{all_placed}
+use Rattle.map_words.specs.Maps.{set_at}
+use Rattle.small_maps.specs.RowsOfBlocks.{all_placed}
 use Rattle.tect_ids.specs.declared.ids.BlkId.{BlkId}
 use Rattle.tect_ids.specs.declared.ids.DiskId.{DiskId}
 use Rattle.tect_ids.specs.declared.ids.FileId.{FileId}

@@ -1,7 +1,7 @@
 -- The chunks on disks, and the rule of each request to a disk.
 use Rattle.std.specs.Prelude.{ℕ, Bool, false, List, Some, is_some, if◌then◌else◌}
 use Rattle.std.specs.FinMap.{FinMap, get}
-use Rattle.ordered_rows.specs.Maps.{set_at}
+use Rattle.map_words.specs.Maps.{set_at}
 use Rattle.tect_ids.specs.declared.ids.DiskId.{DiskId}
 use Rattle.tect_ids.specs.declared.key.ChunkKey.{ChunkKey}
 use Rattle.tect_ids.specs.Keys.{chunk_cmp}

@@ -14,7 +14,7 @@ use Rattle.tect_ids.specs.declared.dump.FileState.{FileState}
 use Rattle.tect_ids.specs.declared.dump.FileState.TheVariants as file_states
 use Rattle.tect_ids.specs.declared.dump.DumpLine.{DumpLine}
 use Rattle.tect_ids.specs.declared.dump.DumpLine.TheVariants as line
-use Rattle.key_maps.specs.Maps.{within}
+use Rattle.key_words.specs.Maps.{within}
 use Rattle.store_rules.specs.declared.names.Directory.{Directory}
 use Rattle.store_rules.specs.declared.names.DirectoryEntry.{DirectoryEntry}
 use Rattle.store_rules.specs.declared.blocks.Block.{Block}

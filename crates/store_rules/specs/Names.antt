@@ -2,7 +2,7 @@
 -- it changes where it is not refused.
 use Rattle.std.specs.Prelude.{ℕ, Bool, true, false, not, List, Option, Some, None, is_some, nat_le, if◌then◌else◌, map}
 use Rattle.std.specs.FinMap.{FinMap, empty, get, len, entries}
-use Rattle.ordered_rows.specs.Maps.{set_at}
+use Rattle.map_words.specs.Maps.{set_at}
 use Rattle.tect_ids.specs.declared.ids.DirId.{DirId}
 use Rattle.tect_ids.specs.declared.ids.FileId.{FileId}
 use Rattle.tect_ids.specs.declared.ids.Hold.{Hold}
@@ -13,7 +13,7 @@ use Rattle.tect_ids.specs.declared.key.Upper.{Upper}
 use Rattle.tect_ids.specs.declared.key.Upper.TheVariants as uppers
 use Rattle.tect_ids.specs.declared.values.Listed.{Listed}
 use Rattle.tect_ids.specs.Keys.{dir_cmp, key_cmp, node_eq}
-use Rattle.key_maps.specs.Maps.{within}
+use Rattle.key_words.specs.Maps.{within}
 use Rattle.store_rules.specs.declared.names.Directory.{Directory}
 use Rattle.store_rules.specs.declared.names.DirectoryEntry.{DirectoryEntry}
 use Rattle.tect_ids.specs.declared.values.Over.{Over}

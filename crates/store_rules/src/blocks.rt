@@ -1,7 +1,7 @@
 ghost use Rattle.std.specs.Prelude.{◌≡◌};
 ghost use Rattle.store_rules.specs.Places.{blk_of};
 
-use key_maps::{BlockRows, HoldList};
+use small_maps::{BlockRows, HoldList};
 use tect_ids::{BlkId, Class, FileId, Hold, Items, NewRow, Row};
 
 /// A block as its shard keeps it: its length in bytes, whether it is closed to changes of its bytes, how often its rows were

@@ -2,7 +2,7 @@ ghost use Rattle.std.specs.Prelude.{◌≡◌};
 ghost use Rattle.store_rules.specs.Places.{file_of};
 
 use crate::file_rows::FileRows;
-use key_maps::HoldList;
+use small_maps::HoldList;
 use tect_ids::{BlkId, FileId, Hold, Items, Key, Refusal, RowPart, Token};
 
 /// A file as its shard keeps it: the token that an append has to show, whether it is closed to changes, the holds of the entries

@@ -1,7 +1,7 @@
 ghost use Rattle.std.specs.Prelude.{◌≡◌};
 ghost use Rattle.store_rules.specs.Places.{dir_of};
 
-use key_maps::HoldList;
+use small_maps::HoldList;
 use tect_ids::{DirId, FileId, Hold, Items, Key, Listed, Name, Node, Over, Refusal, Want};
 
 /// A directory as its shard keeps it. Its entries stand beside it, each under its own key.

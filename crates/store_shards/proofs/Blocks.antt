@@ -1,12 +1,11 @@
 -- a request to a shard that has its block is answered and done as on the whole, and leaves the other shards
-use Rattle.std.proofs.Common.{◌≡◌, Bool, true, false, cond, Option, Some, None, if◌then◌else◌, ap, ◌∙◌, arith}
-use Rattle.std.specs.FinMap.{FinMap, get, same_map}
+use Rattle.std.proofs.Common.{◌≡◌, Bool, true, false, Option, Some, None, if◌then◌else◌, ap, arith}
+use Rattle.std.specs.FinMap.{get, same_map}
 use Rattle.tect_ids.specs.declared.ids.BlkId.{BlkId}
 use Rattle.tect_ids.specs.declared.key.Upper.TheVariants as uppers
-use Rattle.tect_ids.specs.Keys.{blk_cmp, blk_eq}
-use Rattle.tect_ids.proofs.KeyTests.{blk_antisymmetric, blk_cmp_total, blk_eq_cases, blk_ties}
-use Rattle.ordered_rows.specs.Maps.{set_at}
-use Rattle.ordered_rows.proofs.Maps.{get-set_at}
+use Rattle.tect_ids.proofs.KeyTests.{blk_antisymmetric, blk_cmp_total, blk_eq_cases}
+use Rattle.map_words.specs.Maps.{set_at}
+use Rattle.key_words.proofs.BlockLookups.{get-blk_at}
 use Rattle.store_rules.specs.declared.blocks.Block.{Block}
 use Rattle.store_rules.specs.declared.blocks.BlockReply.{BlockReply}
 use Rattle.store_rules.specs.declared.blocks.BlockReq.{BlockReq}
@@ -17,11 +16,6 @@ use Rattle.store_rules.specs.declared.outcome.Outcome.{Outcome}
 use Rattle.store_rules.specs.Outcomes.{changes}
 use Rattle.store_rules.specs.Places.{blk_of}
 use Rattle.store_shards.specs.Shards.{KeepsBlocks}
-
--- what is found after a change
-get-blk_at : {X : Type 0} (m : FinMap blk_cmp X) (k : BlkId) (w : Option X) (q : BlkId) → get (set_at m k w) q
-    ≡ (if blk_eq q k then w else get m q)
-get-blk_at m k w q = get-set_at blk_cmp_total m k w q ∙ ap (λ b. cond b w (get m q)) (blk_ties q k)
 
 module _ (here : BlkId → Bool) (s w : Blocks) (is : KeepsBlocks here s w) where
   -- what is found of a block that is here

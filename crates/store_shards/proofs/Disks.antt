@@ -1,23 +1,17 @@
 -- a request to a disk is answered and done as on all disks together, and leaves the other disks
-use Rattle.std.proofs.Common.{◌≡◌, ℕ, Bool, true, false, cond, Option, List, if◌then◌else◌, ap, ◌∙◌, arith}
-use Rattle.std.specs.FinMap.{FinMap, get, same_map}
+use Rattle.std.proofs.Common.{◌≡◌, ℕ, Bool, true, false, Option, List, if◌then◌else◌, arith}
+use Rattle.std.specs.FinMap.{get, same_map}
 use Rattle.tect_ids.specs.declared.ids.DiskId.{DiskId}
 use Rattle.tect_ids.specs.declared.key.ChunkKey.{ChunkKey}
-use Rattle.tect_ids.specs.Keys.{chunk_cmp, chunk_eq}
-use Rattle.tect_ids.proofs.KeyTests.{chunk_antisymmetric, chunk_cmp_total, chunk_eq_cases, chunk_ties}
-use Rattle.ordered_rows.specs.Maps.{set_at}
-use Rattle.ordered_rows.proofs.Maps.{get-set_at}
+use Rattle.tect_ids.proofs.KeyTests.{chunk_antisymmetric, chunk_cmp_total, chunk_eq_cases}
+use Rattle.map_words.specs.Maps.{set_at}
+use Rattle.key_words.proofs.BlockLookups.{get-chunk_at}
 use Rattle.store_rules.specs.declared.disks.DiskReq.{DiskReq}
 use Rattle.store_rules.specs.declared.disks.DiskReq.TheVariants as req
 use Rattle.store_rules.specs.Disks.{Chunks, DiskRule, disk_rule, disk_answer, disk_change, disk_step}
 use Rattle.store_rules.specs.Outcomes.{changes}
 use Rattle.store_rules.specs.Places.{disk_of}
 use Rattle.store_shards.specs.Shards.{KeepsChunks}
-
--- what is found after a change
-get-chunk_at : {X : Type 0} (m : FinMap chunk_cmp X) (k : ChunkKey) (w : Option X) (q : ChunkKey) → get (set_at m k w) q
-    ≡ (if chunk_eq q k then w else get m q)
-get-chunk_at m k w q = get-set_at chunk_cmp_total m k w q ∙ ap (λ b. cond b w (get m q)) (chunk_ties q k)
 
 module _ (here : DiskId → Bool) (s w : Chunks) (is : KeepsChunks here s w) where
   -- what is found on a disk that is here

@@ -4,8 +4,8 @@ use Rattle.std.specs.FinMap.{empty, get, same_map}
 use Rattle.tect_ids.specs.declared.ids.FileId.{FileId}
 use Rattle.tect_ids.specs.declared.key.Upper.TheVariants as uppers
 use Rattle.tect_ids.proofs.KeyTests.{file_cmp_total, file_antisymmetric}
-use Rattle.key_maps.proofs.Lookups.{maps}
-use Rattle.ordered_rows.specs.Maps.{set_at}
+use Rattle.key_words.proofs.Lookups.{maps}
+use Rattle.map_words.specs.Maps.{set_at}
 use Rattle.store_rules.specs.declared.files.File.{File}
 use Rattle.store_rules.specs.declared.files.FileReply.{FileReply}
 use Rattle.store_rules.specs.declared.files.FileReq.{FileReq}

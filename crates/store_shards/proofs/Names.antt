@@ -7,9 +7,9 @@ use Rattle.tect_ids.specs.declared.key.Upper.TheVariants as uppers
 use Rattle.tect_ids.specs.declared.values.Over.{Over}
 use Rattle.tect_ids.specs.declared.values.Over.TheVariants as over
 use Rattle.tect_ids.proofs.KeyTests.{dir_cmp_total, key_cmp_total, dir_antisymmetric, key_antisymmetric}
-use Rattle.ordered_rows.specs.Maps.{set_at}
-use Rattle.key_maps.specs.Maps.{within}
-use Rattle.key_maps.proofs.Lookups.{maps}
+use Rattle.map_words.specs.Maps.{set_at}
+use Rattle.key_words.specs.Maps.{within}
+use Rattle.key_words.proofs.Lookups.{maps}
 use Rattle.store_rules.specs.declared.names.Directory.{Directory}
 use Rattle.store_rules.specs.declared.names.DirectoryEntry.{DirectoryEntry}
 use Rattle.store_rules.specs.declared.names.NameReply.{NameReply}

@@ -22,7 +22,7 @@ use Rattle.store_rules.specs.Alone.{names_alone, no_store, opening_of}
 use Rattle.store_rules.specs.Names.{no_names, root_names}
 use Rattle.store_rules.specs.Places.{request_place}
 use Rattle.store_rules.specs.Store.{Store, opening_store, store_reply, store_step}
-use Rattle.store_rules.proofs.Asked.{asked_place}
+use Rattle.store_shards.proofs.Asked.{asked_place}
 use Rattle.store_shards.specs.Rows.{AreShards, blocks_together, chunks_together, files_together, names_together, parts_of, together}
 use Rattle.store_shards.specs.Shards.{AreWhole, blk_place, dir_place, disk_place, file_place, root_place}
 use Rattle.store_shards.specs.Shards.{opening_parts, parts_step, place_eq}

@@ -11,11 +11,11 @@ use Rattle.tect_ids.specs.declared.values.Class.{Class}
 use Rattle.tect_ids.specs.declared.values.NewRow.{NewRow}
 use Rattle.tect_ids.specs.Keys.{disk_cmp}
 use Rattle.tect_ids.proofs.KeyTests.{disk_cmp_total}
-use Rattle.ordered_rows.proofs.Entries.{gets_each}
+use Rattle.map_words.proofs.Entries.{gets_each}
 use Rattle.store_rules.specs.declared.blocks.Block.{Block}
 use Rattle.store_rules.specs.declared.blocks.BlockReq.TheVariants as blocks
 use Rattle.store_rules.specs.declared.any.AnyReq.TheVariants as any
-use Rattle.key_maps.specs.RowsOfBlocks.{all_placed}
+use Rattle.small_maps.specs.RowsOfBlocks.{all_placed}
 use Rattle.store_rules.specs.Blocks.{rows_from, shown_row}
 use Rattle.store_rules.specs.Store.{Store, store_changes, store_reply}
 use Rattle.store_rules.specs.Views.{is_made, as_location}

@@ -8,7 +8,7 @@ use Rattle.tect_ids.specs.declared.ids.OpId.{OpId}
 use Rattle.tect_ids.specs.declared.key.Key.{Key}
 use Rattle.tect_ids.specs.Keys.{dir_eq}
 use Rattle.tect_ids.specs.Numbers.{root}
-use Rattle.key_maps.proofs.Lookups.{maps}
+use Rattle.key_words.proofs.Lookups.{maps}
 use Rattle.store_rules.specs.declared.names.NameReq.TheVariants as names
 use Rattle.store_rules.specs.declared.files.FileReq.TheVariants as files
 use Rattle.store_rules.specs.declared.any.AnyReq.TheVariants as any

@@ -10,10 +10,11 @@ use Rattle.tect_ids.specs.declared.values.BlockRow.{BlockRow}
 use Rattle.tect_ids.specs.declared.values.NewRow.{NewRow}
 use Rattle.tect_ids.specs.Keys.{disk_eq, tag_eq, disk_cmp}
 use Rattle.tect_ids.proofs.KeyTests.{block_keys}
-use Rattle.key_maps.specs.RowsOfBlocks.{placed_row, all_placed}
+use Rattle.small_maps.specs.RowsOfBlocks.{placed_row, all_placed}
 use Rattle.store_rules.specs.Blocks.{rows_from, shown_row}
 use Rattle.store_pasts.specs.Contents.{tag_at, disk_at, Apart}
-use Rattle.store_world.proofs.BlockMaps.{block_maps, get-disk_at}
+use Rattle.key_words.proofs.BlockLookups.{get-disk_at}
+use Rattle.store_world.proofs.BlockMaps.{block_maps}
 
 -- ---- the rows that a block is made with
 

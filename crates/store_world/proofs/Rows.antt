@@ -1,6 +1,6 @@
 -- every request has its row, and the opening is sound
 use Rattle.std.proofs.Common.{◌≡◌, Some, None, refl, arith}
-use Rattle.key_maps.proofs.Lookups.{maps}
+use Rattle.key_words.proofs.Lookups.{maps}
 use Rattle.store_rules.specs.declared.names.NameReq.{NameReq}
 use Rattle.store_rules.specs.declared.names.NameReq.TheVariants as names
 use Rattle.store_rules.specs.declared.files.FileReq.{FileReq}

@@ -18,7 +18,7 @@ use Rattle.tect_ids.specs.declared.values.BlockRow.{BlockRow}
 use Rattle.tect_ids.specs.declared.values.Class.{Class}
 use Rattle.tect_ids.specs.Keys.{key_cmp, disk_cmp}
 use Rattle.tect_ids.specs.Numbers.{root}
-use Rattle.key_maps.specs.RowsOfBlocks.{all_placed}
+use Rattle.small_maps.specs.RowsOfBlocks.{all_placed}
 use Rattle.store_rules.specs.declared.blocks.Block.{Block}
 use Rattle.store_rules.specs.declared.file_rows.FileRow.{FileRow}
 use Rattle.store_rules.specs.declared.names.Directory.{Directory}

@@ -1,5 +1,4 @@
 pub mod Words
 pub mod Inputs
-pub mod Replays
 pub mod Races
 pub mod Cuts

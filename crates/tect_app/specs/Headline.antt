@@ -12,7 +12,7 @@ use Rattle.tect_app.specs.declared.status.Status.{Status}
 use Rattle.tect_app.specs.Modes.{SpellsMode, SpellsNone}
 use Rattle.tect_app.specs.RaceEnds.{IsRaceShown, IsRaceCut, IsSplitLine}
 use Rattle.tect_app.specs.Refusals.{fault_text, fault_status, IsNoScript}
-use Rattle.tect_app.specs.Replays.{IsReplayShown, IsReplayCut}
+use Rattle.replay_claims.specs.Claimed.{IsReplayShown, IsReplayCut}
 
 abbrev pub usage_text : List ℕ
 usage_text = codes "usage: tect replay, race, make or judge\n"

@@ -1,6 +1,5 @@
 pub mod Statuses
 pub mod Modes
-pub mod Replays
 pub mod RaceEnds
 pub mod Refusals
 pub mod Headline

@@ -8,7 +8,7 @@ use Rattle.tect_ids.specs.declared.script.ReportLine.{ReportLine}
 use Rattle.place_kit.specs.declared.any.AnyKept.{AnyKept}
 use Rattle.passes.specs.declared.pass.Pass.{Pass}
 use Rattle.tect_edge.specs.Prefixes.{AppendsProperPrefix}
-use Rattle.tect_replay.specs.Output.{lines_text, end_text}
+use Rattle.replay_stories.specs.Output.{lines_text, end_text}
 use Rattle.race_ends.specs.declared.fault.RaceFault.{RaceFault}
 use Rattle.race_ends.specs.declared.fault.RaceFault.TheVariants as faults
 use Rattle.race_ends.specs.Faults.{IsRaceFault}

@@ -4,7 +4,7 @@ ghost use Rattle.tect_edge.specs.Counts.{Rose};
 ghost use Rattle.tect_edge.specs.Prefixes.{AppendsProperPrefix};
 ghost use Rattle.program_rules.specs.Served.{programs};
 ghost use Rattle.whole_runs.specs.Playable.{IsPlayable};
-ghost use Rattle.tect_replay.specs.Output.{lines_text, end_text};
+ghost use Rattle.replay_stories.specs.Output.{lines_text, end_text};
 ghost use Rattle.tect_app.specs.RaceEnds.{split_text, astray_text, IsNamedBy, IsSplitLine, IsRaceShown, IsRaceCut};
 ghost use Rattle.tect_app.specs.Statuses.{IsReportStatus, IsRaceStatus};
 

@@ -6,7 +6,7 @@ ghost use Rattle.tect_app.specs.Headline.{IsSplitEnd};
 ghost use Rattle.tect_app.specs.Statuses.{IsReportStatus};
 ghost use Rattle.program_rules.specs.Served.{programs};
 ghost use Rattle.whole_runs.specs.Playable.{IsPlayable};
-ghost use Rattle.tect_app.specs.Replays.{IsReplayShown, IsReplayCut};
+ghost use Rattle.replay_claims.specs.Claimed.{IsReplayShown, IsReplayCut};
 
 use crate::input::{InputFault, read_plan};
 use crate::mode::{Mode, read_mode};

@@ -1,5 +1,3 @@
-pub mod Knowing
-pub mod Codes
 pub mod Teaching
 pub mod MadeDirs
 pub mod Readings

@@ -6,10 +6,7 @@ mod asked;
 mod block_requests;
 mod disk_requests;
 mod file_requests;
-mod memory;
 mod name_requests;
-mod opened_files;
-mod path_key;
 mod places;
 mod readings;
 mod teaching;
@@ -21,13 +18,10 @@ pub use disk_requests::{disk_get, disk_put};
 pub use file_requests::{
     file_attach, file_grant, file_list_blocks, file_make_file, file_release, file_take_token,
 };
-pub use memory::Memory;
 pub use name_requests::{
     name_bind, name_check_dir, name_grant, name_list, name_look, name_make_dir, name_release,
     name_swap, name_unbind,
 };
-pub use opened_files::OpenedFile;
-pub use path_key::PathKey;
 pub use places::place;
 pub use readings::{
     attached, block_made, block_sealed, bound, found_dir, got, granted_hold, location, made_hold,

@@ -1,16 +1,15 @@
 -- A client that is astray found another machine than the one that its place was started with.
-use Rattle.std.proofs.Common.{◌≡◌, ℕ, ◌+◌, ◌%◌, ◌<◌, ◌≤◌, Result, Ok, Err, IfErr, IsOk, refl, sym, ap, subst, ◌∙◌, arith}
+use Rattle.std.proofs.Common.{◌≡◌, ℕ, ◌<◌, Result, Ok, Err, IfErr, IsOk, refl, sym, ap, subst, ◌∙◌}
 use Rattle.tect_ids.specs.declared.ids.Counts.{Counts}
-use Rattle.tect_ids.specs.Places.{HasPlaces, id_hash}
+use Rattle.tect_ids.specs.Places.{HasPlaces, place_count}
 use Rattle.store_rules.specs.declared.any.AnyReq.{AnyReq}
-use Rattle.store_rules.specs.declared.any.AnyReq.TheVariants as any
-use Rattle.store_rules.specs.Places.{request_place, dir_of, file_of}
+use Rattle.store_rules.specs.Places.{request_place}
+use Rattle.store_shards.proofs.Asked.{asked_place}
 use Rattle.entry_words.specs.declared.entry.Entry.{Entry}
 use Rattle.entry_words.specs.declared.entry.Label.{Label}
 use Rattle.entry_words.specs.declared.entry.Refused.{Refused}
 use Rattle.entry_words.specs.Labels.{label_at}
 use Rattle.place_locks.specs.Commits.{IsRefusalFor}
-use Rattle.entry_words.specs.Labels.{label_at}
 use Rattle.players.specs.declared.fault.RacerFault.{RacerFault}
 use Rattle.players.specs.declared.fault.RacerFault.TheVariants as racer_faults
 use Rattle.racers.specs.Lines.{IsFaultOf}
@@ -19,16 +18,6 @@ use Rattle.race_ends.specs.declared.fault.RaceFault.{RaceFault}
 use Rattle.race_ends.specs.declared.fault.RaceFault.TheVariants as faults
 use Rattle.race_ends.specs.Faults.{IsLossOf}
 use Rattle.tect_race.specs.Faults.{race_result}
-
-within_names : (x n m : ℕ) → 1 ≤ n → 0 + x % n < n + m
-within_names x n m some = omega arith
-
-within_files : (x n m : ℕ) → 1 ≤ m → n + x % m < n + m
-within_files x n m some = omega arith
-
-request_within : (c : Counts) (q : AnyReq) → HasPlaces c → (request_place c q).0 < c.names + c.files
-request_within c (any.Name q) places = within_names (id_hash (dir_of q).0) c.names c.files places.names.0
-request_within c (any.File q) places = within_files (id_hash (file_of q).0) c.names c.files places.files.0
 
 -- what a commit at locked places says, by their counts
 abbrev pub CommitsAt : {W : Type 0} → (counts_of : W → Counts) → W → W → ℕ → AnyReq → Result Entry Refused → Type 0
@@ -39,7 +28,7 @@ found_other : {W : Type 0} → (counts_of : W → Counts) (c : Counts) (want fou
 found_other counts_of c want found places (w, v, clock, asked, same, said) =
     let is : want ≡ label_at c (request_place c asked).0 = said.0 ∙ ap (λ (k : Counts). label_at k (request_place k asked).0) same in
     let at : want.place.0 ≡ (request_place c asked).0 = ap (λ (l : Label). l.place.0) is in
-    (subst (λ n. n < c.names + c.files) (sym at) (request_within c asked places), is ∙ ap (label_at c) (sym at), said.1)
+    (subst (λ n. n < place_count c) (sym at) (asked_place c asked places), is ∙ ap (label_at c) (sym at), said.1)
 
 lost : {W : Type 0} → (counts_of : W → Counts) (c : Counts) (played : Result (Unit {0}) RacerFault) → HasPlaces c
     → IfErr played (IsFaultOf counts_of (CommitsAt counts_of) c) → IfErr (race_result played) (IsLossOf c)

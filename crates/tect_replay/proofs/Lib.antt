@@ -2,6 +2,4 @@ pub mod Results
 pub mod SeatLaws
 pub mod Steps
 pub mod Showing
-pub mod Texts
 pub mod ReportTexts
-pub mod Reached

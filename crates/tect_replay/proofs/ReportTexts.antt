@@ -4,8 +4,8 @@ use Rattle.std.proofs.lemmas.List.{take_all, take_more, take-append-drop, append
 use Rattle.tect_ids.specs.declared.script.ReportLine.{ReportLine}
 use Rattle.std.specs.Io.KnownBytes.{Appends}
 use Rattle.tect_edge.specs.Prefixes.{AppendsProperPrefix}
-use Rattle.tect_replay.specs.Output.{line_text, lines_text, end_text, AppendsPrefix}
-use Rattle.tect_replay.proofs.Texts.{prefix_longer, prefix_less, prefix_then, lines-append}
+use Rattle.replay_stories.specs.Output.{line_text, lines_text, end_text, AppendsPrefix}
+use Rattle.replay_stories.proofs.Texts.{prefix_longer, prefix_less, prefix_then, lines-append}
 
 -- a further line
 pub line_more : (ls : List ReportLine) (i : ℕ) (l : ReportLine) → i < length ls → l ≡ get_or ls i l

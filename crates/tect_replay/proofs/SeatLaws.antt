@@ -19,7 +19,7 @@ use Rattle.world_lives.proofs.Grown.{present-grown}
 use Rattle.world_lives.proofs.Running.{grown-grown}
 use Rattle.players.specs.Players.{IsPlayer}
 use Rattle.tect_replay.specs.declared.seat.Seat.{Seat}
-use Rattle.tect_replay.specs.Plays.{IsKeptRun}
+use Rattle.replay_stories.specs.Plays.{IsKeptRun}
 use Rattle.tect_replay.specs.Seats.{SeatGrew}
 use Rattle.tect_replay.proofs.Results.{some_of}
 

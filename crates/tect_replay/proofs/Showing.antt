@@ -20,7 +20,7 @@ use Rattle.players.specs.Players.{Played, told_lines}
 use Rattle.players.proofs.Running.{AllOwn, all_own}
 use Rattle.world_lives.specs.Life.{Life, present, grown}
 use Rattle.tect_replay.specs.declared.seat.Seat.{Seat}
-use Rattle.tect_replay.specs.Plays.{IsKeptRun, PlaysLine}
+use Rattle.replay_stories.specs.Plays.{IsKeptRun, PlaysLine}
 use Rattle.tect_replay.specs.Seats.{SeatGrew}
 
 -- an actor's own event shows its own lines alone

@@ -26,7 +26,7 @@ use Rattle.world_lives.proofs.Grown.{present-grown}
 use Rattle.world_lives.proofs.Running.{went_nearer}
 use Rattle.players.specs.Players.{EndsWith, HasBegun, StepsOnce}
 use Rattle.tect_replay.specs.declared.seat.Seat.{Seat}
-use Rattle.tect_replay.specs.Plays.{IsKeptRun}
+use Rattle.replay_stories.specs.Plays.{IsKeptRun}
 use Rattle.tect_replay.specs.Seats.{SeatGrew}
 
 -- ---- whose the events are

@@ -1,6 +1,7 @@
 ghost use Rattle.std.specs.Prelude.{ℕ, ◌≤◌, List, length, IfOk};
 ghost use Rattle.world_lives.specs.Life.{present};
-ghost use Rattle.tect_replay.specs.Plays.{CanDo, CanPlay, PlaysLine, shown_lines};
+ghost use Rattle.replay_stories.specs.Plays.{CanDo, CanPlay, PlaysLine};
+ghost use Rattle.tect_replay.specs.Shown.{shown_lines};
 
 use crate::seat::Seat;
 use players::{RacerFault, play};

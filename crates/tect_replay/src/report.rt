@@ -2,7 +2,7 @@ ghost use Rattle.std.specs.Prelude.{◌≡◌, ◌++◌, IsErrOf, OnOk, OnErr};
 ghost use Rattle.std.specs.Io.KnownBytes.{Appends};
 ghost use Rattle.tect_edge.specs.Counts.{Rose};
 ghost use Rattle.tect_edge.specs.Prefixes.{AppendsProperPrefix};
-ghost use Rattle.tect_replay.specs.Output.{lines_text, end_text};
+ghost use Rattle.replay_stories.specs.Output.{lines_text, end_text};
 
 use crate::fault::ReplayFault;
 use crate::writing::{write_line, write_piece};

@@ -1,7 +1,7 @@
 ghost use Rattle.std.specs.Prelude.{◌≡◌, IsErrOf, OnOk, OnErr};
 ghost use Rattle.tect_edge.specs.Counts.{Rose};
 ghost use Rattle.whole_runs.specs.Playable.{IsPlayable};
-ghost use Rattle.tect_replay.specs.Replays.{IsReplayed as Replayed, IsCutReplay};
+ghost use Rattle.replay_stories.specs.Replays.{IsReplayed as Replayed, IsCutReplay};
 
 use crate::fault::ReplayFault;
 use crate::lines::play_line;

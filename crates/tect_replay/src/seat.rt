@@ -13,7 +13,7 @@ pub struct Seat {
 
 impl<P: Programs + Drop> Player<P, World<P>> for Seat {
     ghost use Rattle.world_lives.specs.Life.{present, room_at};
-    ghost use Rattle.tect_replay.specs.Plays.{IsKeptRun};
+    ghost use Rattle.replay_stories.specs.Plays.{IsKeptRun};
     ghost use Rattle.tect_replay.specs.Seats.{SeatGrew};
 
     ghost counts = { λ w. w.counts };

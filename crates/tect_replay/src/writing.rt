@@ -3,8 +3,8 @@ ghost use Rattle.std.specs.Io.KnownBytes.{Appends};
 ghost use Rattle.tect_edge.specs.Counts.{Rose};
 ghost use Rattle.tect_edge.specs.Prefixes.{AppendsProperPrefix};
 ghost use Rattle.tect_text.specs.DumpText.{dump_text};
-ghost use Rattle.tect_replay.specs.Output.{line_text, lines_text, AppendsPrefix};
-ghost use Rattle.tect_replay.specs.Plays.{shown_lines};
+ghost use Rattle.replay_stories.specs.Output.{line_text, lines_text, AppendsPrefix};
+ghost use Rattle.tect_replay.specs.Shown.{shown_lines};
 
 use crate::fault::ReplayFault;
 use crate::lines::LineOutput;

@@ -1,68 +1,50 @@
-use std::fmt;
-use tect_ids::{Node, OpId, Tag};
+ghost use Rattle.std.specs.Prelude.{◌≡◌, ◌++◌, OnOk, OnErr};
+ghost use Rattle.std.specs.Io.{StartsWith};
+ghost use Rattle.tect_text.specs.IdText.{op_text, tag_text, node_text, node_or_none};
 
-/// An op as it is written: its actor and number.
-#[derive(Clone, Copy)]
-pub struct OpText(pub OpId);
+use crate::words::{push_number, push_word};
+use tect_ids::{NoMemory, Node, OpId, Tag};
 
-impl fmt::Display for OpText {
-    ghost use Rattle.std.specs.Prelude.{Some};
-    ghost use Rattle.tect_text.specs.IdText.{op_text};
+/// Adds a word, and an op: its actor and number.
+pub fn push_op(text: &mut Vec<u8>, word: &str, op: OpId) -> Result<(), NoMemory>
+    ensures ok { OnOk result (text.new.items ≡ text.old.items ++ word.now ++ op_text op) }
+    ensures err { OnErr result (StartsWith text.new.items text.old.items) }
+{
+    push_number(text, word, op.actor)?;
+    push_number(text, ".", op.number)
+}
 
-    ghost output = { λ text. Some (op_text text.0) };
+/// Adds a word, and a tag: its op and number.
+pub fn push_tag(text: &mut Vec<u8>, word: &str, tag: Tag) -> Result<(), NoMemory>
+    ensures ok { OnOk result (text.new.items ≡ text.old.items ++ word.now ++ tag_text tag) }
+    ensures err { OnErr result (StartsWith text.new.items text.old.items) }
+{
+    push_op(text, word, tag.op)?;
+    push_number(text, ".", tag.part)
+}
 
-    fn fmt<W: fmt::Write>(&self, f: &mut fmt::Formatter<W>) -> fmt::Result {
-        write!(f, "{}.{}", self.0.actor, self.0.number)
+/// Adds a word, and what an entry names: its kind and identifier.
+pub fn push_node(text: &mut Vec<u8>, word: &str, node: Node) -> Result<(), NoMemory>
+    ensures ok { OnOk result (text.new.items ≡ text.old.items ++ word.now ++ node_text node) }
+    ensures err { OnErr result (StartsWith text.new.items text.old.items) }
+{
+    push_word(text, word)?;
+    match node {
+        Node::Dir(dir) => push_number(text, "dir ", dir.0),
+        Node::File(file) => push_number(text, "file ", file.0),
     }
 }
 
-/// A tag as it is written: its op and number.
-#[derive(Clone, Copy)]
-pub struct TagText(pub Tag);
-
-impl fmt::Display for TagText {
-    ghost use Rattle.std.specs.Prelude.{Some};
-    ghost use Rattle.tect_text.specs.IdText.{tag_text};
-
-    ghost output = { λ text. Some (tag_text text.0) };
-
-    fn fmt<W: fmt::Write>(&self, f: &mut fmt::Formatter<W>) -> fmt::Result {
-        write!(f, "{}.{}", OpText(self.0.op), self.0.part)
-    }
-}
-
-/// What an entry names as it is written: its kind and identifier.
-#[derive(Clone, Copy)]
-pub struct NodeText(pub Node);
-
-impl fmt::Display for NodeText {
-    ghost use Rattle.std.specs.Prelude.{Some};
-    ghost use Rattle.tect_text.specs.IdText.{node_text};
-
-    ghost output = { λ text. Some (node_text text.0) };
-
-    fn fmt<W: fmt::Write>(&self, f: &mut fmt::Formatter<W>) -> fmt::Result {
-        match self.0 {
-            Node::Dir(dir) => write!(f, "dir {}", dir.0),
-            Node::File(file) => write!(f, "file {}", file.0),
-        }
-    }
-}
-
-/// What an entry names now, or `none`.
-#[derive(Clone, Copy)]
-pub struct NodeOrNone(pub Option<Node>);
-
-impl fmt::Display for NodeOrNone {
-    ghost use Rattle.std.specs.Prelude.{Some};
-    ghost use Rattle.tect_text.specs.IdText.{node_or_none};
-
-    ghost output = { λ text. Some (node_or_none text.0) };
-
-    fn fmt<W: fmt::Write>(&self, f: &mut fmt::Formatter<W>) -> fmt::Result {
-        match self.0 {
-            Some(node) => write!(f, "{}", NodeText(node)),
-            None => f.write_str("none"),
+/// Adds a word, and what an entry names now, or `none`.
+pub fn push_node_or_none(text: &mut Vec<u8>, word: &str, node: Option<Node>) -> Result<(), NoMemory>
+    ensures ok { OnOk result (text.new.items ≡ text.old.items ++ word.now ++ node_or_none node) }
+    ensures err { OnErr result (StartsWith text.new.items text.old.items) }
+{
+    match node {
+        Some(node) => push_node(text, word, node),
+        None => {
+            push_word(text, word)?;
+            push_word(text, "none")
         }
     }
 }

@@ -7,6 +7,7 @@ mod ids;
 mod report;
 #[cfg(test)]
 mod tests;
+mod words;
 
 pub use report::{write_answer, write_dump};
 pub use script_forms::ScriptFault;

@@ -7,7 +7,7 @@ use Rattle.std.proofs.lemmas.List.{get_or-replicate, length-replicate, get_or_pa
 use Rattle.std.proofs.lemmas.List.Sums.{sum_by-cons}
 use Rattle.std.proofs.lemmas.Bool.{cases_lt}
 use Rattle.tect_ids.specs.declared.ids.Counts.{Counts}
-use Rattle.tect_ids.specs.Places.{kept_count}
+use Rattle.tect_ids.specs.Places.{place_count}
 use Rattle.tect_ids.proofs.KeyTests.{num_eq_cases}
 use Rattle.store_rules.specs.Store.{opening_store}
 use Rattle.entry_words.specs.declared.entry.Entry.{Entry}
@@ -27,7 +27,7 @@ use Rattle.tect_world.specs.Noted.{moments_by}
 use Rattle.tect_world.proofs.Lives.{up_to}
 
 abbrev opening_kept : Counts → KeptStore
-opening_kept c = record { counts = c; store = opening_store; entries = replicate (kept_count c) [] }
+opening_kept c = record { counts = c; store = opening_store; entries = replicate (place_count c) [] }
 
 none_counted : {X : Type 0} (p : X → Bool) (xs : List X) (d : X) → ((i : ℕ) → i < length xs → p (get_or xs i d) ≡ false) → count_by p xs ≡ 0
 none_counted p [] d none = refl
@@ -94,7 +94,7 @@ module _ {S : Type 0} (P : Programs S) (new : Inside S) (c : Counts) (shards : n
     each = subst (λ (k : Counts). (a : ℕ) → 1 ≤ a → a ≤ 65 → IsClientOf P k new.clock a (client_at k new.clients.items a)) (sym counts_are)
         first_each;
     places = λ p. rw (shards, clock)
-        (let zero : clock_after 0 (get_or (replicate (kept_count c) []) p []) ≡ 0 = no_clock (kept_count c) p
+        (let zero : clock_after 0 (get_or (replicate (place_count c) []) p []) ≡ 0 = no_clock (place_count c) p
         in omega (arith, zero));
     early = omega (arith, clock);
     few = rw order (omega arith);

@@ -184,8 +184,8 @@ impl<P: Programs + Drop> World<P> {
         self.known();
     }
 
-    /// Dumps the whole store: the lines of its directories, each followed by its entries, and of its files. For want of
-    /// memory nothing is changed.
+    /// Dumps the whole store: the lines of its directories, each followed by its entries, of its files, of its blocks and of its
+    /// chunks. For want of memory nothing is changed.
     pub fn dump(&mut self) -> Result<Vec<DumpLine>, NoMemory>
         ensures ok { OnOk result (self.new ≡ grown self.old (events.Dumped ∷ [])) }
         ensures lines { IfOk result (λ lines. lines.items ≡ store_dump (present P.rules self.old).store) }

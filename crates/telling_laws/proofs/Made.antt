@@ -7,7 +7,7 @@ use Rattle.tect_ids.specs.declared.ids.Node.TheVariants as nodes
 use Rattle.tect_ids.specs.declared.ids.OpId.{OpId}
 use Rattle.tect_ids.specs.Keys.{dir_cmp, file_cmp, key_cmp}
 use Rattle.tect_ids.proofs.KeyTests.{dir_cmp_total, file_cmp_total, key_cmp_total, dir_antisymmetric, file_antisymmetric, key_antisymmetric}
-use Rattle.key_maps.proofs.Lookups.{maps}
+use Rattle.key_words.proofs.Lookups.{maps}
 use Rattle.store_rules.specs.Store.{Store, opening_store}
 use Rattle.tree_model.specs.declared.step.TreeStep.{TreeStep}
 use Rattle.tree_model.specs.declared.step.TreeStep.TheVariants as step
@@ -41,6 +41,10 @@ change_made t op (step.Swap d from to n) h = record { dirs = h.dirs; files = h.f
 change_made t op (step.Unbind k w) h = record { dirs = h.dirs; files = h.files }
 change_made t op (step.GrantDir d) h = h
 change_made t op (step.GrantFile f) h = h
+change_made t op (step.Open f token) h = record { dirs = h.dirs; files = λ e is. grind (arith, maps, h.files e) }
+change_made t op (step.Attach f token b bytes) h = record { dirs = h.dirs; files = λ e is. grind (arith, maps, h.files e) }
+change_made t op (step.Blocks f) h = h
+change_made t op (step.Read f n) h = h
 
 pub next_made : (t : Tree) (op : OpId) (st : TreeStep) (x : TreeReply) → TreeMade t → TreeMade (tree_next t op st x)
 next_made t op st (Ok shown) h = change_made t op st h

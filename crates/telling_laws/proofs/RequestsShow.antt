@@ -16,8 +16,8 @@ use Rattle.tect_ids.specs.declared.values.Over.{Over}
 use Rattle.tect_ids.specs.declared.values.Want.{Want}
 use Rattle.tect_ids.specs.Keys.{key_cmp, name_eq}
 use Rattle.tect_ids.proofs.KeyTests.{name_eq_cases}
-use Rattle.ordered_rows.specs.Maps.{set_at}
-use Rattle.key_maps.specs.Maps.{within}
+use Rattle.map_words.specs.Maps.{set_at}
+use Rattle.key_words.specs.Maps.{within}
 use Rattle.store_rules.specs.declared.names.DirectoryEntry.{DirectoryEntry}
 use Rattle.store_rules.specs.declared.names.NameReq.{NameReq}
 use Rattle.store_rules.specs.declared.names.NameReq.TheVariants as names

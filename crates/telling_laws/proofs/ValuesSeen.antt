@@ -12,9 +12,9 @@ use Rattle.tect_ids.specs.declared.ids.FileId.{FileId}
 use Rattle.tect_ids.specs.declared.key.Key.{Key}
 use Rattle.tect_ids.specs.Keys.{dir_cmp, file_cmp, key_cmp}
 use Rattle.tect_ids.proofs.KeyTests.{dir_cmp_total, file_cmp_total, key_cmp_total, dir_antisymmetric, file_antisymmetric, key_antisymmetric}
-use Rattle.ordered_rows.specs.Maps.{set_at}
-use Rattle.key_maps.specs.Maps.{within}
-use Rattle.key_maps.proofs.Lookups.{maps}
+use Rattle.map_words.specs.Maps.{set_at}
+use Rattle.key_words.specs.Maps.{within}
+use Rattle.key_words.proofs.Lookups.{maps}
 use Rattle.telling_laws.specs.MapValues.{map_values, seen_by}
 
 both_true : (a b c d : Bool) → (T a → T c) → (T b → T d) → T (a && b) → T (c && d)

@@ -1,5 +1,5 @@
 -- The store seen as a tree.
-use Rattle.std.specs.Prelude.{◌≡◌, Bool, true, Option, Some, None, is_some}
+use Rattle.std.specs.Prelude.{◌≡◌, Bool, true, [], Option, Some, None, is_some}
 use Rattle.std.specs.FinMap.{FinMap, get}
 use Rattle.tect_ids.specs.declared.ids.Node.{Node}
 use Rattle.tect_ids.specs.declared.ids.Node.TheVariants as nodes
@@ -27,9 +27,9 @@ Made = FinMap node_cmp (Unit {0})
 abbrev pub shown_dir : Directory → TreeDir
 shown_dir d = record { parent = d.parent; sealed = d.sealed }
 
--- a file without its holds and rows
+-- a file without its holds and rows: the tree's files get blocks with the commands that attach some
 abbrev pub shown_file : File → TreeFile
-shown_file f = record { token = f.token }
+shown_file f = record { token = f.token; sealed = f.sealed; blocks = [] }
 
 -- what an entry names, without its hold
 abbrev pub shown_entry : DirectoryEntry → Node

@@ -1,1 +1,2 @@
+pub mod SameFiles
 pub mod Trees

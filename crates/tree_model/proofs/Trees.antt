@@ -9,8 +9,8 @@ use Rattle.tect_ids.specs.contracts.ids.NodePartialEq.TheImpl as node_impl
 use Rattle.tect_ids.specs.Keys.{dir_eq, file_eq, node_eq, name_eq, node_cmp, key_cmp}
 use Rattle.tect_ids.proofs.KeyTests.{key_eq_cases, name_eq_cases, key_ties, node_cmp_total, node_antisymmetric}
 use Rattle.tect_ids.proofs.KeyTests.{key_cmp_total, key_antisymmetric}
-use Rattle.ordered_rows.specs.Maps.{set_at}
-use Rattle.ordered_rows.proofs.Maps.{set_at_back, set_at_swap}
+use Rattle.map_words.specs.Maps.{set_at}
+use Rattle.map_words.proofs.Maps.{set_at_back, set_at_swap}
 use Rattle.tree_model.specs.Tree.{at_name}
 
 pub node_same : (a b : Node) → (node_impl.ghosts).eq a b ≡ node_eq a b

@@ -1,6 +1,6 @@
 -- How the tree is stored as plain data, which tells its values apart.
-use Rattle.std.specs.Prelude.{Bool, Option, refl}
-use Rattle.std.specs.Coded.{Coded, code_by, coded×, coded_bool, coded_option}
+use Rattle.std.specs.Prelude.{Bool, List, Option, refl}
+use Rattle.std.specs.Coded.{Coded, code_by, coded×, coded_bool, coded_list, coded_option}
 use base.Stored.{coded_unit}
 use Rattle.std.specs.FinMap as map
 use Rattle.std.specs.FinMap.{FinMap}
@@ -9,8 +9,10 @@ use Rattle.tect_ids.specs.declared.ids.OpId.{OpId}
 use Rattle.tect_ids.specs.declared.ids.Node.{Node}
 use Rattle.tect_ids.specs.Keys.{dir_cmp, file_cmp, key_cmp, node_cmp}
 use Rattle.tect_ids.specs.Codes.{dir_code, file_code, key_code, node_code, op_code}
+use Rattle.tree_model.specs.declared.blocks.TreeBlock.{TreeBlock}
 use Rattle.tree_model.specs.declared.step.TreeDir.{TreeDir}
 use Rattle.tree_model.specs.declared.step.TreeFile.{TreeFile}
+use Rattle.tree_model.specs.BlockCodes.{tree_block_code}
 use Rattle.tree_model.specs.Tree.{Tree}
 
 abbrev pub tree_dir_code : Coded TreeDir
@@ -21,7 +23,9 @@ tree_dir_code = code_by (DirId × Bool) (coded× dir_code coded_bool) (λ d. (d.
 }) (λ _. refl)
 
 abbrev pub tree_file_code : Coded TreeFile
-tree_file_code = code_by (Option OpId) (coded_option op_code) (λ f. f.token) (λ o. record { token = o }) (λ _. refl)
+tree_file_code =
+    code_by (Option OpId × (Bool × List TreeBlock)) (coded× (coded_option op_code) (coded× coded_bool (coded_list tree_block_code)))
+    (λ f. (f.token, (f.sealed, f.blocks))) (λ p. record { token = p.0; sealed = p.1.0; blocks = p.1.1 }) (λ _. refl)
 
 abbrev pub tree_code : Coded Tree
 tree_code =

@@ -1,7 +1,9 @@
--- The tree: directories, entries and files, with one rule for each step. It has no layers, holds, shards or caches.
-use Rattle.std.specs.Prelude.{◌≡◌, ℕ, Bool, true, false, not, List, Option, Some, None, is_some, nat_le, if◌then◌else◌, map}
+-- The tree: directories, entries and files, with one rule for each step. It has no layers, holds, disks, shards or caches.
+use Rattle.std.specs.Prelude.{◌≡◌, ℕ, Bool, true, false, not, List, [], ◌∷◌, ◌++◌, Option, Some, None, is_some, nat_le, nat_lt}
+use Rattle.std.specs.Prelude.{if◌then◌else◌, map, take, length}
+use Rattle.std.specs.List.{flat_map}
 use Rattle.std.specs.FinMap.{FinMap, empty, get, len, entries}
-use Rattle.ordered_rows.specs.Maps.{set_at}
+use Rattle.map_words.specs.Maps.{set_at}
 use Rattle.tect_ids.specs.declared.ids.DirId.{DirId}
 use Rattle.tect_ids.specs.declared.ids.FileId.{FileId}
 use Rattle.tect_ids.specs.declared.ids.Node.{Node}
@@ -13,15 +15,17 @@ use Rattle.tect_ids.specs.declared.values.Over.{Over}
 use Rattle.tect_ids.specs.declared.values.Over.TheVariants as over
 use Rattle.tect_ids.specs.declared.values.Want.{Want}
 use Rattle.tect_ids.specs.declared.values.Want.TheVariants.{AnyFile, Exactly}
-use Rattle.tect_ids.specs.Keys.{dir_cmp, file_cmp, key_cmp, node_cmp, node_eq, name_eq}
-use Rattle.key_maps.specs.Maps.{within}
+use Rattle.tect_ids.specs.declared.values.RowPart.{RowPart}
+use Rattle.tect_ids.specs.Keys.{dir_cmp, file_cmp, key_cmp, node_cmp, node_eq, name_eq, op_eq}
+use Rattle.key_words.specs.Maps.{within}
+use Rattle.tree_model.specs.declared.blocks.TreeBlock.{TreeBlock}
 use Rattle.tree_model.specs.declared.step.TreeDir.{TreeDir}
 use Rattle.tree_model.specs.declared.step.TreeFile.{TreeFile}
 use Rattle.tree_model.specs.declared.step.TreeStep.{TreeStep}
 use Rattle.tree_model.specs.declared.step.TreeStep.TheVariants as step
 use Rattle.tree_model.specs.declared.step.StepValue.TheVariants as shown
 use Rattle.tect_ids.specs.declared.values.Refusal.{Refusal}
-use Rattle.tect_ids.specs.declared.values.Refusal.TheVariants.{NoDir, NoName, NoFile, Exists, IsDir, Sealed, Full, Changed}
+use Rattle.tect_ids.specs.declared.values.Refusal.TheVariants.{NoDir, NoName, NoFile, Exists, IsDir, Sealed, Full, Changed, TokenChanged}
 use Rattle.tree_model.specs.declared.step.TreeReply.{TreeReply}
 use Rattle.tree_model.specs.declared.step.TreeReply.TheVariants.{Ok, Refused}
 
@@ -88,7 +92,7 @@ with_dir t d p = record t {
 
 abbrev pub with_file : Tree → FileId → Option OpId → Tree
 with_file t f token = record t {
-  files = set_at t.files f (Some record { token = token });
+  files = set_at t.files f (Some record { token = token; sealed = false; blocks = [] });
   made = set_at t.made (File f) (Some tt);
 }
 
@@ -138,6 +142,57 @@ grant_dir_reply t d = finding (get t.dirs d) NoDir (λ x. Ok shown.Done)
 abbrev pub grant_file_reply : Tree → FileId → TreeReply
 grant_file_reply t f = finding (get t.files f) NoFile (λ x. Ok shown.Done)
 
+-- Open
+abbrev pub open_reply : Tree → FileId → TreeReply
+open_reply t f = finding (get t.files f) NoFile (λ x. unless x.sealed Sealed (Ok shown.Done))
+
+abbrev pub file_with_token : Option TreeFile → OpId → Option TreeFile
+file_with_token None token = None
+file_with_token (Some f) token = Some record f { token = Some token }
+
+abbrev pub opened : Tree → FileId → OpId → Tree
+opened t f token = record t { files = set_at t.files f (file_with_token (get t.files f) token) }
+
+-- Attach
+
+-- as many blocks as a file may have
+abbrev pub tree_block_limit : ℕ
+tree_block_limit = 4096
+
+-- whether that is the token which the file has
+abbrev pub holds_token : Option OpId → OpId → Bool
+holds_token None token = false
+holds_token (Some now) token = op_eq now token
+
+abbrev pub attach_reply : Tree → FileId → OpId → TreeReply
+attach_reply t f token =
+    finding (get t.files f) NoFile (λ x.
+    unless x.sealed Sealed
+    (unless (not (holds_token x.token token)) (TokenChanged x.token)
+    (unless (nat_le tree_block_limit (length x.blocks)) Full
+    (Ok (shown.Attached (length x.blocks))))))
+
+abbrev pub file_with_block : Option TreeFile → TreeBlock → Option TreeFile
+file_with_block None b = None
+file_with_block (Some f) b = Some record f { blocks = f.blocks ++ (b ∷ []) }
+
+abbrev pub attached : Tree → FileId → TreeBlock → Tree
+attached t f b = record t { files = set_at t.files f (file_with_block (get t.files f) b) }
+
+-- Blocks
+abbrev pub block_part : TreeBlock → RowPart
+block_part b = record { blk = b.blk; len = length b.bytes }
+
+abbrev pub blocks_reply : Tree → FileId → TreeReply
+blocks_reply t f = finding (get t.files f) NoFile (λ x. Ok (shown.Blocks x.sealed (map block_part x.blocks)))
+
+-- Read: the bytes of the first blocks. Of more blocks than the file has it is refused as of no file: nobody reads those.
+abbrev pub read_reply : Tree → FileId → ℕ → TreeReply
+read_reply t f n =
+    finding (get t.files f) NoFile (λ x.
+    unless (nat_lt (length x.blocks) n) NoFile
+    (Ok (shown.Bytes (flat_map (λ b. b.bytes) (take n x.blocks)))))
+
 -- what the tree says to a step of that op
 abbrev pub tree_reply : Tree → OpId → TreeStep → TreeReply
 tree_reply t op (step.Check d) = check_reply t d
@@ -150,6 +205,10 @@ tree_reply t op (step.Swap d from to n) = swap_reply t d from to n
 tree_reply t op (step.Unbind k w) = unbind_reply t k w
 tree_reply t op (step.GrantDir d) = grant_dir_reply t d
 tree_reply t op (step.GrantFile f) = grant_file_reply t f
+tree_reply t op (step.Open f token) = open_reply t f
+tree_reply t op (step.Attach f token b bytes) = attach_reply t f token
+tree_reply t op (step.Blocks f) = blocks_reply t f
+tree_reply t op (step.Read f n) = read_reply t f n
 
 -- what a step of that op does where the tree says Ok
 abbrev pub tree_change : Tree → OpId → TreeStep → Tree
@@ -163,6 +222,10 @@ tree_change t op (step.Swap d from to n) = renamed t d from to n
 tree_change t op (step.Unbind k w) = set_name t k None
 tree_change t op (step.GrantDir d) = t
 tree_change t op (step.GrantFile f) = t
+tree_change t op (step.Open f token) = opened t f token
+tree_change t op (step.Attach f token b bytes) = attached t f (record { blk = b; bytes = bytes })
+tree_change t op (step.Blocks f) = t
+tree_change t op (step.Read f n) = t
 
 abbrev pub is_ok : TreeReply → Bool
 is_ok (Ok x) = true

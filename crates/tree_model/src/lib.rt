@@ -1,10 +1,13 @@
-//! The small machine that the store is compared with: a tree of names, with one step for each visible change. It knows
-//! nothing of layers, shards, holds and caches.
+//! The small machine that the store is compared with: a tree of names, and files with their bytes, with one step for each
+//! visible change. It knows nothing of layers, shards, holds, disks and caches.
 #![tactic(auto)]
 
+mod blocks;
+mod files;
 mod step;
 mod tree;
 
+pub use blocks::{TreeBlock, TreeBlocks};
 pub use step::{StepValue, TreeDir, TreeFile, TreeReply, TreeStep};
 pub use tree::Tree;
 

@@ -1,4 +1,8 @@
-use tect_ids::{DirId, FileId, Items, Key, Listed, Name, Node, Over, Refusal, Token, Want};
+use crate::blocks::TreeBlocks;
+use tect_ids::{
+    BlkId, Bytes, DirId, FileId, Items, Key, Listed, Name, Node, Over, Refusal, RowPart, Token,
+    Want,
+};
 
 /// A directory of the tree.
 #[derive(Clone, Copy, Debug, PartialEq, Eq)]
@@ -7,10 +11,12 @@ pub struct TreeDir {
     pub sealed: bool,
 }
 
-/// A file of the tree.
-#[derive(Clone, Copy, Debug, PartialEq, Eq)]
+/// A file of the tree: the token that an append has to show, whether the file is closed to changes, and its blocks in order.
+#[derive(Drop)]
 pub struct TreeFile {
     pub token: Option<Token>,
+    pub sealed: bool,
+    pub blocks: TreeBlocks,
 }
 
 /// A step of the tree.
@@ -54,6 +60,26 @@ pub enum TreeStep {
     GrantFile {
         file: FileId,
     },
+    /// Writes a new token into the file, so that no earlier one serves any more.
+    Open {
+        file: FileId,
+        token: Token,
+    },
+    /// Adds a block with its bytes at the end, for one who has the file's token.
+    Attach {
+        file: FileId,
+        token: Token,
+        blk: BlkId,
+        bytes: Bytes,
+    },
+    Blocks {
+        file: FileId,
+    },
+    /// Reads that many blocks of the file, from its first on.
+    Read {
+        file: FileId,
+        count: u32,
+    },
 }
 
 /// What a step shows where it is not refused.
@@ -63,6 +89,12 @@ pub enum StepValue {
     Parent { parent: DirId, sealed: bool },
     Node { node: Node },
     Entries { sealed: bool, items: Items<Listed> },
+    /// The block is the one with that index in the file.
+    Attached { index: u32 },
+    /// The file's blocks in order, with their lengths in bytes.
+    Blocks { sealed: bool, rows: Items<RowPart> },
+    /// The bytes of the blocks that were read, one after another.
+    Bytes { bytes: Bytes },
 }
 
 /// What the tree says to a step.

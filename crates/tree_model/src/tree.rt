@@ -1,11 +1,12 @@
 ghost use Rattle.std.specs.Prelude.{◌≡◌, Some, None, IfOk, OnOk, OnErr, true, false, map};
 ghost use Rattle.std.specs.FinMap.{get, entries};
-ghost use Rattle.key_maps.specs.Maps.{within};
+ghost use Rattle.key_words.specs.Maps.{within};
 ghost use Rattle.tect_ids.specs.Keys.{name_eq};
 ghost use Rattle.tree_model.specs.Tree.{opening_tree, tree_reply, tree_change, tree_next, is_ok, at_name, as_listed, set_name};
 ghost use Rattle.tree_model.specs.Tree.{check_reply, look_reply, list_reply, make_reply, bind_reply, swap_reply, swap_over};
 ghost use Rattle.tree_model.specs.Tree.{unbind_reply, unbind_want, grant_dir_reply, grant_file_reply, with_dir, with_file, renamed};
 
+use crate::blocks::TreeBlocks;
 use crate::step::{StepValue, TreeDir, TreeFile, TreeReply, TreeStep};
 use key_maps::{DirMap, EntryTable, FileMap, NodeMap};
 use std::alloc::Global;
@@ -22,7 +23,7 @@ pub struct Tree {
     pub(crate) alloc: Global,
     dirs: DirMap<TreeDir>,
     entries: EntryTable<Node>,
-    files: FileMap<TreeFile>,
+    pub(crate) files: FileMap<TreeFile>,
     made: NodeMap<()>,
 }
 
@@ -97,6 +98,10 @@ impl Tree {
             TreeStep::Unbind { key, want } => Ok(self.unbind(key, *want)),
             TreeStep::GrantDir { dir } => Ok(self.grant_dir(*dir)),
             TreeStep::GrantFile { file } => Ok(self.grant_file(*file)),
+            TreeStep::Open { file, .. } => Ok(self.open(*file)),
+            TreeStep::Attach { file, token, .. } => Ok(self.attach(*file, *token)),
+            TreeStep::Blocks { file } => self.blocks(*file),
+            TreeStep::Read { file, count } => self.read(*file, *count),
         }
     }
 
@@ -256,11 +261,23 @@ impl Tree {
                 let _ = self.entries.take(key);
                 Ok(())
             }
+            TreeStep::Open { file, token } => {
+                self.set_token(*file, *token);
+                Ok(())
+            }
+            TreeStep::Attach {
+                file,
+                blk,
+                bytes,
+                ..
+            } => self.add_block(*file, *blk, bytes),
             TreeStep::Check { .. }
             | TreeStep::Look { .. }
             | TreeStep::List { .. }
             | TreeStep::GrantDir { .. }
-            | TreeStep::GrantFile { .. } => Ok(()),
+            | TreeStep::GrantFile { .. }
+            | TreeStep::Blocks { .. }
+            | TreeStep::Read { .. } => Ok(()),
         }
     }
 
@@ -295,7 +312,12 @@ impl Tree {
         if self.made.put(node, ()).is_err() {
             return Err(NoMemory);
         }
-        if self.files.put(file, TreeFile { token }).is_err() {
+        let made = TreeFile {
+            token,
+            sealed: false,
+            blocks: TreeBlocks::new(self.alloc),
+        };
+        if self.files.put(file, made).is_err() {
             let _ = self.made.take(node);
             return Err(NoMemory);
         }
@@ -348,13 +370,13 @@ fn unbind_want(now: Option<Node>, want: Want) -> TreeReply
     }
 }
 
-fn shows(value: StepValue) -> TreeReply
+pub(crate) fn shows(value: StepValue) -> TreeReply
     ensures { result ≡ TreeReply.Ok value }
 {
     TreeReply::Ok { value }
 }
 
-fn refuses(why: Refusal) -> TreeReply
+pub(crate) fn refuses(why: Refusal) -> TreeReply
     ensures { result ≡ TreeReply.Refused why }
 {
     TreeReply::Refused { why }

@@ -1,6 +1,6 @@
 -- what a running command asks next is safe, whatever the lawful programs; and so it is fresh
 use Rattle.std.proofs.Common.{◌≡◌, ℕ, true, Some, List, sym, subst, arith}
-use Rattle.key_maps.proofs.Lookups.{maps}
+use Rattle.key_words.proofs.Lookups.{maps}
 use Rattle.tect_ids.specs.declared.ids.Counts.{Counts}
 use Rattle.tect_ids.specs.declared.ids.OpId.{OpId}
 use Rattle.tect_ids.specs.declared.answer.Answer.{Answer}

@@ -1,6 +1,6 @@
-use Rattle.std.proofs.Common.{◌≡◌, Some, None, take, if◌then◌else◌}
+use Rattle.std.proofs.Common.{◌≡◌, None, take, if◌then◌else◌}
 use Rattle.std.specs.FinMap.{get}
-use Rattle.key_maps.specs.declared.disk_blk.DiskBlk.{DiskBlk}
+use Rattle.block_maps.specs.declared.disk_blk.DiskBlk.{DiskBlk}
 use Rattle.block_shard.specs.Index.{is_row_of}
 use Rattle.block_shard.proofs.indexed.take_rows.Given as goal
 

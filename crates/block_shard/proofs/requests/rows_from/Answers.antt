@@ -1,5 +1,5 @@
 use Rattle.std.proofs.Common.{◌≡◌, ◌∙◌, ap, Some, false, map, reverse}
-use Rattle.ordered_rows.specs.Maps.{set_at}
+use Rattle.map_words.specs.Maps.{set_at}
 use Rattle.store_rules.specs.Blocks.{rows_from}
 use Rattle.block_shard.proofs.MadeRows.{made_next}
 use Rattle.block_shard.proofs.requests.rows_from.Goals as goal

@@ -1,5 +1,5 @@
 use Rattle.std.proofs.Common.{inl}
-use Rattle.tect_ids.proofs.Clones.{same_answer}
+use Rattle.entry_words.proofs.WordClones.{same_answer}
 use Rattle.clients.proofs.steps.again.Goals as goal
 
 pub returns-in-Ok : goal.returns-in-Ok

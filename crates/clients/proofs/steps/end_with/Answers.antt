@@ -1,5 +1,5 @@
 use Rattle.std.proofs.Common.{inl, sym, subst}
-use Rattle.tect_ids.proofs.Clones.{same_answer}
+use Rattle.entry_words.proofs.WordClones.{same_answer}
 use Rattle.tect_ids.specs.declared.answer.Answer.{Answer}
 use Rattle.entry_words.specs.declared.entry.Note.TheVariants as notes
 use Rattle.passes.specs.Adding.{NotedEnd}

@@ -1,6 +1,6 @@
 use Rattle.std.proofs.Common.{◌≡◌, true, false, None, ap, ◌∙◌, arith}
 use Rattle.tect_ids.specs.Keys.{key_eq, dir_eq, name_eq}
-use Rattle.ordered_rows.specs.Maps.{set_at}
+use Rattle.map_words.specs.Maps.{set_at}
 use Rattle.name_shard.proofs.Renamed.{renamed, renamed_same}
 use Rattle.name_shard.proofs.bindings.rename_entry.Goals as goal
 

@@ -1,6 +1,6 @@
 use Rattle.std.proofs.Common.{rules}
 use Rattle.std.proofs.lemmas.Fn.{always_returns_same}
-use Rattle.ordered_rows.proofs.Finds.{searched}
+use Rattle.map_words.proofs.Finds.{searched}
 use Rattle.ordered_rows.proofs.paged.place_in.Goals as goal
 
 -- the closure compares the key of a pair

@@ -1,4 +1,4 @@
-use Rattle.tect_app.proofs.Replays.{replay_shown, replay_cut}
+use Rattle.replay_claims.proofs.Shown.{replay_shown, replay_cut}
 use Rattle.tect_app.proofs.top.play.Goals as goal
 
 pub returns-in-Ok-clause-whole : goal.returns-in-Ok-clause-whole

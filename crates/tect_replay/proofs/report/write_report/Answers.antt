@@ -1,7 +1,7 @@
 use Rattle.std.proofs.Common.{rules}
 use Rattle.std.proofs.KnownBytes.{Appends-trans}
 use Rattle.tect_replay.proofs.Results.{on_ok, on_err, on_err_by}
-use Rattle.tect_replay.proofs.Texts.{proper_then}
+use Rattle.replay_stories.proofs.Texts.{proper_then}
 use Rattle.tect_replay.proofs.ReportTexts.{line_more, report_part, all_lines}
 use Rattle.tect_replay.proofs.report.write_report.Goals as goal
 

@@ -1,6 +1,6 @@
 use Rattle.std.proofs.Common.{◌≡◌, take}
 use Rattle.std.specs.Io.KnownBytes.{Appends}
-use Rattle.tect_replay.specs.Output.{lines_text}
+use Rattle.replay_stories.specs.Output.{lines_text}
 use Rattle.tect_replay.proofs.report.write_report.Given as goal
 
 abbrev pub invariant-each : goal.invariant-each

@@ -1,9 +1,10 @@
 use Rattle.std.proofs.Common.{◌≡◌, ◌<◌, ◌≤◌, ◌+◌, [], length, get_or, refl, rules, ◌∙◌}
 use Rattle.std.proofs.KnownBytes.{Appends-nil, Appends-trans}
-use Rattle.tect_replay.specs.Plays.{PlaysLine, shown_lines}
+use Rattle.replay_stories.specs.Plays.{PlaysLine}
+use Rattle.tect_replay.specs.Shown.{shown_lines}
 use Rattle.tect_replay.proofs.Results.{on_ok, on_err, on_err_by, kept_whole}
-use Rattle.tect_replay.proofs.Reached.{played_none, can_play, played_next, text_next, cut_by, run_of_all}
-use Rattle.tect_replay.proofs.Texts.{prefix_none, prefix_whole, prefix_then, proper_then}
+use Rattle.replay_stories.proofs.Reached.{played_none, can_play, played_next, text_next, cut_by, run_of_all}
+use Rattle.replay_stories.proofs.Texts.{prefix_none, prefix_whole, prefix_then, proper_then}
 use Rattle.tect_replay.proofs.script.replay.Goals as goal
 
 pub returns-in_err-world-clause-cut : goal.returns-in_err-world-clause-cut

@@ -1,7 +1,7 @@
 use Rattle.std.proofs.Common.{◌≡◌, take}
 use Rattle.std.specs.Io.KnownBytes.{Appends}
-use Rattle.tect_replay.specs.Output.{lines_text, plan_report}
-use Rattle.tect_replay.proofs.Reached.{HasPlayed}
+use Rattle.replay_stories.specs.Output.{lines_text, plan_report}
+use Rattle.replay_stories.proofs.Reached.{HasPlayed}
 use Rattle.tect_replay.proofs.script.replay.Given as goal
 
 abbrev pub invariant-lines : goal.invariant-lines

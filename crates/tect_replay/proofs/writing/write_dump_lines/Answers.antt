@@ -1,7 +1,7 @@
 use Rattle.std.proofs.Common.{rules}
 use Rattle.std.proofs.KnownBytes.{Appends-trans}
 use Rattle.tect_replay.proofs.Results.{on_err}
-use Rattle.tect_replay.proofs.Texts.{dump_more, dump_part}
+use Rattle.replay_stories.proofs.Texts.{dump_more, dump_part}
 use Rattle.tect_replay.proofs.writing.write_dump_lines.Goals as goal
 
 pub returns-in_err-write_dump_line-clause-part : goal.returns-in_err-write_dump_line-clause-part

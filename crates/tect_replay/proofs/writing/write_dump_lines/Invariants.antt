@@ -1,7 +1,7 @@
 use Rattle.std.proofs.Common.{◌≡◌, take, map}
 use Rattle.std.specs.Io.KnownBytes.{Appends}
 use Rattle.tect_ids.specs.declared.script.ReportLine.TheVariants as lines
-use Rattle.tect_replay.specs.Output.{lines_text}
+use Rattle.replay_stories.specs.Output.{lines_text}
 use Rattle.tect_replay.proofs.writing.write_dump_lines.Given as goal
 
 abbrev pub invariant-each : goal.invariant-each

@@ -14,6 +14,6 @@ returns c =
     (take_all c.loop-machine.machine-index c.deref-machine-items.result.now (omega (arith, c.loop-machine-test.false)) ∙
     c.deref-machine-items.ensures.value)
     ∙ flat_map-map (ids_of c.args.layer) (λ m. alone (lent_as m)) c.self.inside.machines.items in
-    row_ids c.self.inside.counts (map (λ m. alone (lent_as m)) c.self.inside.machines.items) c.self.invariant c.args.layer c.requires
+    row_ids c.self.inside.counts (map (λ m. alone (lent_as m)) c.self.inside.machines.items) c.self.invariant c.args.layer
     c.loop-machine.ids.items _ all c.sort_unstable.ensures.permutation c.sort_unstable.ensures.sorted
     ∙ ap (λ (w : WholeStore). ids_of c.args.layer w.store) c.self.view_is

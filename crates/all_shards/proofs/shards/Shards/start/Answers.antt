@@ -1,6 +1,6 @@
 use Rattle.std.proofs.Common.{◌≡◌, ◌==◌, ◌+◌, ℕ, sym, ap, ◌∙◌, subst, arith}
 use Rattle.tect_ids.specs.declared.ids.Layer.{Layer}
-use Rattle.tect_ids.specs.Places.{kept_count, layer_at}
+use Rattle.tect_ids.specs.Places.{place_count, layer_at}
 use Rattle.store_rules.specs.Alone.{opening_of}
 use Rattle.all_shards.proofs.AtPlaces.{AllAt, push_at}
 use Rattle.all_shards.proofs.Stepped.{IsOpening, opening_shards, opening_together}
@@ -21,15 +21,15 @@ loop-number-preserved c =
 
 pub invariant_of-result : goal.invariant_of-result
 invariant_of-result c =
-    let all : c.loop-number.number ≡ kept_count c.args.counts =
-    omega (arith, c.loop-number-test.false, c.loop-number.auto.number-end, c.kept_count-number-end.ensures) in
+    let all : c.loop-number.number ≡ place_count c.args.counts =
+    omega (arith, c.loop-number-test.false, c.loop-number.auto.number-end, c.place_count-number-end.ensures) in
     opening_shards c.args.counts c.requires.places c.loop-number.machines.items
     (subst (λ (n : ℕ). AllAt (IsOpening c.args.counts) n c.loop-number.machines.items) all c.loop-number.invariant)
 
 pub returns : goal.returns
 returns c =
-    let all : c.loop-number.number ≡ kept_count c.args.counts =
-    omega (arith, c.loop-number-test.false, c.loop-number.auto.number-end, c.kept_count-number-end.ensures) in
+    let all : c.loop-number.number ≡ place_count c.args.counts =
+    omega (arith, c.loop-number-test.false, c.loop-number.auto.number-end, c.place_count-number-end.ensures) in
     let whole = opening_together c.args.counts c.requires.places c.loop-number.machines.items
     (subst (λ (n : ℕ). AllAt (IsOpening c.args.counts) n c.loop-number.machines.items) all c.loop-number.invariant) in
     λ i. record { counts = c.args.counts; store = whole i }

@@ -1,5 +1,5 @@
 use Rattle.std.proofs.Common.{sym}
-use Rattle.key_maps.proofs.Tables.{at_ok}
+use Rattle.map_words.proofs.Results.{at_ok}
 use Rattle.block_shard.proofs.IndexKept.{index_added, index_back, at_err}
 use Rattle.block_shard.proofs.shard.BlockShard.add_block.Goals as goal
 

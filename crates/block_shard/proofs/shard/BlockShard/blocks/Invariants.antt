@@ -1,5 +1,5 @@
 use Rattle.std.proofs.Common.{◌≡◌, map}
-use Rattle.ordered_rows.specs.Pairs.{pair_of}
+use Rattle.map_words.specs.Pairs.{pair_of}
 use Rattle.block_shard.proofs.shard.BlockShard.blocks.Given as goal
 
 abbrev pub invariant-loop-blk : goal.invariant-loop-blk

@@ -1,5 +1,5 @@
 use Rattle.std.proofs.Common.{◌≡◌, map}
-use Rattle.ordered_rows.specs.Pairs.{pair_of}
+use Rattle.map_words.specs.Pairs.{pair_of}
 use Rattle.store_rules.specs.Dumps.{block_line}
 use Rattle.block_shard.proofs.shard.BlockShard.dump.Given as goal
 

@@ -6,7 +6,7 @@ use Rattle.std.proofs.lemmas.List.{map-append}
 use Rattle.tect_ids.specs.declared.ids.DiskId.{DiskId}
 use Rattle.tect_ids.specs.declared.key.ChunkKey.{ChunkKey}
 use Rattle.tect_ids.specs.Keys.{disk_eq}
-use Rattle.ordered_rows.specs.Pairs.{left, pair_of}
+use Rattle.map_words.specs.Pairs.{left, pair_of}
 use Rattle.disk_store.proofs.OnceEach.{last_disk, last_disk-more, dedup-again, dedup-another, once_keys}
 use Rattle.disk_store.proofs.shard.Disk.disks.Goals as goal
 

@@ -1,7 +1,7 @@
 use Rattle.std.proofs.Common.{◌≡◌, map}
 use Rattle.std.specs.List.{dedup}
 use Rattle.tect_ids.specs.Keys.{disk_eq}
-use Rattle.ordered_rows.specs.Pairs.{pair_of}
+use Rattle.map_words.specs.Pairs.{pair_of}
 use Rattle.disk_store.proofs.OnceEach.{last_disk}
 use Rattle.disk_store.proofs.shard.Disk.disks.Given as goal
 

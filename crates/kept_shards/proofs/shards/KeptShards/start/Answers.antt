@@ -1,5 +1,5 @@
 use Rattle.std.proofs.Common.{◌≡◌, ℕ, subst, arith}
-use Rattle.tect_ids.specs.Places.{kept_count}
+use Rattle.tect_ids.specs.Places.{place_count}
 use Rattle.all_shards.proofs.AtPlaces.{AllAt, push_at}
 use Rattle.kept_shards.proofs.Started.{IsNew, all_new, all_open, all_started}
 use Rattle.kept_shards.proofs.shards.KeptShards.start.Goals as goal
@@ -13,8 +13,8 @@ loop-number-preserved c =
 
 pub invariant_of-result : goal.invariant_of-result
 invariant_of-result c =
-    let all : c.loop-number.number ≡ kept_count c.args.counts =
-    omega (arith, c.loop-number-test.false, c.loop-number.auto.number-end, c.kept_count-number-end.ensures) in
+    let all : c.loop-number.number ≡ place_count c.args.counts =
+    omega (arith, c.loop-number-test.false, c.loop-number.auto.number-end, c.place_count-number-end.ensures) in
     let new = subst (λ (n : ℕ). AllAt (IsNew c.args.counts) n c.loop-number.kepts.items) all c.loop-number.invariant in
     record {
       shards = (all_open c.args.counts c.requires c.loop-number.kepts.items new).1;
@@ -23,8 +23,8 @@ invariant_of-result c =
 
 pub returns : goal.returns
 returns c =
-    let all : c.loop-number.number ≡ kept_count c.args.counts =
-    omega (arith, c.loop-number-test.false, c.loop-number.auto.number-end, c.kept_count-number-end.ensures) in
+    let all : c.loop-number.number ≡ place_count c.args.counts =
+    omega (arith, c.loop-number-test.false, c.loop-number.auto.number-end, c.place_count-number-end.ensures) in
     let new = subst (λ (n : ℕ). AllAt (IsNew c.args.counts) n c.loop-number.kepts.items) all c.loop-number.invariant in
     let store = (all_open c.args.counts c.requires c.loop-number.kepts.items new).0 in
     let none = all_new c.args.counts c.requires c.loop-number.kepts.items new in

@@ -1,10 +1,18 @@
-use Rattle.layers.proofs.Elsewhere.{no_lines_but_files, no_lines_but_names}
+use Rattle.layers.proofs.Elsewhere.{none_added, none_by_blocks, none_by_chunks, none_by_files, none_by_names}
 use Rattle.layers.proofs.lent.LentMachine.add_lines.Goals as goal
 
 pub returns-in_default : goal.returns-in_default
 returns-in_default c =
-    rw c.in-Name.is (no_lines_but_names c.in-Name.shard.now c.args.layer c.args.id c.args.lines.now.items c.in_default.not-Names)
+    rw c.in-Name.is (none_added _ _ ((none_by_names c.in-Name.shard.now c.args.layer c.in_default.not-Names).1 c.args.id))
 
 pub returns-in_default-layer : goal.returns-in_default-layer
 returns-in_default-layer c =
-    rw c.in-File.is (no_lines_but_files c.in-File.shard.now c.args.layer c.args.id c.args.lines.now.items c.in_default-layer.not-Files)
+    rw c.in-File.is (none_added _ _ ((none_by_files c.in-File.shard.now c.args.layer c.in_default-layer.not-Files).1 c.args.id))
+
+pub returns-in_default-layer-2 : goal.returns-in_default-layer-2
+returns-in_default-layer-2 c =
+    rw c.in-Block.is (none_added _ _ ((none_by_blocks c.in-Block.shard.now c.args.layer c.in_default-layer-2.not-Blocks).1 c.args.id))
+
+pub returns-in_default-layer-3 : goal.returns-in_default-layer-3
+returns-in_default-layer-3 c =
+    rw c.in-Disk.is (none_added _ _ ((none_by_chunks c.in-Disk.disk.now c.args.layer c.in_default-layer-3.not-Disks).1 c.args.id))

@@ -1,5 +1,5 @@
 use Rattle.std.proofs.Common.{◌≡◌, map}
-use Rattle.ordered_rows.specs.Pairs.{pair_of}
+use Rattle.map_words.specs.Pairs.{pair_of}
 use Rattle.name_shard.proofs.shard.NameShard.dirs.Given as goal
 
 abbrev pub invariant-loop-dir : goal.invariant-loop-dir

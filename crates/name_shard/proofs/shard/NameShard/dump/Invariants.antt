@@ -1,6 +1,6 @@
 use Rattle.std.proofs.Common.{◌≡◌, map}
 use Rattle.std.specs.List.{flat_map}
-use Rattle.ordered_rows.specs.Pairs.{pair_of}
+use Rattle.map_words.specs.Pairs.{pair_of}
 use Rattle.store_rules.specs.Dumps.{dir_lines}
 use Rattle.name_shard.proofs.shard.NameShard.dump.Given as goal
 

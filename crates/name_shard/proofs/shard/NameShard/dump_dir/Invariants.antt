@@ -1,5 +1,5 @@
 use Rattle.std.proofs.Common.{◌≡◌, map, ◌++◌, ◌∷◌}
-use Rattle.ordered_rows.specs.Pairs.{pair_of}
+use Rattle.map_words.specs.Pairs.{pair_of}
 use Rattle.store_rules.specs.Dumps.{dir_line, entry_line}
 use Rattle.name_shard.proofs.shard.NameShard.dump_dir.Given as goal
 

@@ -1,7 +1,7 @@
 use Rattle.std.proofs.Common.{◌≡◌, sym}
 use Rattle.ordered_rows.proofs.PageEdits.{count_shown}
 use Rattle.ordered_rows.specs.Pages.{shown, IsPageOf}
-use Rattle.ordered_rows.specs.Places.{IsAt}
+use Rattle.map_words.specs.Places.{IsAt}
 use Rattle.ordered_rows.proofs.InPages.{same_at, page_rises, v_found, v_absent}
 use Rattle.ordered_rows.proofs.paged.Rows.get.Goals as goal
 
@@ -26,7 +26,8 @@ returns-in-Ok-clause-value g c =
     let total = g.met.K.Ord.total in
     let rising = c.self.invariant.rising in
     let one : c.index.result.now ≡ c.index-in-Ok.result.now =
-    same_at pages i c.index.result.now c.index-in-Ok.result.now (rw (count_shown pages) at of.in_range) c.index.ensures c.index-in-Ok.ensures in
+    same_at pages i c.index.result.now c.index-in-Ok.result.now (rw (count_shown pages) at of.in_range)
+    c.index.ensures c.index-in-Ok.ensures in
     let at : IsAt R k c.index.result.now.items c.in-Ok.j = rw c.deref.ensures.value at c.in-Ok.ensures.found in
     let found = v_found R total k pages i of c.index.result.now c.index.ensures rising c.in-Ok.j c.index-in-Ok-2.result.now at
     (rw one c.index-in-Ok-2.ensures) in

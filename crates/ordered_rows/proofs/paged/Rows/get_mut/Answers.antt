@@ -2,7 +2,7 @@ use Rattle.std.proofs.Common.{◌≡◌, inr, refl, sym, ap, slice_set}
 use Rattle.std.specs.Vec.{with_item}
 use Rattle.ordered_rows.specs.Pairs.{set_value}
 use Rattle.ordered_rows.specs.Pages.{shown, IsPageOf}
-use Rattle.ordered_rows.specs.Places.{IsAt}
+use Rattle.map_words.specs.Places.{IsAt}
 use Rattle.ordered_rows.proofs.PageEdits.{count_shown}
 use Rattle.ordered_rows.proofs.InPages.{lent_alike, same_at, page_rises, v_found, v_absent, v_set, v_rows}
 use Rattle.ordered_rows.proofs.paged.Rows.get_mut.Goals as goal
@@ -28,7 +28,8 @@ returns-in-Ok g c =
     let total = g.met.K.Ord.total in
     let rising = c.self.invariant.rising in
     let one : c.index.result.now ≡ c.index_mut.result.now =
-    same_at pages i c.index.result.now c.index_mut.result.now (rw (count_shown pages) at of.in_range) c.index.ensures c.index_mut.ensures.value in
+    same_at pages i c.index.result.now c.index_mut.result.now (rw (count_shown pages) at of.in_range)
+    c.index.ensures c.index_mut.ensures.value in
     let at : IsAt R k c.index_mut.result.now.items c.in-Ok.j = rw (← one, ← c.deref.ensures.value) c.in-Ok.ensures.found in
     let e = c.index_mut-in-Ok.result.now in
     let found = v_found R total k pages i of c.index_mut.result.now c.index_mut.ensures.value rising c.in-Ok.j e at
@@ -75,7 +76,8 @@ invariant_of-self-lent g c w =
     let total = g.met.K.Ord.total in
     let rising = c.self.invariant.rising in
     let one : c.index.result.now ≡ c.index_mut.result.now =
-    same_at pages i c.index.result.now c.index_mut.result.now (rw (count_shown pages) at of.in_range) c.index.ensures c.index_mut.ensures.value in
+    same_at pages i c.index.result.now c.index_mut.result.now (rw (count_shown pages) at of.in_range)
+    c.index.ensures c.index_mut.ensures.value in
     let at : IsAt R k c.index_mut.result.now.items c.in-Ok.j = rw (← one, ← c.deref.ensures.value) c.in-Ok.ensures.found in
     let e = c.index_mut-in-Ok.result.now in
     v_rows R total k pages i of c.index_mut.result.now c.index_mut.ensures.value rising c.in-Ok.j e at

@@ -3,7 +3,7 @@ use Rattle.std.specs.FinMap.{find, put}
 use Rattle.ordered_rows.specs.Pairs.{pairs}
 use Rattle.ordered_rows.proofs.PageEdits.{count_shown}
 use Rattle.ordered_rows.specs.Pages.{shown, IsPageOf}
-use Rattle.ordered_rows.specs.Places.{IsAt}
+use Rattle.map_words.specs.Places.{IsAt}
 use Rattle.ordered_rows.proofs.InPages.{same_at, if_ok_weaker, page_rises, v_found, v_absent, v_put, v_rows}
 use Rattle.ordered_rows.proofs.paged.Rows.put.Goals as goal
 
@@ -28,10 +28,11 @@ invariant_of-self g c =
     let total = g.met.K.Ord.total in
     let rising = c.self.invariant.rising in
     let one : c.index.result.now ≡ c.index_mut.result.now =
-    same_at pages i c.index.result.now c.index_mut.result.now (rw (count_shown pages) at of.in_range) c.index.ensures c.index_mut.ensures.value in
+    same_at pages i c.index.result.now c.index_mut.result.now (rw (count_shown pages) at of.in_range)
+    c.index.ensures c.index_mut.ensures.value in
     let at : IsAt R k c.index_mut.result.now.items c.in-Ok.j = rw (← one, ← c.deref.ensures.value) c.in-Ok.ensures.found in
-    v_rows R total k pages i of c.index_mut.result.now c.index_mut.ensures.value rising c.in-Ok.j c.index_mut-in-Ok.result.now at
-    c.index_mut-in-Ok.ensures.value c.replace.new.dest _ refl c.self.inside.count c.self.invariant refl
+    v_rows R total k pages i of c.index_mut.result.now c.index_mut.ensures.value rising c.in-Ok.j
+    c.index_mut-in-Ok.result.now at c.index_mut-in-Ok.ensures.value c.replace.new.dest _ refl c.self.inside.count c.self.invariant refl
 
 pub returns-in-Ok-clause-stored : goal.returns-in-Ok-clause-stored
 returns-in-Ok-clause-stored g c =
@@ -43,10 +44,11 @@ returns-in-Ok-clause-stored g c =
     let total = g.met.K.Ord.total in
     let rising = c.self.invariant.rising in
     let one : c.index.result.now ≡ c.index_mut.result.now =
-    same_at pages i c.index.result.now c.index_mut.result.now (rw (count_shown pages) at of.in_range) c.index.ensures c.index_mut.ensures.value in
+    same_at pages i c.index.result.now c.index_mut.result.now (rw (count_shown pages) at of.in_range)
+    c.index.ensures c.index_mut.ensures.value in
     let at : IsAt R k c.index_mut.result.now.items c.in-Ok.j = rw (← one, ← c.deref.ensures.value) c.in-Ok.ensures.found in
-    let placed = v_put R total k pages i of c.index_mut.result.now c.index_mut.ensures.value rising c.in-Ok.j c.index_mut-in-Ok.result.now at
-    c.index_mut-in-Ok.ensures.value c.replace.new.dest _ refl in
+    let placed = v_put R total k pages i of c.index_mut.result.now c.index_mut.ensures.value rising c.in-Ok.j
+    c.index_mut-in-Ok.result.now at c.index_mut-in-Ok.ensures.value c.replace.new.dest _ refl in
     placed ∙ ap (λ x. put R k x (pairs (shown pages))) c.replace.ensures.after ∙ ap (λ p. put R k c.args.value (pairs p)) c.self.view_is
 
 pub returns-in-Ok-clause-replaced : goal.returns-in-Ok-clause-replaced
@@ -59,10 +61,11 @@ returns-in-Ok-clause-replaced g c =
     let total = g.met.K.Ord.total in
     let rising = c.self.invariant.rising in
     let one : c.index.result.now ≡ c.index_mut.result.now =
-    same_at pages i c.index.result.now c.index_mut.result.now (rw (count_shown pages) at of.in_range) c.index.ensures c.index_mut.ensures.value in
+    same_at pages i c.index.result.now c.index_mut.result.now (rw (count_shown pages) at of.in_range)
+    c.index.ensures c.index_mut.ensures.value in
     let at : IsAt R k c.index_mut.result.now.items c.in-Ok.j = rw (← one, ← c.deref.ensures.value) c.in-Ok.ensures.found in
-    let found = v_found R total k pages i of c.index_mut.result.now c.index_mut.ensures.value rising c.in-Ok.j c.index_mut-in-Ok.result.now at
-    c.index_mut-in-Ok.ensures.value in
+    let found = v_found R total k pages i of c.index_mut.result.now c.index_mut.ensures.value rising c.in-Ok.j
+    c.index_mut-in-Ok.result.now at c.index_mut-in-Ok.ensures.value in
     rw c.replace.ensures.value (sym (rw c.self.view_is at found))
 
 pub returns-in-Err-clause-replaced : goal.returns-in-Err-clause-replaced

@@ -5,7 +5,7 @@ use Rattle.std.specs.List.{insert}
 use Rattle.std.proofs.lemmas.List.Edits.{length-insert}
 use Rattle.ordered_rows.specs.Pairs.{pairs}
 use Rattle.ordered_rows.specs.Pages.{page_at, shown, IsPageOf}
-use Rattle.ordered_rows.specs.Places.{IsGap}
+use Rattle.map_words.specs.Places.{IsGap}
 use Rattle.ordered_rows.proofs.InPages.{put_gap_there, length_set}
 use Rattle.ordered_rows.proofs.paged.Rows.put_new.Goals as goal
 

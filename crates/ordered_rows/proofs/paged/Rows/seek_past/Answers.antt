@@ -1,8 +1,10 @@
-use Rattle.std.proofs.Common.{◌≡◌, ◌<◌, ◌≤◌, ◌-◌, get_or, ◌++◌, suc, rules, length, true, false, Vec, Global, take, drop, sym, ap, ◌∙◌, arith}
+use Rattle.std.proofs.Common.{◌≡◌, ◌<◌, ◌≤◌, ◌-◌, get_or, ◌++◌, suc, rules, length, true, false, Vec}
+use Rattle.std.proofs.Common.{Global, take, drop, sym, ap, ◌∙◌, arith}
 use Rattle.std.specs.Prelude.{All}
 use Rattle.std.proofs.lemmas.Fn.{always_returns_same}
 use Rattle.std.proofs.lemmas.List.Elements.{All-take, All-drop}
-use Rattle.ordered_rows.specs.Pairs.{pairs, pairs_past, IsRising}
+use Rattle.ordered_rows.specs.Pairs.{pairs}
+use Rattle.map_words.specs.Pairs.{pairs_past, IsRising}
 use Rattle.ordered_rows.specs.Pages.{starts, shown, page_at, IsPaged}
 use Rattle.ordered_rows.proofs.Shown.{partitioned_map, parted_map}
 use Rattle.ordered_rows.proofs.PageEdits.{count_shown, shown_at}
@@ -72,6 +74,7 @@ returns-clause-rest g c p tests closed =
     let rest = c.past.ensures p tests closed in
     let behind : c.deref-3.result.now ≡ pages = c.deref-3.ensures.value ∙ sym c.deref.ensures.value in
     let made = rw behind at c.new.ensures in
-    made ∙ ap (λ x. x ++ pairs (shown (take (length pages - n) (drop n pages)))) (rest ∙ ap (pairs_past p) (c.deref-2.ensures.value ∙ sym here))
+    made ∙ ap (λ x. x ++ pairs (shown (take (length pages - n) (drop n pages))))
+    (rest ∙ ap (pairs_past p) (c.deref-2.ensures.value ∙ sym here))
     ∙ ap (λ x. pairs_past p (page_at (shown pages) i) ++ pairs x) (shown_from pages n) ∙ sym all
     ∙ ap (λ x. pairs_past p (pairs (shown x))) c.deref.ensures.value ∙ ap (λ x. pairs_past p (pairs x)) c.self.view_is

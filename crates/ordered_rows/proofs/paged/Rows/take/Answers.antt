@@ -2,10 +2,11 @@ use Rattle.std.proofs.Common.{length, sym, ap, ◌∙◌, arith}
 use Rattle.std.specs.FinMap.Entries.{is_sorted-where_key}
 use Rattle.std.specs.List.{remove}
 use Rattle.std.proofs.lemmas.List.Edits.{length-remove}
-use Rattle.ordered_rows.specs.Pairs.{pairs, without}
+use Rattle.ordered_rows.specs.Pairs.{pairs}
+use Rattle.map_words.specs.Pairs.{without}
 use Rattle.ordered_rows.proofs.PageEdits.{shown_at, count_shown}
 use Rattle.ordered_rows.specs.Pages.{page_at, shown, IsPageOf}
-use Rattle.ordered_rows.specs.Places.{IsAt}
+use Rattle.map_words.specs.Places.{IsAt}
 use Rattle.ordered_rows.proofs.InPages.{page_rises, v_absent, v_stays, find_at_there, without_at_there, length_set}
 use Rattle.ordered_rows.proofs.paged.Rows.take.Goals as goal
 

@@ -1,6 +1,6 @@
 use Rattle.std.proofs.Common.{◌≡◌, ◌++◌, map}
 use Rattle.std.specs.FinMap.{entries}
-use Rattle.key_maps.specs.Maps.{within}
+use Rattle.key_words.specs.Maps.{within}
 use Rattle.tree_model.specs.Tree.{as_listed}
 use Rattle.tree_model.proofs.tree.Tree.listed.Given as goal
 

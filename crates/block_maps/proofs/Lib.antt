@@ -1,0 +1,3 @@
+pub mod ChunkFront
+pub mod DiskIndexes
+pub mod MapRows

@@ -1,0 +1,3 @@
+pub mod BlockLookups
+pub mod Counts
+pub mod Lookups

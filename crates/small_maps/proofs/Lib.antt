@@ -1,0 +1,2 @@
+pub mod HoldRows
+pub mod RowsOfBlocks

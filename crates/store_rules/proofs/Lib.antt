@@ -1,3 +1,0 @@
-pub mod Clones
-pub mod Equals
-pub mod Asked
