@@ -30,9 +30,13 @@ pub struct Actor<P: Programs> {
 }
 
 impl<P: Programs> Model for Actor<P> {
+    ghost use Rattle.std.specs.Coded.{codes};
     ghost use Rattle.clients.specs.ActorState.{ActorState};
+    ghost use Rattle.memories.specs.Codes.{opened_files_code};
 
     ghost Value = { ActorState P };
+
+    ghost coded = { Prim.hlevel (codes, opened_files_code, P.code) };
 
     ghost use Rattle.clients.specs.ActorInside.{state_of, HasNoRoom};
 
