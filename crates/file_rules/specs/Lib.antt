@@ -1,0 +1,6 @@
+pub mod Finds
+pub mod Placing
+pub mod Open
+pub mod Append
+pub mod Blocks
+pub mod Read

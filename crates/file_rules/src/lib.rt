@@ -1,0 +1,9 @@
+//! What each command on the contents of files asks, and how it goes on at a reply: its states, and its rules as functions. The rules of a
+//! command stand in a file of `specs` with its name.
+#![tactic(auto)]
+
+mod gathered;
+mod states;
+
+pub use gathered::Gathered;
+pub use states::{Append, Appending, Blocks, Open, Read, Reading};
