@@ -14,7 +14,8 @@ planned=$(sed -n '/^pub enum Command/,/^}/s/^    \([A-Z][A-Za-z]*\).*/\1/p' tect
     while IFS= read -r variant; do
         [ "$variant" = Drop ] || grep -q "^is_served (commands\.${variant}[ )]" $served || printf '%s|' "$variant"
     done)
-planned="\\b(${planned%|})\\b"
+# Not behind another name: a value that the small machine shows may be called so too.
+planned="(^|[^.A-Za-z_]|commands\\.)(${planned%|})\\b"
 
 files() {
     sed -n 's/^\([a-z_]*\):.*/\1/p' ../crates.txt | while IFS= read -r crate; do
