@@ -15,7 +15,7 @@ planned=$(sed -n '/^pub enum Command/,/^}/s/^    \([A-Z][A-Za-z]*\).*/\1/p' tect
         [ "$variant" = Drop ] || grep -q "^is_served (commands\.${variant}[ )]" $served || printf '%s|' "$variant"
     done)
 # Not behind another name: a value that the small machine shows may be called so too.
-planned="(^|[^.A-Za-z_]|commands\\.)(${planned%|})\\b"
+planned="(^|[^.A-Za-z_]|(commands|verbs)\\.)(${planned%|})\\b"
 
 files() {
     sed -n 's/^\([a-z_]*\):.*/\1/p' ../crates.txt | while IFS= read -r crate; do
