@@ -202,4 +202,4 @@ not_rooted c n places other = by (n == place_number c layers.Names 1) refl
     by false e = refl
     by true e =
         let here : n ≡ place_number c layers.Names 1 = grind (arith, num_eq_cases n (place_number c layers.Names 1)) in
-        absurd (other (ap (layer_at c) here ∙ has_layer c layers.Names 1 places refl))
+        absurd (other (ap (layer_at c) here ∙ has_layer c layers.Names 1 places))
