@@ -1,19 +1,42 @@
 """A small model of the store in Python, written apart from the program: what a replay of a script writes, and what a race by one
 worker writes, which does the same in the same order and tells it client by client.
 
-Shards are not modelled: whatever their number, the store is one. A command is a generator that yields once before each of its
-transactions, so that a script may stop it between any two.
+Shards are not modelled: whatever their number, the store is one. Disks are, since a dump shows what each of them keeps. A command is a
+generator that yields once before each of its transactions, so that a script may stop it between any two. What it decides by what its
+client knows alone, it decides before the first.
 """
 
 ROOT = 1
+MOST_ROWS = 4096
+GOLDEN = 0x9E3779B97F4A7C15
+
+
+def op_text(op):
+    return "none" if op is None else "%d.%d" % op
+
+
+class Block:
+    """Its bytes' length, whether it is sealed, the holds of rows of files, and its rows: disk and number of the tag."""
+
+    def __init__(self, length, hold, rows):
+        self.length = length
+        self.sealed = False
+        self.holds = {hold}
+        self.rows = rows
 
 
 class Store:
-    def __init__(self):
+    def __init__(self, disks=0, copies=0):
+        self.disks = disks
+        self.copies = copies
         self.parents = {ROOT: 0}
         self.entries = {ROOT: {}}
         self.dir_holds = {ROOT: set()}
         self.file_holds = {}
+        self.tokens = {}
+        self.rows = {}
+        self.blocks = {}
+        self.chunks = {}
 
     def holds(self, node):
         kind, number = node
@@ -48,7 +71,14 @@ class Store:
                 (kind, number), _ = entries[name]
                 yield f"entry {folder} {name} {kind} {number}"
         for number in sorted(self.file_holds):
-            yield f"file {number} open token none blocks 0 holds {len(self.file_holds[number])}"
+            token = op_text(self.tokens.get(number))
+            yield f"file {number} open token {token} blocks {len(self.rows[number])} holds {len(self.file_holds[number])}"
+        for number in sorted(self.blocks):
+            block = self.blocks[number]
+            version = 1 if block.sealed else 0
+            yield f"block {number} len {block.length} version {version} rows {len(block.rows)} holds {len(block.holds)}"
+        for disk, number, tag in sorted(self.chunks):
+            yield f"chunk {disk} {number} {op_text(tag[0])}.{tag[1]} {len(self.chunks[disk, number, tag])}"
 
 
 class Client:
@@ -58,6 +88,7 @@ class Client:
         self.begun = 0
         self.running = None
         self.steps = 0
+        self.opened = {}
 
     def take_number(self):
         taken = self.number * 2**32 + self.serial
@@ -120,6 +151,7 @@ def make(store, client, hold, path, kind):
         store.dir_holds[number] = {hold}
     else:
         store.file_holds[number] = {hold}
+        store.rows[number] = []
     node = (kind, number)
     yield
     old = store.entries[folder].get(names[-1])
@@ -208,7 +240,116 @@ def over_refusal(node, over):
     return "exists" if node[0] == "dir" else None
 
 
-COMMANDS = {"look": look, "list": list_entries, "create": create, "mkdir": mkdir, "delete": delete, "rename": rename}
+def find_file(store, path):
+    """The file to which the path leads, or a refusal."""
+    names = names_of(path)
+    if not names:
+        return None, "is-dir"
+    folder, refusal = yield from walk(store, names[:-1])
+    if refusal:
+        return None, refusal
+    yield
+    found, refusal = store.look(folder, names[-1])
+    if refusal:
+        return None, refusal
+    (kind, number), _ = found
+    return (None, "is-dir") if kind == "dir" else (number, None)
+
+
+def open_file(store, client, op, path):
+    file, refusal = yield from find_file(store, path)
+    if refusal:
+        return refusal
+    yield
+    if file not in store.file_holds:
+        return "no-file"
+    store.tokens[file] = op
+    client.opened[path] = file, op
+    return f"ok file {file} token {op_text(op)}"
+
+
+def disks_of(store, number):
+    """Where the copies of a block lie: from a disk that its number tells, upwards and round."""
+    first = (number * GOLDEN % 2**64 >> 32) % store.disks
+    return [(first + part) % store.disks for part in range(store.copies)]
+
+
+def append(store, client, op, path, text):
+    if path not in client.opened:
+        return "not-open"
+    if store.disks < store.copies:
+        return f"few-disks {store.disks} {store.copies}"
+    file, token = client.opened[path]
+    content = bytes.fromhex(text)
+    yield
+    number = client.take_number()
+    rows = [(disk, (op, part)) for part, disk in enumerate(disks_of(store, number))]
+    block = store.blocks[number] = Block(len(content), op, rows)
+    for disk, tag in rows:
+        yield
+        store.chunks[disk, number, tag] = content
+    yield
+    block.sealed = True
+    yield
+    refusal = attach_refusal(store, file, token)
+    if refusal:
+        yield
+        block.holds.discard(op)
+        return refusal
+    store.rows[file].append(number)
+    return f"ok block {number} at {len(store.rows[file]) - 1}"
+
+
+def attach_refusal(store, file, token):
+    """A file takes a block of the client alone that opened it last, and as long as it has room."""
+    if file not in store.file_holds:
+        return "no-file"
+    if store.tokens[file] != token:
+        return f"token-changed {op_text(store.tokens[file])}"
+    return f"full {file}" if len(store.rows[file]) >= MOST_ROWS else None
+
+
+def blocks_of(store, path):
+    """The blocks of the file to which the path leads, as they are now, or a refusal."""
+    file, refusal = yield from find_file(store, path)
+    if refusal:
+        return None, refusal
+    yield
+    return ([*store.rows[file]], None) if file in store.file_holds else (None, "no-file")
+
+
+def list_blocks(store, client, op, path):
+    numbers, refusal = yield from blocks_of(store, path)
+    if refusal:
+        return refusal
+    return f"ok {len(numbers)}" + "".join(f" {number} {store.blocks[number].length}" for number in numbers)
+
+
+def read(store, client, op, path):
+    numbers, refusal = yield from blocks_of(store, path)
+    if refusal:
+        return refusal
+    content = b""
+    for number in numbers:
+        yield
+        disk, tag = min(store.blocks[number].rows)
+        yield
+        content += store.chunks[disk, number, tag]
+    return f"ok {len(content)}" + (f" {content.hex()}" if content else "")
+
+
+COMMANDS = {
+    "look": look,
+    "list": list_entries,
+    "create": create,
+    "mkdir": mkdir,
+    "delete": delete,
+    "rename": rename,
+    "open": open_file,
+    "append": append,
+    "blocks": list_blocks,
+    "read": read,
+}
 
 
 class Replay:
@@ -252,7 +393,10 @@ class Replay:
             most -= 1
 
     def line(self, line):
-        if line.startswith(("#", "store ")):
+        if line.startswith("#"):
+            return
+        if line.startswith("store "):
+            self.store = Store(*map(int, line.split(" ")[4:]))
             return
         if line == "dump":
             self.end_part()

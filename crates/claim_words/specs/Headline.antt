@@ -1,36 +1,19 @@
 -- What is claimed of the answers of a history: each is the one that the small machine gives at the command's point.
-use Rattle.std.specs.Prelude.{◌≡◌, ℕ, true, if◌then◌else◌, Option, Some, None, List, [], ◌∷◌, take, slice_get, ◌⊎◌}
+use Rattle.std.specs.Prelude.{◌≡◌, ℕ, true, Some, List, [], take, slice_get, ◌⊎◌}
+use Rattle.tect_ids.specs.declared.ids.Counts.{Counts}
 use Rattle.tect_ids.specs.declared.ids.OpId.{OpId}
 use Rattle.tect_ids.specs.declared.command.Command.{Command}
 use Rattle.tect_ids.specs.declared.answer.Answer.{Answer}
-use Rattle.tect_ids.specs.Keys.{op_eq}
 use Rattle.tree_model.specs.Tree.{opening_tree}
 use Rattle.world_runs.specs.declared.event.Event.{Event}
-use Rattle.world_runs.specs.declared.event.Event.TheVariants.{Own, Dumped}
-use Rattle.world_runs.specs.declared.event.Happening.TheVariants.{Began, NotBegun, Acted, Ended, Stopped, Failed}
+use Rattle.world_runs.specs.declared.event.Event.TheVariants.{Own}
+use Rattle.world_runs.specs.declared.event.Happening.TheVariants.{Began, Ended}
 use Rattle.world_runs.specs.Refusals.{was_refused}
 use Rattle.program_forms.specs.Lacks.{no_room}
+pub use Rattle.claim_words.specs.Commands.{begun_by, or_later, command_of}
 use Rattle.claim_words.specs.TreeSteps.{tree_steps, IsTreeRun}
 use Rattle.claim_words.specs.Points.{of_op}
 use Rattle.claim_words.specs.Because.{because}
-
-abbrev pub begun_by : Event → OpId → Option Command
-begun_by (Own other (Began c)) op = if op_eq other op then Some c else None
-begun_by (Own other (NotBegun c)) op = None
-begun_by (Own other (Acted q x h)) op = None
-begun_by (Own other (Ended a)) op = None
-begun_by (Own other Stopped) op = None
-begun_by (Own other (Failed a)) op = None
-begun_by Dumped op = None
-
-abbrev pub or_later : Option Command → Option Command → Option Command
-or_later None later = later
-or_later (Some c) later = Some c
-
--- the command that the op began
-abbrev pub command_of : List Event → OpId → Option Command
-command_of [] op = None
-command_of (e ∷ es) op = or_later (begun_by e op) (command_of es op)
 
 -- the history explains the op's answer, by what explains answers
 pub record ExplainsBy (why : List Event → OpId → Command → Answer → Type 0) (history : List Event) (op : OpId) (a : Answer) : Type 0 where
@@ -38,8 +21,8 @@ pub record ExplainsBy (why : List Event → OpId → Command → Answer → Type
   pub begun : command_of history op ≡ Some command
   pub because : why history op command a
 
-abbrev pub Explains : List Event → OpId → Answer → Type 0
-Explains history op a = ExplainsBy because history op a
+abbrev pub Explains : Counts → List Event → OpId → Answer → Type 0
+Explains counts history op a = ExplainsBy (because counts) history op a
 
 -- the answer of a refused op says that there was no room
 abbrev pub HadNoRoom : List Event → OpId → Answer → Type 0
@@ -54,5 +37,5 @@ pub record HeadlineBy (why : List Event → OpId → Command → Answer → Type
   pub answers : (place : ℕ) (op : OpId) (a : Answer) → slice_get history place ≡ Some (Own op (Ended a))
       → ExplainsBy why (take place history) op a ⊎ HadNoRoom (take place history) op a
 
-abbrev pub Headline : List Event → Type 0
-Headline history = HeadlineBy because history
+abbrev pub Headline : Counts → List Event → Type 0
+Headline counts history = HeadlineBy (because counts) history

@@ -1,7 +1,10 @@
 pub mod Sound
 pub mod Granted
+pub mod Commands
 pub mod TreeSteps
 pub mod Points
+pub mod Opened
 pub mod NamesBecause
+pub mod FilesBecause
 pub mod Because
 pub mod Headline

@@ -1,4 +1,4 @@
--- What explains the answer of a command on names: its point, or that it lacks a name.
+-- What explains the answer of any command: its point, or that it lacks a name.
 use Rattle.std.specs.Prelude.{◌≡◌, List, ◌⊎◌}
 use Rattle.tect_ids.specs.declared.ids.OpId.{OpId}
 use Rattle.tect_ids.specs.declared.command.Command.{Command}

@@ -1,6 +1,8 @@
--- The paths of commands on names, and the point of a command: the step of the small machine at which its answer is decided.
+-- The paths of commands, and the point of a command: the step of the small machine at which its answer is decided.
 use Rattle.std.specs.Prelude.{◌≡◌, ℕ, if◌then◌else◌, List, [], ◌∷◌, ◌++◌, ◌⊎◌, max, length}
+use Rattle.tect_ids.specs.declared.ids.BlkId.{BlkId}
 use Rattle.tect_ids.specs.declared.ids.DirId.{DirId}
+use Rattle.tect_ids.specs.declared.ids.FileId.{FileId}
 use Rattle.tect_ids.specs.declared.ids.Node.{Node}
 use Rattle.tect_ids.specs.declared.ids.Node.TheVariants.{Dir, File}
 use Rattle.tect_ids.specs.declared.ids.OpId.{OpId}
@@ -32,6 +34,9 @@ way (commands.Create p) = but_last p
 way (commands.Mkdir p) = but_last p
 way (commands.Delete p) = but_last p
 way (commands.Rename p to) = but_last p
+way (commands.Open p) = but_last p
+way (commands.Blocks p) = but_last p
+way (commands.Read p) = but_last p
 way _ = []
 
 -- the path that a command walks; of a rename the one of the old name
@@ -42,10 +47,14 @@ first_path (commands.Create p) = p
 first_path (commands.Mkdir p) = p
 first_path (commands.Delete p) = p
 first_path (commands.Rename p to) = p
+first_path (commands.Open p) = p
+first_path (commands.Blocks p) = p
+first_path (commands.Read p) = p
 first_path _ = []
 
--- at most how many names a command looks up: each of its path, and one for a path without names
+-- at most how many names a command looks up: each of its path, and one for a path without names; an append looks up none
 abbrev pub most_looks : Command → ℕ
+most_looks (commands.Append p bytes) = 0
 most_looks c = max (length (first_path c)) 1
 
 -- ---- its point
@@ -110,12 +119,44 @@ abbrev pub FindsSource : Key → List ℕ → TreeReply → Answer → Type 0
 FindsSource k to (Refused why) a = a ≡ refusal_answer k why
 FindsSource k to (Ok x) a = (k.name ≡ to) × (a ≡ answers.Done)
 
+-- a look for a file ends the command where it is refused, and where it finds a directory
+abbrev pub FindsNoFile : Key → TreeReply → Answer → Type 0
+FindsNoFile k (Refused why) a = a ≡ refusal_answer k why
+FindsNoFile k (Ok (shown.Node (Dir d))) a = a ≡ answers.IsDir
+FindsNoFile k (Ok (shown.Node (File f))) a = ⊥
+FindsNoFile k (Ok shown.Done) a = ⊥
+FindsNoFile k (Ok (shown.Parent p sealed)) a = ⊥
+FindsNoFile k (Ok (shown.Entries sealed items)) a = ⊥
+FindsNoFile k (Ok (shown.Attached i)) a = ⊥
+FindsNoFile k (Ok (shown.Blocks sealed rows)) a = ⊥
+FindsNoFile k (Ok (shown.Bytes bytes)) a = ⊥
+
+abbrev pub ListsBlocks : Key → TreeReply → Answer → Type 0
+ListsBlocks k (Refused why) a = a ≡ refusal_answer k why
+ListsBlocks k (Ok (shown.Blocks sealed rows)) a = a ≡ answers.Blocks rows
+ListsBlocks k (Ok shown.Done) a = ⊥
+ListsBlocks k (Ok (shown.Parent p sealed)) a = ⊥
+ListsBlocks k (Ok (shown.Node n)) a = ⊥
+ListsBlocks k (Ok (shown.Entries sealed items)) a = ⊥
+ListsBlocks k (Ok (shown.Attached i)) a = ⊥
+ListsBlocks k (Ok (shown.Bytes bytes)) a = ⊥
+
+abbrev pub Attaches : Key → BlkId → TreeReply → Answer → Type 0
+Attaches k b (Refused why) a = a ≡ refusal_answer k why
+Attaches k b (Ok (shown.Attached i)) a = a ≡ answers.Appended b i
+Attaches k b (Ok shown.Done) a = ⊥
+Attaches k b (Ok (shown.Parent p sealed)) a = ⊥
+Attaches k b (Ok (shown.Node n)) a = ⊥
+Attaches k b (Ok (shown.Entries sealed items)) a = ⊥
+Attaches k b (Ok (shown.Blocks sealed rows)) a = ⊥
+Attaches k b (Ok (shown.Bytes bytes)) a = ⊥
+
 -- a refusal ends the command
 abbrev pub IsRefusal : Key → TreeReply → Answer → Type 0
 IsRefusal k (Ok x) a = ⊥
 IsRefusal k (Refused why) a = a ≡ refusal_answer k why
 
--- the rename had found this node under the old name
+-- the op had found this node under the path's last name
 abbrev pub FoundSource : List Told → DirId → List (List ℕ) → Node → Type 0
 FoundSource own d p n = Seen own (step.Look (key_in d (last_name p))) (Ok (shown.Node n))
 
@@ -148,6 +189,33 @@ RenameDecides own d p to (step.Swap e old new n) r a =
     FoundSource own d p n × (e ≡ d) × (old ≡ last_name p) × (new ≡ to) × (a ≡ done_answer (key_in d (last_name p)) answers.Done r)
 RenameDecides own d p to s r a = ⊥
 
+-- of a file as a whole the name does not matter
+abbrev pub file_key : FileId → Key
+file_key f = key_in record { 0 = f.0 } []
+
+-- the file was found by the op, which then opens it with itself as token
+abbrev pub OpenDecides : List Told → DirId → List (List ℕ) → TreeStep → TreeReply → Answer → Type 0
+OpenDecides own d p (step.Look k) r a = (k ≡ key_in d (last_name p)) × FindsNoFile k r a
+OpenDecides own d p (step.Open f token) r a =
+    FoundSource own d p (File f) × (a ≡ done_answer (file_key f) (answers.Opened f token) r)
+OpenDecides own d p s r a = ⊥
+
+abbrev pub BlocksDecides : List Told → DirId → List (List ℕ) → TreeStep → TreeReply → Answer → Type 0
+BlocksDecides own d p (step.Look k) r a = (k ≡ key_in d (last_name p)) × FindsNoFile k r a
+BlocksDecides own d p (step.Blocks f) r a = FoundSource own d p (File f) × ListsBlocks (file_key f) r a
+BlocksDecides own d p s r a = ⊥
+
+-- where a read is refused; its bytes are explained by what the tree says to a reading (FilesBecause)
+abbrev pub ReadDecides : List Told → DirId → List (List ℕ) → TreeStep → TreeReply → Answer → Type 0
+ReadDecides own d p (step.Look k) r a = (k ≡ key_in d (last_name p)) × FindsNoFile k r a
+ReadDecides own d p (step.Blocks f) r a = FoundSource own d p (File f) × IsRefusal (file_key f) r a
+ReadDecides own d p s r a = ⊥
+
+-- what is attached are the command's bytes
+abbrev pub AppendDecides : List ℕ → TreeStep → TreeReply → Answer → Type 0
+AppendDecides bytes (step.Attach f token b content) r a = (content ≡ bytes) × Attaches (file_key f) b r a
+AppendDecides bytes s r a = ⊥
+
 -- the step that decides a command, in the directory d to which its walk led, and the answer that its reply makes; own are
 -- the op's steps before
 abbrev pub Decides : Command → List Told → DirId → TreeStep → TreeReply → Answer → Type 0
@@ -157,6 +225,10 @@ Decides (commands.Create p) own d s r a = CreateDecides d p s r a
 Decides (commands.Mkdir p) own d s r a = MkdirDecides d p s r a
 Decides (commands.Delete p) own d s r a = DeleteDecides d p s r a
 Decides (commands.Rename p to) own d s r a = RenameDecides own d p (last_name to) s r a
+Decides (commands.Open p) own d s r a = OpenDecides own d p s r a
+Decides (commands.Append p bytes) own d s r a = AppendDecides bytes s r a
+Decides (commands.Blocks p) own d s r a = BlocksDecides own d p s r a
+Decides (commands.Read p) own d s r a = ReadDecides own d p s r a
 Decides _ own d s r a = ⊥
 
 -- on the way, or where it led

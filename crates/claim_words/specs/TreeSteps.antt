@@ -1,6 +1,7 @@
 -- The steps of the small machine in a history: the requests that are visible changes or readings of the tree, with what
 -- was replied.
-use Rattle.std.specs.Prelude.{Option, Some, None, List, [], ◌∷◌, ◌++◌}
+use Rattle.std.specs.Prelude.{ℕ, Option, Some, None, List, [], ◌∷◌, ◌++◌}
+use Rattle.tect_ids.specs.declared.ids.BlkId.{BlkId}
 use Rattle.tect_ids.specs.declared.ids.OpId.{OpId}
 use Rattle.store_rules.specs.declared.names.NameReq.{NameReq}
 use Rattle.store_rules.specs.declared.names.NameReq.TheVariants as names
@@ -24,6 +25,7 @@ use Rattle.tree_model.specs.Tree.{Tree, Allowed, tree_next}
 use Rattle.world_runs.specs.declared.event.Event.{Event}
 use Rattle.world_runs.specs.declared.event.Event.TheVariants.{Own, Dumped}
 use Rattle.world_runs.specs.declared.event.Happening.TheVariants.{Began, NotBegun, Acted, Ended, Stopped, Failed}
+use Rattle.claim_words.specs.Commands.{content_in}
 
 -- what a reply says to the tree's step
 abbrev pub name_says : NameReply → TreeReply
@@ -44,12 +46,12 @@ file_says file_replies.Made = Ok shown.Done
 file_says file_replies.Granted = Ok shown.Done
 file_says (file_replies.Released was) = Ok shown.Done
 file_says file_replies.Opened = Ok shown.Done
-file_says (file_replies.Attached i) = Ok shown.Done
-file_says (file_replies.Blocks sealed rows) = Ok shown.Done
+file_says (file_replies.Attached i) = Ok (shown.Attached i)
+file_says (file_replies.Blocks sealed rows) = Ok (shown.Blocks sealed rows)
 file_says file_replies.HasId = Refused Exists
 file_says (file_replies.Refused why) = Refused why
 
--- no step has to do with blocks and disks yet
+-- requests to blocks and disks are no steps
 abbrev pub says : AnyReply → TreeReply
 says (any_reply.Name x) = name_says x
 says (any_reply.File x) = file_says x
@@ -73,26 +75,26 @@ name_step_of (names.Unbind k w) x = Some (step.Unbind k w)
 name_step_of (names.Grant d h k) x = where_refused (step.GrantDir d) (name_says x)
 name_step_of (names.Release d h) x = None
 
--- the small machine gets files' tokens and blocks with the commands that ask for them
-abbrev pub file_step_of : FileReq → FileReply → Option TreeStep
-file_step_of (files.MakeFile f h k t) x = Some (step.MakeFile f t)
-file_step_of (files.Grant f h k) x = where_refused (step.GrantFile f) (file_says x)
-file_step_of (files.Release f h) x = None
-file_step_of (files.TakeToken f t) x = None
-file_step_of (files.Attach f t b n h) x = None
-file_step_of (files.ListBlocks f) x = None
+-- a block is attached with its content
+abbrev pub file_step_of : (BlkId → List ℕ) → FileReq → FileReply → Option TreeStep
+file_step_of content (files.MakeFile f h k t) x = Some (step.MakeFile f t)
+file_step_of content (files.Grant f h k) x = where_refused (step.GrantFile f) (file_says x)
+file_step_of content (files.Release f h) x = None
+file_step_of content (files.TakeToken f t) x = Some (step.Open f t)
+file_step_of content (files.Attach f t b n h) x = Some (step.Attach f t b (content b))
+file_step_of content (files.ListBlocks f) x = Some (step.Blocks f)
 
-abbrev pub tree_step : AnyReq → AnyReply → Option TreeStep
-tree_step (any.Name q) (any_reply.Name x) = name_step_of q x
-tree_step (any.File q) (any_reply.File x) = file_step_of q x
-tree_step (any.Name q) (any_reply.File x) = None
-tree_step (any.Name q) (any_reply.Block x) = None
-tree_step (any.Name q) (any_reply.Disk x) = None
-tree_step (any.File q) (any_reply.Name x) = None
-tree_step (any.File q) (any_reply.Block x) = None
-tree_step (any.File q) (any_reply.Disk x) = None
-tree_step (any.Block q) x = None
-tree_step (any.Disk q) x = None
+abbrev pub tree_step : (BlkId → List ℕ) → AnyReq → AnyReply → Option TreeStep
+tree_step content (any.Name q) (any_reply.Name x) = name_step_of q x
+tree_step content (any.File q) (any_reply.File x) = file_step_of content q x
+tree_step content (any.Name q) (any_reply.File x) = None
+tree_step content (any.Name q) (any_reply.Block x) = None
+tree_step content (any.Name q) (any_reply.Disk x) = None
+tree_step content (any.File q) (any_reply.Name x) = None
+tree_step content (any.File q) (any_reply.Block x) = None
+tree_step content (any.File q) (any_reply.Disk x) = None
+tree_step content (any.Block q) x = None
+tree_step content (any.Disk q) x = None
 
 -- a step in a history: whose it was, what it did, and what was said to it
 pub record Told : Type 0 where
@@ -104,19 +106,24 @@ abbrev pub told_as : OpId → Option TreeStep → TreeReply → List Told
 told_as op None x = []
 told_as op (Some s) x = record { op = op; does = s; says = x } ∷ []
 
-abbrev pub told_of : Event → List Told
-told_of (Own op (Acted q x h)) = told_as op (tree_step q x) (says x)
-told_of (Own op (Began c)) = []
-told_of (Own op (NotBegun c)) = []
-told_of (Own op (Ended a)) = []
-told_of (Own op Stopped) = []
-told_of (Own op (Failed a)) = []
-told_of Dumped = []
+-- the step that an event is, after that history
+abbrev pub told_of : List Event → Event → List Told
+told_of h (Own op (Acted q x how)) = told_as op (tree_step (content_in h) q x) (says x)
+told_of h (Own op (Began c)) = []
+told_of h (Own op (NotBegun c)) = []
+told_of h (Own op (Ended a)) = []
+told_of h (Own op Stopped) = []
+told_of h (Own op (Failed a)) = []
+told_of h Dumped = []
+
+-- the tree's steps in these events, which come after that history
+abbrev pub steps_after : List Event → List Event → List Told
+steps_after h [] = []
+steps_after h (e ∷ es) = told_of h e ++ steps_after (h ++ e ∷ []) es
 
 -- the tree's steps in a history, in order
 abbrev pub tree_steps : List Event → List Told
-tree_steps [] = []
-tree_steps (e ∷ es) = told_of e ++ tree_steps es
+tree_steps es = steps_after [] es
 
 -- the tree after steps to which this was said
 abbrev pub tree_after : Tree → List Told → Tree

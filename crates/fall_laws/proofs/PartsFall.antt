@@ -108,7 +108,7 @@ module _ {S : Type 0} {P : Part S Answer} {B : PartBounding S} (L : PartFalls P 
       (L.hears c m op s x)
   heard_takes c m op (Comes r) q x e = absurd (no_ask r q e)
 
-  module _ (serves : Command → Bool) (starts : Counts → Command → Next S Answer) (most : Counts → Command → Option Many) where
+  module _ (serves : Command → Bool) (starts : Counts → Memory → Command → Next S Answer) (most : Counts → Command → Option Many) where
     abbrev programs : Programs (Next S Answer)
     programs = record { kind = kind_of P; serves = serves; starts = starts }
 
@@ -122,7 +122,8 @@ module _ {S : Type 0} {P : Part S Answer} {B : PartBounding S} (L : PartFalls P 
         record { looks = omega (arith, turned.looks, takes.looks); others = omega (arith, turned.others, takes.others) }
     falls_so c m op (Comes r) q x e = absurd (no_ask r q e)
 
-    pub part_fall_laws : ((c : Counts) (k : Command) (n : Many) → most c k ≡ Some n → AtMost (next_left B.left (starts c k)) n)
+    pub part_fall_laws
+        : ((c : Counts) (m : Memory) (k : Command) (n : Many) → most c k ≡ Some n → AtMost (next_left B.left (starts c m k)) n)
         → FallLaws programs (next_bounding B most)
     part_fall_laws begins = record { falls = falls_so; most = begins }
 

@@ -1,6 +1,6 @@
 -- the transactions of an op are at most what its command allows as it begins, with what look-ups and replies add
 use Rattle.std.proofs.Common.{◌≡◌, ◌≢◌, ◌+◌, ◌<◌, ◌≤◌, ℕ, Bool, true, false, ◌&&◌, if◌then◌else◌, Option, Some, None}
-use Rattle.std.proofs.Common.{List, [], ◌∷◌, refl, sym, subst, arith}
+use Rattle.std.proofs.Common.{List, [], ◌∷◌, refl, sym, subst, ◌∙◌, arith}
 use Rattle.std.proofs.lemmas.List.Sums.{sum_by-cons}
 use Rattle.tect_ids.specs.declared.ids.Counts.{Counts}
 use Rattle.tect_ids.specs.declared.ids.OpId.{OpId}
@@ -33,6 +33,9 @@ pub taken_more : (test : AnyReq → Bool) (op : OpId) (e : Event) (es : List Eve
     → taken test (e ∷ es) op ≡ one_if (takes test op e) + taken test es op
 taken_more test op e es = sum_by-cons (λ x. one_if (takes test op x)) e es
 
+begun_same : (c d : Command) → Some c ≡ Some d → c ≡ d
+begun_same c d e = cc
+
 -- one kind of transactions
 module _ (S : Type 0) (P : Programs S) (test : AnyReq → Bool) (left : S → ℕ) (look : Counts → Memory → OpId → S → ℕ)
     (reply : Counts → AnyReq → AnyReply → ℕ)
@@ -53,15 +56,15 @@ module _ (S : Type 0) (P : Programs S) (test : AnyReq → Bool) (left : S → �
     abbrev budget : WorldState S → OpId → ℕ
     budget m op = left_of op (m.actors op.actor).running
 
-    -- what a begin allows
-    abbrev allowed_by : Counts → Option Command → ℕ
-    allowed_by counts None = 0
-    allowed_by counts (Some c) = left (P.starts counts c)
+    -- what a begin allows, by what its actor knows
+    abbrev allowed_by : Counts → Memory → Option Command → ℕ
+    allowed_by counts m None = 0
+    allowed_by counts m (Some c) = left (P.starts counts m c)
 
-    -- what the begins of a history allow
-    abbrev allowed : Counts → OpId → List Event → ℕ
-    allowed counts op [] = 0
-    allowed counts op (e ∷ es) = allowed_by counts (begun_by e op) + allowed counts op es
+    -- what the begins of a history allow, from that moment on
+    abbrev allowed : WorldState S → OpId → List Event → ℕ
+    allowed m op [] = 0
+    allowed m op (e ∷ es) = allowed_by m.counts (m.actors op.actor).memory (begun_by e op) + allowed (after P m e) op es
 
     -- ---- an actor's event
 
@@ -72,7 +75,8 @@ module _ (S : Type 0) (P : Programs S) (test : AnyReq → Bool) (left : S → �
     -- what the op's own happening leaves is no more than what was left and added
     abbrev Leaves : Counts → Actor S → OpId → OpId → Happening → Type 0
     Leaves counts s o op h = one_if (takes test op (Own o h)) + left_of op (own_after P counts s o h).running
-        ≤ left_of op s.running + allowed_by counts (begun_by (Own o h) op) + (if op_eq o op then act_grows look reply counts s h else 0)
+        ≤ left_of op s.running + allowed_by counts s.memory (begun_by (Own o h) op)
+        + (if op_eq o op then act_grows look reply counts s h else 0)
 
     acted_leaves : (counts : Counts) (s : Actor S) (o op : OpId) (q : AnyReq) (x : AnyReply) (h : Heard) (state : S)
         → next_does P.kind counts s.memory o state ≡ Asks q → (b : Bool)
@@ -90,8 +94,8 @@ module _ (S : Type 0) (P : Programs S) (test : AnyReq → Bool) (left : S → �
     own_leaves : (counts : Counts) (s : Actor S) (o op : OpId) (h : Happening) → OwnMay P counts s o h → Leaves counts s o op h
     own_leaves counts s o op (Began c) may = by (op_eq o op)
       where
-        by : (b : Bool) → one_if (b && false) + (if b then left (P.starts counts c) else 0)
-            ≤ left_of op s.running + allowed_by counts (if b then Some c else None) + (if b then 0 else 0)
+        by : (b : Bool) → one_if (b && false) + (if b then left (P.starts counts s.memory c) else 0)
+            ≤ left_of op s.running + allowed_by counts s.memory (if b then Some c else None) + (if b then 0 else 0)
         by true = omega arith
         by false = omega arith
     own_leaves counts s o op (NotBegun c) may = by (op_eq o op)
@@ -115,7 +119,7 @@ module _ (S : Type 0) (P : Programs S) (test : AnyReq → Bool) (left : S → �
 
     abbrev Falling : WorldState S → Event → OpId → ℕ → Type 0
     Falling m e op rest = one_if (takes test op e) + rest
-        ≤ budget m op + allowed_by m.counts (begun_by e op) + event_grows look reply m op e
+        ≤ budget m op + allowed_by m.counts (m.actors op.actor).memory (begun_by e op) + event_grows look reply m op e
 
     other_takes : (o op : OpId) (h : Happening) → op_eq o op ≡ false → one_if (takes test op (Own o h)) ≡ 0
     other_takes o op h e = rw e refl
@@ -128,17 +132,16 @@ module _ (S : Type 0) (P : Programs S) (test : AnyReq → Bool) (left : S → �
     event_falls m (Own o h) op may = changed (λ (z : Actor S). Falling m (Own o h) op (left_of op z.running)) m.actors o.actor
         (own_after P m.counts (m.actors o.actor) o h) op.actor
         (λ same. subst (λ (a : ℕ). one_if (takes test op (Own o h)) + left_of op (own_after P m.counts (m.actors o.actor) o h).running
-        ≤ left_of op (m.actors a).running + allowed_by m.counts (begun_by (Own o h) op) + event_grows look reply m op (Own o h)) (sym same)
+        ≤ left_of op (m.actors a).running + allowed_by m.counts (m.actors a).memory (begun_by (Own o h) op)
+        + event_grows look reply m op (Own o h)) (sym same)
         (own_leaves m.counts (m.actors o.actor) o op h may.0))
         (λ d. let none : one_if (takes test op (Own o h)) ≡ 0 = other_takes o op h (actors_differ o op d) in omega (arith, none))
 
     run_falls : (es : List Event) (m : WorldState S) (op : OpId) → RunFrom P m es
-        → taken test es op ≤ budget m op + allowed m.counts op es + history_grows P look reply m op es
+        → taken test es op ≤ budget m op + allowed m op es + history_grows P look reply m op es
     run_falls [] m op run = omega arith
     run_falls (e ∷ es) m op run =
-        let rest : taken test es op ≤ budget (after P m e) op + allowed m.counts op es + history_grows P look reply (after P m e) op es =
-        rw (after_counts P m e) at (run_falls es (after P m e) op run.1) in
-        omega (arith, taken_more test op e es, event_falls m e op run.0, rest)
+        omega (arith, taken_more test op e es, event_falls m e op run.0, run_falls es (after P m e) op run.1)
 
     -- ---- an op begins at most once
 
@@ -165,56 +168,62 @@ module _ (S : Type 0) (P : Programs S) (test : AnyReq → Bool) (left : S → �
     begins_now m Dumped op c may is = absurd (let z : None ≡ Some c = is in cc)
 
     no_more : (es : List Event) (m : WorldState S) (op : OpId) → RunFrom P m es → op.number ≤ (m.actors op.actor).number
-        → (counts : Counts) → allowed counts op es ≡ 0
-    no_more [] m op run old counts = refl
-    no_more (e ∷ es) m op run old counts =
-        let rest : allowed counts op es ≡ 0 =
-        no_more es (after P m e) op run.1 (omega (arith, old, numbers_grow P m e run.0 op.actor)) counts in
+        → allowed m op es ≡ 0
+    no_more [] m op run old = refl
+    no_more (e ∷ es) m op run old =
+        let rest : allowed (after P m e) op es ≡ 0 =
+        no_more es (after P m e) op run.1 (omega (arith, old, numbers_grow P m e run.0 op.actor)) in
         by (begun_by e op) refl rest
       where
-        by : (o : Option Command) → begun_by e op ≡ o → allowed counts op es ≡ 0 → allowed_by counts o + allowed counts op es ≡ 0
+        by : (o : Option Command) → begun_by e op ≡ o → allowed (after P m e) op es ≡ 0
+            → allowed_by m.counts (m.actors op.actor).memory o + allowed (after P m e) op es ≡ 0
         by None is rest = omega (arith, rest)
         by (Some c) is rest = absurd (omega (arith, old, (begins_now m e op c run.0 is).0))
 
-    allowed_is : (es : List Event) (m : WorldState S) (op : OpId) → RunFrom P m es → (counts : Counts)
-        → allowed counts op es ≡ allowed_by counts (command_of es op)
-    allowed_is [] m op run counts = refl
-    allowed_is (e ∷ es) m op run counts = by (begun_by e op) refl (allowed_is es (after P m e) op run.1 counts)
+    -- no more is allowed than its command has as it begins, whatever its actor knows then
+    abbrev IsMost : Counts → Option Command → ℕ → Type 0
+    IsMost counts o n = (mem : Memory) (c : Command) → o ≡ Some c → left (P.starts counts mem c) ≤ n
+
+    allowed_most : (es : List Event) (m : WorldState S) (op : OpId) (n : ℕ) → RunFrom P m es → IsMost m.counts (command_of es op) n
+        → allowed m op es ≤ n
+    allowed_most [] m op n run most = omega arith
+    allowed_most (e ∷ es) m op n run most = by (begun_by e op) refl most (allowed_most es (after P m e) op n run.1)
       where
-        by : (o : Option Command) → begun_by e op ≡ o → allowed counts op es ≡ allowed_by counts (command_of es op)
-            → allowed_by counts o + allowed counts op es ≡ allowed_by counts (or_later o (command_of es op))
-        by None is rest = omega (arith, rest)
-        by (Some c) is rest = omega (arith, no_more es (after P m e) op run.1 (begins_now m e op c run.0 is).1 counts)
+        by : (o : Option Command) → begun_by e op ≡ o → IsMost m.counts (or_later o (command_of es op)) n
+            → (IsMost (after P m e).counts (command_of es op) n → allowed (after P m e) op es ≤ n)
+            → allowed_by m.counts (m.actors op.actor).memory o + allowed (after P m e) op es ≤ n
+        by None is most rest =
+            omega (arith, rest (subst (λ (k : Counts). IsMost k (command_of es op) n) (sym (after_counts P m e)) most))
+        by (Some c) is most rest =
+            omega (arith, no_more es (after P m e) op run.1 (begins_now m e op c run.0 is).1, most (m.actors op.actor).memory c refl)
 
     -- so it takes at most that
-    pub op_takes : (counts : Counts) (es : List Event) → IsWorldRun P counts es → (op : OpId)
-        → taken test es op ≤ allowed_by counts (command_of es op) + history_grows P look reply (opening counts) op es
-    op_takes counts es run op = omega (arith, run_falls es (opening counts) op run, allowed_is es (opening counts) op run counts)
+    op_takes : (counts : Counts) (es : List Event) → IsWorldRun P counts es → (op : OpId) (n : ℕ) → IsMost counts (command_of es op) n
+        → taken test es op ≤ n + history_grows P look reply (opening counts) op es
+    op_takes counts es run op n most =
+        omega (arith, run_falls es (opening counts) op run, allowed_most es (opening counts) op n run most)
 
-    pub begun_takes : (counts : Counts) (es : List Event) → IsWorldRun P counts es → (op : OpId) (c : Command) → command_of es op ≡ Some c
-        → taken test es op ≤ left (P.starts counts c) + history_grows P look reply (opening counts) op es
-    begun_takes counts es run op c is = rw is at (op_takes counts es run op)
+    pub begun_takes : (counts : Counts) (es : List Event) → IsWorldRun P counts es → (op : OpId) (c : Command) (n : ℕ)
+        → command_of es op ≡ Some c → ((mem : Memory) → left (P.starts counts mem c) ≤ n)
+        → taken test es op ≤ n + history_grows P look reply (opening counts) op es
+    begun_takes counts es run op c n is most =
+        op_takes counts es run op n (λ mem d e. let same : c ≡ d = begun_same c d (sym is ∙ e) in rw (← same) (most mem))
 
     pub idle_takes : (counts : Counts) (es : List Event) → IsWorldRun P counts es → (op : OpId) → command_of es op ≡ None
         → taken test es op ≤ 0 + history_grows P look reply (opening counts) op es
-    idle_takes counts es run op is = rw is at (op_takes counts es run op)
+    idle_takes counts es run op is =
+        op_takes counts es run op 0 (λ mem d e. absurd (let none : None ≡ Some d = sym is ∙ e in cc))
 
 -- looks, and other transactions
 pub runs_are_short : (S : Type 0) (P : Programs S) (B : Bounding S) → FallLaws P B → RunsAreShort P B
 runs_are_short S P B F = record {
   begun = λ counts es run op c n is most. record {
-    looks = omega (
-      arith,
-      (F.most counts c n most).looks,
-      begun_takes S P is_look (λ s. (B.left s).looks) (λ k m o s. (B.grown k m o s).looks)
-          (λ k q x. (B.grows k q x).looks) (λ k m o s q x asks. (F.falls k m o s q x asks).looks) counts es run op c is,
-    );
-    others = omega (
-      arith,
-      (F.most counts c n most).others,
-      begun_takes S P is_no_look (λ s. (B.left s).others) (λ k m o s. (B.grown k m o s).others)
-          (λ k q x. (B.grows k q x).others) (λ k m o s q x asks. (F.falls k m o s q x asks).others) counts es run op c is,
-    );
+    looks = begun_takes S P is_look (λ s. (B.left s).looks) (λ k m o s. (B.grown k m o s).looks)
+        (λ k q x. (B.grows k q x).looks) (λ k m o s q x asks. (F.falls k m o s q x asks).looks) counts es run op c n.looks is
+        (λ m. (F.most counts m c n most).looks);
+    others = begun_takes S P is_no_look (λ s. (B.left s).others) (λ k m o s. (B.grown k m o s).others)
+        (λ k q x. (B.grows k q x).others) (λ k m o s q x asks. (F.falls k m o s q x asks).others) counts es run op c n.others is
+        (λ m. (F.most counts m c n most).others);
   };
   idle = λ counts es run op is. record {
     looks = idle_takes S P is_look (λ s. (B.left s).looks) (λ k m o s. (B.grown k m o s).looks)

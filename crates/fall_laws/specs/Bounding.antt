@@ -54,7 +54,7 @@ pub record AtMost (left most : Many) : Type 0 where
 pub record FallLaws {S : Type 0} (P : Programs S) (B : Bounding S) : Type 0 where
   pub falls : (counts : Counts) (m : Memory) (op : OpId) (s : S) (q : AnyReq) (x : AnyReply) → next_does P.kind counts m op s ≡ Asks q
       → Falls P B counts m op s q x
-  pub most : (counts : Counts) (c : Command) (n : Many) → B.most counts c ≡ Some n → AtMost (B.left (P.starts counts c)) n
+  pub most : (counts : Counts) (m : Memory) (c : Command) (n : Many) → B.most counts c ≡ Some n → AtMost (B.left (P.starts counts m c)) n
 
 -- ---- what look-ups and replies add in a history
 

@@ -1,5 +1,5 @@
 -- A file by its path's last name, and the answer that a file's refusal makes.
-use Rattle.std.specs.Prelude.{Option, Some, None}
+use Rattle.std.specs.Prelude.{Option, Some, None, []}
 use Rattle.tect_ids.specs.declared.ids.FileId.{FileId}
 use Rattle.tect_ids.specs.declared.ids.Node.{Node}
 use Rattle.tect_ids.specs.declared.ids.Node.TheVariants as nodes
@@ -7,14 +7,11 @@ use Rattle.tect_ids.specs.declared.ids.Place.{Place}
 use Rattle.tect_ids.specs.declared.key.Key.{Key}
 use Rattle.tect_ids.specs.declared.answer.Answer.{Answer}
 use Rattle.tect_ids.specs.declared.answer.Answer.TheVariants as answers
-use Rattle.tect_ids.specs.declared.values.Refusal.TheVariants as refusals
-use Rattle.tect_ids.specs.Refusals.{token_changed}
-use Rattle.store_rules.specs.declared.files.FileReply.TheVariants as files
 use Rattle.store_rules.specs.declared.names.NameReq.TheVariants as names
 use Rattle.store_rules.specs.declared.any.AnyReq.{AnyReq}
 use Rattle.store_rules.specs.declared.any.AnyReq.TheVariants as any
 use Rattle.store_rules.specs.declared.any.AnyReply.{AnyReply}
-use Rattle.store_rules.specs.declared.any.AnyReply.TheVariants as any_reply
+use Rattle.store_rules.specs.Names.{key_in}
 use Rattle.program_parts.specs.declared.next.Next.{Next}
 use Rattle.program_parts.specs.declared.next.Next.TheVariants.{Goes, Comes}
 use Rattle.program_parts.specs.Refused.{refusal}
@@ -29,10 +26,9 @@ found_file place k x next None = Comes (refusal place k x)
 found_file place k x next (Some (nodes.Dir d)) = Comes answers.IsDir
 found_file place k x next (Some (nodes.File f)) = Goes (next f)
 
--- the request concerned the file itself
+-- The request concerned the file itself. Of a file as a whole the name does not matter.
+abbrev pub file_key : FileId → Key
+file_key f = key_in record { 0 = f.0 } []
+
 abbrev pub file_refusal : Place → FileId → AnyReply → Answer
-file_refusal place f (any_reply.File (files.Refused refusals.NoFile)) = answers.NoFile
-file_refusal place f (any_reply.File (files.Refused refusals.Sealed)) = answers.Sealed
-file_refusal place f (any_reply.File (files.Refused refusals.Full)) = answers.Full f.0
-file_refusal place f (any_reply.File (files.Refused (refusals.TokenChanged now))) = token_changed now
-file_refusal place f _ = answers.Odd place
+file_refusal place f x = refusal place (file_key f) x

@@ -24,10 +24,10 @@ use Rattle.store_rules.specs.Views.{as_found, as_block_list, as_location, as_byt
 use Rattle.program_parts.specs.declared.next.Next.{Next}
 use Rattle.program_parts.specs.declared.next.Next.TheVariants.{Goes, Comes}
 use Rattle.program_parts.specs.Parts.{Part, looks_nothing, learns_nothing}
-use Rattle.file_rules.specs.declared.states.Reading.{Reading}
 use Rattle.file_rules.specs.declared.states.Read.{Read}
 use Rattle.file_rules.specs.declared.states.Read.TheVariants.{Find, List as Listing, Locate, Fetch}
 use Rattle.file_rules.specs.Finds.{find_ask, found_file, file_refusal}
+use Rattle.file_rules.specs.Stages.{Reading, Fetching}
 
 -- in the directory to which the path leads
 abbrev pub read_starts : List ℕ → DirId → Read
@@ -37,7 +37,7 @@ abbrev pub read_asks : Read → AnyReq
 read_asks (Find k) = find_ask k
 read_asks (Listing f) = any.File (files.ListBlocks f)
 read_asks (Locate r b) = any.Block (blocks.GetBlock b)
-read_asks (Fetch r chunks tried c) = any.Disk (disks.Get c)
+read_asks (Fetch r t) = any.Disk (disks.Get t.chunk)
 
 -- the block that is read now, or all bytes once there is none
 abbrev pub located : Reading → Option RowPart → Next Read Answer
@@ -58,7 +58,7 @@ placed_chunks b rows = map (λ r. record { disk = r.disk; blk = b; tag = r.tag }
 -- the chunk that is tried next; that there is none left is odd so far
 abbrev pub fetched : Place → Reading → List ChunkKey → ℕ → Option ChunkKey → Next Read Answer
 fetched place r chunks tried None = Comes (answers.Odd place)
-fetched place r chunks tried (Some c) = Goes (Fetch r chunks tried c)
+fetched place r chunks tried (Some c) = Goes (Fetch r record { chunks = chunks; tried = tried; chunk = c })
 
 abbrev pub fetch_on : Place → Reading → List ChunkKey → ℕ → Next Read Answer
 fetch_on place r chunks tried = fetched place r chunks tried (slice_get chunks tried)
@@ -68,15 +68,15 @@ begins_fetching place r b None = Comes (answers.Odd place)
 begins_fetching place r b (Some l) = fetch_on place r (placed_chunks b l.rows) 0
 
 -- the bytes of a block, and then the next block; or the chunk on another disk
-abbrev pub got : Place → Reading → List ChunkKey → ℕ → Option (List ℕ) → Next Read Answer
-got place r chunks tried None = fetch_on place r chunks (tried + 1)
-got place r chunks tried (Some bytes) = read_on record { parts = r.parts; at = r.at + 1; bytes = r.bytes ++ bytes }
+abbrev pub got : Place → Reading → Fetching → Option (List ℕ) → Next Read Answer
+got place r t None = fetch_on place r t.chunks (t.tried + 1)
+got place r t (Some bytes) = read_on record { parts = r.parts; at = r.at + 1; bytes = r.bytes ++ bytes }
 
 abbrev pub read_hears : Place → Read → AnyReply → Next Read Answer
 read_hears place (Find k) x = found_file place k x (λ f. Listing f) (as_found x)
 read_hears place (Listing f) x = begins_reading place f x (as_block_list x)
 read_hears place (Locate r b) x = begins_fetching place r b (as_location x)
-read_hears place (Fetch r chunks tried c) x = got place r chunks tried (as_bytes x)
+read_hears place (Fetch r t) x = got place r t (as_bytes x)
 
 abbrev pub read : Part Read Answer
 read = record {

@@ -3,7 +3,13 @@
 #![tactic(auto)]
 
 mod gathered;
+mod putting;
+mod reading;
+mod spread;
 mod states;
 
 pub use gathered::Gathered;
-pub use states::{Append, Appending, Blocks, Open, Read, Reading};
+pub use putting::{Putting, Sealing};
+pub use reading::{Fetching, Reading};
+pub use spread::Spread;
+pub use states::{Append, Appending, Blocks, Open, Read};

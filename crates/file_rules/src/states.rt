@@ -1,7 +1,10 @@
 use crate::gathered::Gathered;
+use crate::putting::{Putting, Sealing};
+use crate::reading::{Fetching, Reading};
+use crate::spread::Spread;
 use memories::PathKey;
-use tect_calls::{BlockMade, BlockSealed, GrantedRow, MadeFile, RowMade, Spent, Stored};
-use tect_ids::{Answer, BlkId, Bytes, ChunkKey, FileId, Items, Key, RowPart, Token};
+use tect_calls::{BlockSealed, GrantedRow, MadeFile, Spent};
+use tect_ids::{Answer, BlkId, Bytes, FileId, Key, Token};
 
 /// A file is opened: it is found, and a new token is written into it.
 #[derive(Drop)]
@@ -22,27 +25,19 @@ pub struct Appending {
 /// A block is added to an opened file: it is made, its bytes are put on its disks, it is sealed, and attached.
 #[derive(Drop)]
 pub enum Append {
-    /// The actor's memory is to say which file the path was opened as.
-    Begin {
-        path: PathKey,
-        bytes: Bytes,
-    },
     Make {
         file: MadeFile,
         token: Token,
         bytes: Bytes,
+        spread: Spread,
     },
-    /// The chunk of `row` is next, after those that are stored.
     Put {
         appending: Appending,
-        made: BlockMade,
-        stored: Gathered<Stored>,
-        row: RowMade,
+        putting: Putting,
     },
     Seal {
         appending: Appending,
-        made: BlockMade,
-        stored: Gathered<Stored>,
+        sealing: Sealing,
     },
     Attach {
         appending: Appending,
@@ -63,14 +58,6 @@ pub enum Blocks {
     List { file: FileId },
 }
 
-/// What a read has from the file's list of blocks on: the list, which of them is read now, and the bytes of those before it.
-#[derive(Drop)]
-pub struct Reading {
-    pub parts: Items<RowPart>,
-    pub at: usize,
-    pub bytes: Gathered<u8>,
-}
-
 /// The bytes of a file are read, block by block.
 #[derive(Drop)]
 pub enum Read {
@@ -85,11 +72,9 @@ pub enum Read {
         reading: Reading,
         blk: BlkId,
     },
-    /// The chunk is asked for, which is that with the index `tried` of the block's chunks.
+    /// A chunk of the block is asked for.
     Fetch {
         reading: Reading,
-        chunks: Gathered<ChunkKey>,
-        tried: usize,
-        chunk: ChunkKey,
+        fetching: Fetching,
     },
 }

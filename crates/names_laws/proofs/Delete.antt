@@ -65,6 +65,7 @@ unbind_waits k = record {
       let q : AnyReq = Name (names.Unbind k AnyFile) in
       unbound_knows (next w q) op n (request_place c q) k (store_reply w.store q) (as_unbound (store_reply w.store q))
       (unbind_not_odd w.store (request_place c q) k k AnyFile) kept.taught;
+  learns = λ c w op m r a k kept. tt;
   spends = λ c w op m r a new x h g now own is live. absurd (no_hold w op new h g own is);
   grants = λ c w op m r a new kept h free touched granted. absurd (let f : false ≡ true = touched in cc);
 }

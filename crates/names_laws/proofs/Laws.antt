@@ -51,6 +51,6 @@ starts w op m rooted new left LacksName = refl
 pub names_program_laws : ProgramLaws programs names_deciding names_known
 names_program_laws = record {
   kind = names_kind_laws;
-  begins = λ c w op m k rooted new said left served. starts w op m rooted new left (begun k);
+  begins = λ c w op m k rooted new said remembered left served. starts w op m rooted new left (begun k);
   plain = λ w a e. e;
 }

@@ -1,5 +1,5 @@
 -- looking, and listing: one request that only reads, and then the answer
-use Rattle.std.proofs.Common.{◌≡◌, List as Items, Bool, true, false, is_some, Option, Some, None, refl, sym, ◌∙◌}
+use Rattle.std.proofs.Common.{◌≡◌, List as Items, [], Bool, true, false, is_some, Option, Some, None, refl, sym, ◌∙◌}
 use Rattle.tect_ids.specs.declared.ids.Counts.{Counts}
 use Rattle.tect_ids.specs.declared.ids.DirId.{DirId}
 use Rattle.tect_ids.specs.declared.ids.Hold.{Hold}
@@ -41,13 +41,14 @@ reading_known = record { Knows = λ w op m s. IsNewOp w op; Ends = λ w a. is_od
 abbrev pub reading_deciding : {S : Type 0} → Deciding S Answer
 reading_deciding = record { decided = λ s. None }
 
--- a state where what is asked only reads, and the reply makes the answer
+-- a state where what is asked only reads, and the reply makes the answer, of which nothing is kept
 pub record ReadsAt {S : Type 0} (P : Part S Answer) (s : S) : Type 0 where
   pub looks : (c : Counts) (m : Memory) (op : OpId) → P.turns c m op s ≡ record { memory = m; state = Goes s }
   pub meets : (c : Counts) (w : World) (op : OpId) (m : Memory) → Meets w op m (P.asks c m op s)
   pub touches : (c : Counts) (m : Memory) (op : OpId) (h : Hold) → (touched_by (P.asks c m op s)).hold h ≡ false
   pub answers : (c : Counts) (w v : World) (op : OpId) (m n : Memory)
       → NextKnows reading_known v op n (P.hears c m op s (P.asks c m op s) (store_reply w.store (P.asks c m op s)))
+  pub keeps : (op : OpId) (q : AnyReq) (x : AnyReply) → P.learns op s q x ≡ []
 
 reading_waits : {S : Type 0} (P : Part S Answer) (s : S) → ReadsAt P s → WaitsAt P reading_deciding reading_known s
 reading_waits P s reads = record {
@@ -56,6 +57,7 @@ reading_waits P s reads = record {
   meets = λ c w op m r a k. reads.meets c w op m;
   stays = λ by w v op m l apart k. new_stays by w v op l apart k;
   goes_on = λ c w op m n r a k kept serial. reads.answers c w _ op m n;
+  learns = λ c w op m r a k kept. rw (reads.keeps op (P.asks c m op s) (store_reply w.store (P.asks c m op s))) tt;
   spends = λ c w op m r a k x h g now own is live. absurd (no_hold w op k h g own is);
   grants = λ c w op m r a k kept h free touched granted.
       absurd (let f : false ≡ true = sym (reads.touches c m op h) ∙ touched in cc);
@@ -93,6 +95,7 @@ look_reads (Check d) = record {
       let q : AnyReq = Name (names.CheckDir d) in
       let x : AnyReply = store_reply w.store q in
       checked_plain v op n (request_place c q) x d (is_some (as_parent x)) (check_not_odd w.store (request_place c q) d);
+  keeps = λ op q x. refl;
 }
 look_reads (Entry k) = record {
   looks = λ c m op. refl;
@@ -102,6 +105,7 @@ look_reads (Entry k) = record {
       let q : AnyReq = Name (names.Look k) in
       let x : AnyReply = store_reply w.store q in
       looked_plain v op n (request_place c q) x k (as_found x) (look_not_odd w.store (request_place c q) k k);
+  keeps = λ op q x. refl;
 }
 
 pub look_laws : PartLaws look reading_deciding reading_known
@@ -116,6 +120,7 @@ list_reads s = record {
       let q : AnyReq = Name (names.List s.dir) in
       let x : AnyReply = store_reply w.store q in
       listed_plain v op n (request_place c q) x (as_listing x) (list_not_odd w.store (request_place c q) s.dir);
+  keeps = λ op q x. refl;
 }
 
 pub list_laws : PartLaws list reading_deciding reading_known

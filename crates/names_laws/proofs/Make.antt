@@ -91,6 +91,7 @@ file_waits d name = record {
         unnamed = kept.taught.2;
         mine = file_number op m.serial a.few;
       };
+  learns = λ c w op m r a k kept. tt;
   spends = λ c w op m r a k x h g now own is live. absurd (no_hold w op k.new h g own is);
   grants = λ c w op m r a k kept h free touched granted.
       let f : FileId = record { 0 = object_number op.actor m.serial } in
@@ -116,6 +117,7 @@ dir_waits d name = record {
         unnamed = kept.taught.2;
         mine = dir_number op m.serial a.few;
       };
+  learns = λ c w op m r a k kept. tt;
   spends = λ c w op m r a k x h g now own is live. absurd (no_hold w op k.new h g own is);
   grants = λ c w op m r a k kept h free touched granted.
       let f : DirId = record { 0 = object_number op.actor m.serial } in
@@ -154,6 +156,7 @@ bind_waits kind key node hold = record {
       let q : AnyReq = any.Name (names.Bind key node hold (over_of kind)) in
       bound_knows (next w q) op n (request_place c q) key node hold (store_reply w.store q) (as_bound (store_reply w.store q))
       (of_op_test w op hold node key k.hold) (bind_not_odd w.store (request_place c q) key key node hold (over_of kind)) kept.taught;
+  learns = λ c w op m r a k kept. tt;
   spends = λ c w op m r a k x h g now own is live. is_own w op hold node key k.hold h g own is;
   grants = λ c w op m r a k kept h free touched granted. absurd (not_own w op hold node key k.hold h free touched);
 }

@@ -88,6 +88,7 @@ find_waits d from to = record {
       found_knows (next w q) op n (request_place c q) d from to x (as_found x) (kept.later.made (Dir d) k.made)
       (new_untouched (touched_by q) w (next w q) op kept.later (λ h own. refl) (λ h own. refl) (λ t own. refl) k.new)
       (look_not_odd w.store (request_place c q) (key_in d from) (key_in d from)) kept.taught;
+  learns = λ c w op m r a k kept. tt;
   spends = λ c w op m r a k x h g now own is live. absurd (no_hold w op k.new h g own is);
   grants = λ c w op m r a k kept h free touched granted. absurd (let f : false ≡ true = touched in cc);
 }
@@ -128,6 +129,7 @@ grant_waits d p (Dir g) = record {
         hold = own_granted w (next w q) op (touched_by q) (Dir g) (key_in d p.to) (λ h ne. ne) kept.later k.new (kept.taught e);
         other = k.other;
       });
+  learns = λ c w op m r a k kept. tt;
   spends = λ c w op m r a k x h g now own is live. absurd (no_hold w op k.new h g own is);
   grants = λ c w op m r a k kept h free touched ok.
       let q : AnyReq = any.Name (names.Grant g (own_hold op) (key_in d p.to)) in
@@ -148,6 +150,7 @@ grant_waits d p (File g) = record {
         hold = own_granted w (next w q) op (touched_by q) (File g) (key_in d p.to) (λ h ne. ne) kept.later k.new (kept.taught e);
         other = k.other;
       });
+  learns = λ c w op m r a k kept. tt;
   spends = λ c w op m r a k x h g now own is live. absurd (no_hold w op k.new h g own is);
   grants = λ c w op m r a k kept h free touched ok.
       let q : AnyReq = any.File (files.Grant g (own_hold op) (key_in d p.to)) in
@@ -184,6 +187,7 @@ swap_waits d p node hold = record {
       let x : AnyReply = store_reply w.store q in
       swapped_knows (next w q) op n (request_place c q) d p node hold x (as_swapped x) (of_op_test w op hold node (key_in d p.to) k.hold)
       (swap_not_odd w.store (request_place c q) (key_in d p.from) d p.from p.to node hold) kept.taught;
+  learns = λ c w op m r a k kept. tt;
   spends = λ c w op m r a k x h g now own is live. is_own w op hold node (key_in d p.to) k.hold h g own is;
   grants = λ c w op m r a k kept h free touched granted. absurd (not_own w op hold node (key_in d p.to) k.hold h free touched);
 }

@@ -1,5 +1,6 @@
 -- deleting: the unbind decides
 use Rattle.std.proofs.Common.{◌≡◌, List, [], ◌∷◌, ◌++◌, Option, Some, None, refl}
+use Rattle.tect_ids.specs.declared.ids.Counts.{Counts}
 use Rattle.tect_ids.specs.declared.ids.Hold.{Hold}
 use Rattle.tect_ids.specs.declared.ids.Node.{Node}
 use Rattle.tect_ids.specs.declared.ids.OpId.{OpId}
@@ -38,46 +39,48 @@ use Rattle.names_told.specs.NamesTelling.{CameTo, DeleteBefore}
 use Rattle.names_told.proofs.Replies.{done_yes, done_no, ok_done, unbind_some, unbind_none}
 use Rattle.names_told.proofs.Causes.{because_lasts, releases_tell, still_came, decided_now}
 
-abbrev pub delete_telling : Telling Delete
-delete_telling = record { Before = DeleteBefore; because = because }
+module _ (counts : Counts) where
+  abbrev pub delete_telling : Telling Delete
+  delete_telling = record { Before = DeleteBefore; because = because counts }
 
-delete_releases : IsWithin Release release_deciding (release_telling because) delete_deciding delete_telling
-delete_releases = record { decided = λ r. refl; before = λ h op c r b. b; because = λ h op c a b. b }
+  delete_releases : IsWithin Release release_deciding (release_telling (because counts)) delete_deciding delete_telling
+  delete_releases = record { decided = λ r. refl; before = λ h op c r b. b; because = λ h op c a b. b }
 
--- ---- at the reply
+  -- ---- at the reply
 
-module _ (h : List Event) (op : OpId) (c : Command) (how : Heard) (place : Place) (k : Key) where
-  -- the request
-  abbrev q : AnyReq
-  q = Name (names.Unbind k AnyFile)
+  module _ (h : List Event) (op : OpId) (c : Command) (how : Heard) (place : Place) (k : Key) where
+    -- the request
+    abbrev q : AnyReq
+    q = Name (names.Unbind k AnyFile)
 
-  -- its reply
-  abbrev x : AnyReply
-  x = reply_at h q
+    -- its reply
+    abbrev x : AnyReply
+    x = reply_at h q
 
-  unbound_tells : (o : Option (Node × Hold)) → as_unbound x ≡ o → CameTo h op c k.dir (operation.Delete k.name)
-      → Allows h (act_at h op q how)
-      → NextTells delete_deciding delete_telling (h ++ act_at h op q how ∷ []) op c (unbound place k x (unbound_freed o))
-  unbound_tells None e came run =
-      let no : RefusesSo place k x = unbind_none (stored_after opening_store h) place k e in
-      decided_now h op c q how (step.Unbind k AnyFile) refl k.dir (operation.Delete k.name) (refusal place k x) came run
-      (λ p last. (rw last refl, done_no k (refusal place k x) answers.Done (says x) no.0 no.1))
-  unbound_tells (Some p) e came run =
-      decided_now h op c q how (step.Unbind k AnyFile) refl k.dir (operation.Delete k.name) answers.Done came run
-      (λ b last.
-      (rw last refl, done_yes k answers.Done (says x) (ok_done (says x) (unbind_some (stored_after opening_store h) place k p e))))
+    unbound_tells : (o : Option (Node × Hold)) → as_unbound x ≡ o → CameTo h op c k.dir (operation.Delete k.name)
+        → Allows h (act_at h op q how)
+        → NextTells delete_deciding delete_telling (h ++ act_at h op q how ∷ []) op c (unbound place k x (unbound_freed o))
+    unbound_tells None e came run =
+        let no : RefusesSo place k x = unbind_none (stored_after opening_store h) place k e in
+        decided_now counts h op c q how (step.Unbind k AnyFile) refl k.dir (operation.Delete k.name) (refusal place k x) came run
+        (λ p last. (rw last refl, done_no k (refusal place k x) answers.Done (says x) no.0 no.1))
+    unbound_tells (Some p) e came run =
+        decided_now counts h op c q how (step.Unbind k AnyFile) refl k.dir (operation.Delete k.name) answers.Done came run
+        (λ b last.
+        (rw last refl, done_yes k answers.Done (says x) (ok_done (says x) (unbind_some (stored_after opening_store h) place k p e))))
 
--- ---- the laws
+  -- ---- the laws
 
-delete_at : (s : Delete) → TellsIn delete delete_deciding delete_telling s
-delete_at (Unbind k) = waits_tell delete delete_deciding delete_telling (Unbind k) record {
-  looks = λ counts m op. refl;
-  undecided = refl;
-  hears = λ counts h op c m how fresh came run.
-      unbound_tells h op c how (request_place counts (Name (names.Unbind k AnyFile))) k _ refl came run;
-  stays = λ h e op c other came. still_came h e op c k.dir (operation.Delete k.name) came;
-}
-delete_at (Release r) = tells_within Release delete_releases (tells_in releases_tell r)
+  delete_at : (s : Delete) → TellsIn counts delete delete_deciding delete_telling s
+  delete_at (Unbind k) = waits_tell delete delete_deciding delete_telling (Unbind k) record {
+    looks = λ m op. refl;
+    undecided = refl;
+    hears = λ h op c m how fresh came run.
+        unbound_tells h op c how (request_place counts (Name (names.Unbind k AnyFile))) k _ refl came run;
+    stays = λ h e op c other came. still_came h e op c k.dir (operation.Delete k.name) came;
+    learns = λ h op c m x before. refl;
+  }
+  delete_at (Release r) = tells_within Release delete_releases (tells_in (releases_tell counts) r)
 
-pub delete_tells : PartTells delete delete_deciding delete_telling
-delete_tells = part_tells delete_at because_lasts
+  pub delete_tells : PartTells counts delete delete_deciding delete_telling
+  delete_tells = part_tells delete_at (because_lasts counts)

@@ -1,6 +1,7 @@
 -- the history explains the answers of commands on names
-use Rattle.std.proofs.Common.{◌≡◌, ℕ, List, [], ◌∷◌, ◌++◌, refl, ap, subst, ◌∙◌, inr}
+use Rattle.std.proofs.Common.{◌≡◌, ℕ, List, [], ◌∷◌, ◌++◌, refl, ap, subst, ◌∙◌, inl, inr}
 use Rattle.std.proofs.lemmas.List.{append-nil}
+use Rattle.tect_ids.specs.declared.ids.Counts.{Counts}
 use Rattle.tect_ids.specs.declared.ids.OpId.{OpId}
 use Rattle.tect_ids.specs.declared.command.Command.{Command}
 use Rattle.tect_ids.specs.Numbers.{root}
@@ -25,7 +26,7 @@ use Rattle.names_told.proofs.Operations.{operations_tell, walks_tell}
 
 -- ---- as it begins
 
-module _ (h : List Event) (op : OpId) (none : of_op op (tree_steps h) ≡ []) (c : Command) where
+module _ (counts : Counts) (h : List Event) (op : OpId) (none : of_op op (tree_steps h) ≡ []) (c : Command) where
   -- the history then
   abbrev then_begun : List Event
   then_begun = h ++ Own op (Began c) ∷ []
@@ -37,14 +38,15 @@ module _ (h : List Event) (op : OpId) (none : of_op op (tree_steps h) ≡ []) (c
   at_root = rw still_none (refl, refl)
 
   begins_tells : (b : Begun) → begun c ≡ b → BeginsSo c b
-      → NextTells (walk_deciding operation_deciding) (walk_telling Fits operation_telling) then_begun op c (started b)
+      → NextTells (walk_deciding operation_deciding) (walk_telling Fits (operation_telling counts)) then_begun op c (started b)
   begins_tells (Walks p o) e so =
-      walk_on_tells begins_in Fits walks_tell then_begun op c root p o (rw so at_root)
+      walk_on_tells begins_in Fits (walks_tell counts) then_begun op c root p o (rw so at_root)
       (subst (λ (w : List (List ℕ)). begun c ≡ Walks w o) so e)
-  begins_tells LacksName e so = inr (so, refl)
+  begins_tells LacksName e so = inl (inr (so, refl))
 
 -- ---- all of it
 
-pub names_tell_so : TellingLaws programs names_deciding names_telling
-names_tell_so = part_telling_laws (walk_tells begins_in Fits walks_tell operations_tell) is_served (λ counts c. started (begun c))
-    (λ counts h op c served none. begins_tells h op none c (begun c) refl (begins_so c served))
+pub names_tell_so : (counts : Counts) → TellingLaws counts programs names_deciding (names_telling counts)
+names_tell_so counts = part_telling_laws (walk_tells begins_in Fits (walks_tell counts) (operations_tell counts)) is_served
+    (λ counts m c. started (begun c))
+    (λ h op c m served none opened. begins_tells counts h op none c (begun c) refl (begins_so c served))

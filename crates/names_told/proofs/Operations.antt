@@ -72,20 +72,20 @@ use Rattle.names_told.proofs.Delete.{delete_tells}
 use Rattle.names_told.proofs.Rename.{rename_tells}
 use Rattle.names_told.specs.NamesTelling.{delete_left, rename_left, operation_left, most_of, names_bounding}
 
-operations_at : (s : OperationState) → TellsIn operations operation_deciding operation_telling s
-operations_at (states.Look s) =
-    tells_within states.Look record { decided = λ t. refl; before = λ h op c t b. b; because = λ h op c a b. b } (tells_in look_tells s)
-operations_at (states.List s) =
-    tells_within states.List record { decided = λ t. refl; before = λ h op c t b. b; because = λ h op c a b. b } (tells_in list_tells s)
-operations_at (states.Make s) =
-    tells_within states.Make record { decided = λ t. refl; before = λ h op c t b. b; because = λ h op c a b. b } (tells_in make_tells s)
-operations_at (states.Delete s) =
-    tells_within states.Delete record { decided = λ t. refl; before = λ h op c t b. b; because = λ h op c a b. b } (tells_in delete_tells s)
-operations_at (states.Rename s) =
-    tells_within states.Rename record { decided = λ t. refl; before = λ h op c t b. b; because = λ h op c a b. b } (tells_in rename_tells s)
+operations_at : (counts : Counts) (s : OperationState) → TellsIn counts operations operation_deciding (operation_telling counts) s
+operations_at counts (states.Look s) =
+    tells_within states.Look record { decided = λ t. refl; before = λ h op c t b. b; because = λ h op c a b. b } (tells_in (look_tells counts) s)
+operations_at counts (states.List s) =
+    tells_within states.List record { decided = λ t. refl; before = λ h op c t b. b; because = λ h op c a b. b } (tells_in (list_tells counts) s)
+operations_at counts (states.Make s) =
+    tells_within states.Make record { decided = λ t. refl; before = λ h op c t b. b; because = λ h op c a b. b } (tells_in (make_tells counts) s)
+operations_at counts (states.Delete s) =
+    tells_within states.Delete record { decided = λ t. refl; before = λ h op c t b. b; because = λ h op c a b. b } (tells_in (delete_tells counts) s)
+operations_at counts (states.Rename s) =
+    tells_within states.Rename record { decided = λ t. refl; before = λ h op c t b. b; because = λ h op c a b. b } (tells_in (rename_tells counts) s)
 
-pub operations_tell : PartTells operations operation_deciding operation_telling
-operations_tell = part_tells operations_at because_lasts
+pub operations_tell : (counts : Counts) → PartTells counts operations operation_deciding (operation_telling counts)
+operations_tell counts = part_tells (operations_at counts) (because_lasts counts)
 
 -- ---- where each begins
 
@@ -105,11 +105,11 @@ begins_came h op c (operation.Make kind n) d came = came
 begins_came h op c (operation.Delete n) d came = came
 begins_came h op c (operation.Rename from to) d came = came
 
-pub walks_tell : WalkTells begins_in Fits operation_deciding operation_telling
-walks_tell = record {
+pub walks_tell : (counts : Counts) → WalkTells begins_in Fits operation_deciding (operation_telling counts)
+walks_tell counts = record {
   undecided = begins_undecided;
   before = λ h op c o d walked fits. begins_came h op c o d record { walked = walked; fits = fits };
-  point = λ h op c a point. inl point;
+  point = λ h op c a point. inl (inl point);
 }
 
 -- ---- few transactions
@@ -312,8 +312,8 @@ most_so c n is =
 
 pub names_fall_so : FallLaws programs names_bounding
 names_fall_so = part_fall_laws (walk_falls begins_in operations (never_grows operation_left) most_of begins_at_most operations_fall)
-    is_served (λ counts c. started (begun c)) (λ counts c. Some record { looks = most_looks c; others = 4 })
-    (λ counts c n is. most_so c n is)
+    is_served (λ counts m c. started (begun c)) (λ counts c. Some record { looks = most_looks c; others = 4 })
+    (λ counts m c n is. most_so c n is)
 
 -- neither look-ups nor replies add anything
 pub names_never_grow : (c : Counts) (m : Memory) (op : OpId) (p : Program) → names_bounding.grown c m op p ≡ none

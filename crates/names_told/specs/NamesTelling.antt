@@ -1,6 +1,7 @@
 -- What the history tells of each operation on names before its answer is decided, and what explains the answer; and how many transactions a
 -- command takes: a look for each name of its path, and at most four others.
 use Rattle.std.specs.Prelude.{◌≡◌, Some, None, List, [], ℕ}
+use Rattle.tect_ids.specs.declared.ids.Counts.{Counts}
 use Rattle.tect_ids.specs.declared.ids.DirId.{DirId}
 use Rattle.tect_ids.specs.declared.ids.Node.{Node}
 use Rattle.tect_ids.specs.declared.ids.OpId.{OpId}
@@ -85,12 +86,12 @@ OperationBefore h op c (states.Make s) = MakeBefore h op c s
 OperationBefore h op c (states.Delete s) = DeleteBefore h op c s
 OperationBefore h op c (states.Rename s) = RenameBefore h op c s
 
-abbrev pub operation_telling : Telling OperationState
-operation_telling = record { Before = OperationBefore; because = because }
+abbrev pub operation_telling : Counts → Telling OperationState
+operation_telling counts = record { Before = OperationBefore; because = because counts }
 
 -- of a running command, which first walks
-abbrev pub names_telling : Telling Program
-names_telling = next_telling (walk_telling Fits operation_telling)
+abbrev pub names_telling : Counts → Telling Program
+names_telling counts = next_telling (walk_telling Fits (operation_telling counts))
 
 -- ---- how many transactions it takes
 

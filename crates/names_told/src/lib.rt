@@ -3,6 +3,7 @@
 //! the programs.
 #![tactic(auto)]
 
+ghost use Rattle.tect_ids.specs.declared.ids.Counts.{Counts};
 ghost use Rattle.program_rules.specs.Served.{programs};
 ghost use Rattle.names_laws.specs.Known.{names_deciding};
 ghost use Rattle.telling_laws.specs.Telling.{TellingLaws};
@@ -12,7 +13,7 @@ ghost use Rattle.names_told.specs.NamesTelling.{names_telling, names_bounding};
 /// Before a command's answer is decided, the history tells how its walk went and what it saw; where the answer is decided, the history
 /// explains it, and it stays so.
 pub fn names_tell()
-    ensures { TellingLaws programs names_deciding names_telling }
+    ensures { (counts : Counts) → TellingLaws counts programs names_deciding (names_telling counts) }
 {}
 
 /// Each transaction leaves one less than was left before it, and a command begins with a look for each name of its path and four others.

@@ -11,11 +11,11 @@ use Rattle.program_forms.specs.Memories.{Memory, always}
 use Rattle.program_forms.specs.Kinds.{Turned, turned, next_does, state_heard}
 use Rattle.program_parts.specs.declared.next.Next.{Next}
 use Rattle.program_parts.specs.declared.next.Next.TheVariants.{Goes, Comes}
-use Rattle.program_parts.specs.Parts.{Part, kind_of, next_asks, next_hears}
+use Rattle.program_parts.specs.Parts.{Part, kind_of, next_asks, next_hears, next_learns}
 use Rattle.store_pasts.specs.Worlds.{World, Given, Live, next, settled}
 use Rattle.store_pasts.specs.Later.{Touched, Later}
 use Rattle.store_pasts.specs.Requests.{Moved, touched_by}
-use Rattle.program_laws.specs.Known.{Deciding, Known, Remembers, IsActor, IsApart, OfDoing, Meets}
+use Rattle.program_laws.specs.Known.{Deciding, Known, Remembers, AllLearnt, IsActor, IsApart, OfDoing, Meets}
 use Rattle.program_laws.specs.Laws.{KindLaws, DecidedLaws, HoldLaws}
 use Rattle.part_laws.specs.Parts.{NextKnows, next_known, next_decided, next_deciding, IsTurned, PartLaws}
 
@@ -90,6 +90,23 @@ module _ {S R : Type 0} {P : Part S R} {D : Deciding S R} {N : Known S R} (l : P
       goes_then c w op t.memory n (D.decided s) t.state (l.turned c m op s) so.0 (actor_still op m t.memory so.1 a) so.2
   goes_so c w op m n (Comes x) r a k = tt
 
+  -- what its actor keeps of it is so
+  abbrev Learns : World → OpId → Next S R → AnyReq → Type 0
+  Learns w op p q = Moved w (next w q) q → AllLearnt (next w q) op.actor (next_learns P op p q (store_reply w.store q))
+
+  learns_then : (c : Counts) (w : World) (op : OpId) (m : Memory) (p : Next S R) → Remembers w op.actor m → IsActor op m
+      → NextKnows N w op m p → OfDoing (Learns w op p) (λ r. Unit {0}) (next_asks P c m op p)
+  learns_then c w op m (Goes s) r a k = l.learns c w op m s r a k
+  learns_then c w op m (Comes x) r a k = tt
+
+  learns_so : (c : Counts) (w : World) (op : OpId) (m : Memory) (p : Next S R) → Remembers w op.actor m → IsActor op m
+      → NextKnows N w op m p
+      → OfDoing (Learns w op (turned (kind_of P) c m op p).state) (λ r. Unit {0}) (next_does (kind_of P) c m op p)
+  learns_so c w op m p r a k =
+      let t : Turned (Next S R) = turned (kind_of P) c m op p in
+      let so : StillSo w op m t = turns_so c w op m p r k in
+      learns_then c w op t.memory t.state so.0 (actor_still op m t.memory so.1 a) so.2
+
   hears_decided : (c : Counts) (m : Memory) (op : OpId) (p : Next S R) (q : AnyReq) (x : AnyReply) (r : R) → next_decided D p ≡ Some r
       → next_decided D (next_hears P c m op p q x) ≡ Some r
   hears_decided c m op (Goes s) q x r e = l.heard c m op s q x r e
@@ -147,7 +164,7 @@ module _ {S R : Type 0} {P : Part S R} {D : Deciding S R} {N : Known S R} (l : P
   -- ---- the laws
 
   pub kind_laws : KindLaws (kind_of P) (next_deciding D) (next_known N)
-  kind_laws = record { turns = turns_so; meets = meets_so; stays = stays_so; goes_on = goes_so }
+  kind_laws = record { turns = turns_so; meets = meets_so; stays = stays_so; goes_on = goes_so; learns = learns_so }
 
   pub decided_laws : DecidedLaws (kind_of P) (next_deciding D) (next_known N)
   decided_laws = record {

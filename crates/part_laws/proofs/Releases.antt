@@ -72,6 +72,7 @@ release_laws = record {
   goes_on = λ c w op m n s r a k kept serial.
       let q : AnyReq = release_ask (s.first).node (s.first).hold in
       then_release_knows (next w q) op n s.second s.answer (freed_stays (touched_by q) w (next w q) kept.later s.second k.second) k.plain;
+  learns = λ c w op m s r a k kept. tt;
   heard = λ c m op s q x r e. then_release_decided s.second s.answer ∙ e;
   spends = λ c w op m s r a k e. absurd (let f : Some s.answer ≡ None = e in cc);
   grants = λ c w op m s r a k e. absurd (let f : Some s.answer ≡ None = e in cc);

@@ -14,7 +14,7 @@ use Rattle.program_parts.specs.Doings.{Doing, doing}
 use Rattle.store_pasts.specs.Worlds.{World, Given, Live, next, settled}
 use Rattle.store_pasts.specs.Later.{Touched, Later}
 use Rattle.store_pasts.specs.Requests.{Moved, touched_by}
-use Rattle.program_laws.specs.Known.{Deciding, Known, Remembers, IsActor, IsApart, Meets}
+use Rattle.program_laws.specs.Known.{Deciding, Known, Remembers, AllLearnt, IsActor, IsApart, Meets}
 use Rattle.part_laws.specs.Parts.{NextKnows, next_decided, IsTurned, PartLaws}
 use Rattle.part_laws.proofs.Looks.{nothing_turns, nothing_turned}
 
@@ -34,6 +34,9 @@ pub record LawsAt {S R : Type 0} (d : Doing S R) (D : Deciding S R) (N : Known S
       → NextKnows N
       (settled op now (next_decided D (d.hears c m op (d.asks c m op) (store_reply w.store (d.asks c m op)))) (next w (d.asks c m op)))
       op n (d.hears c m op (d.asks c m op) (store_reply w.store (d.asks c m op)))
+  pub learns : (c : Counts) (w : World) (op : OpId) (m : Memory) → Remembers w op.actor m → IsActor op m
+      → Knows w op m → Moved w (next w (d.asks c m op)) (d.asks c m op)
+      → AllLearnt (next w (d.asks c m op)) op.actor (d.learns op (d.asks c m op) (store_reply w.store (d.asks c m op)))
   pub heard : (c : Counts) (m : Memory) (op : OpId) (q : AnyReq) (x : AnyReply) (r : R) → now ≡ Some r
       → next_decided D (d.hears c m op q x) ≡ Some r
   pub spends : (c : Counts) (w : World) (op : OpId) (m : Memory) → Remembers w op.actor m → IsActor op m
@@ -64,6 +67,9 @@ pub record WaitsAt {S R : Type 0} (P : Part S R) (D : Deciding S R) (N : Known S
       (settled op None (next_decided D (P.hears c m op s (P.asks c m op s) (store_reply w.store (P.asks c m op s))))
       (next w (P.asks c m op s)))
       op n (P.hears c m op s (P.asks c m op s) (store_reply w.store (P.asks c m op s)))
+  pub learns : (c : Counts) (w : World) (op : OpId) (m : Memory) → Remembers w op.actor m → IsActor op m
+      → N.Knows w op m s → Moved w (next w (P.asks c m op s)) (P.asks c m op s)
+      → AllLearnt (next w (P.asks c m op s)) op.actor (P.learns op s (P.asks c m op s) (store_reply w.store (P.asks c m op s)))
   pub spends : (c : Counts) (w : World) (op : OpId) (m : Memory) → Remembers w op.actor m → IsActor op m
       → N.Knows w op m s → (r : R) (h : Hold) (g : Given)
       → next_decided D (P.hears c m op s (P.asks c m op s) (store_reply w.store (P.asks c m op s))) ≡ Some r → h.op ≡ op
@@ -84,6 +90,7 @@ module _ {S R : Type 0} {P : Part S R} {D : Deciding S R} {N : Known S R} where
     stays = λ by w v op m s. (at s).stays by w v op m;
     ends = ends;
     goes_on = λ c w op m n s. (at s).goes_on c w op m n;
+    learns = λ c w op m s. (at s).learns c w op m;
     heard = λ c m op s. (at s).heard c m op;
     spends = λ c w op m s. (at s).spends c w op m;
     grants = λ c w op m s. (at s).grants c w op m;
@@ -96,6 +103,7 @@ module _ {S R : Type 0} {P : Part S R} {D : Deciding S R} {N : Known S R} where
     meets = λ c w op m. l.meets c w op m s;
     stays = λ by w v op m. l.stays by w v op m s;
     goes_on = λ c w op m n. l.goes_on c w op m n s;
+    learns = λ c w op m. l.learns c w op m s;
     heard = λ c m op. l.heard c m op s;
     spends = λ c w op m. l.spends c w op m s;
     grants = λ c w op m. l.grants c w op m s;
@@ -108,6 +116,7 @@ module _ {S R : Type 0} {P : Part S R} {D : Deciding S R} {N : Known S R} where
     meets = l.meets;
     stays = l.stays;
     goes_on = λ c w op m n r a k kept serial. rw l.undecided (l.goes_on c w op m n r a k kept serial);
+    learns = l.learns;
     heard = λ c m op q x r e. absurd (let f : None ≡ Some r = sym l.undecided ∙ e in cc);
     spends = λ c w op m r a k e. l.spends c w op m r a k;
     grants = λ c w op m r a k e. l.grants c w op m r a k;

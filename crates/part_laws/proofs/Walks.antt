@@ -78,6 +78,7 @@ module _ {O S : Type 0} (begins : O → DirId → S) {P : Part S Answer} {D : De
         walked_knows (next w q) op m' (request_place c q) key ns o (store_reply w.store q) (as_found (store_reply w.store q))
         kept.taught (new_untouched (touched_by q) w (next w q) op kept.later (λ h own. refl) (λ h own. refl) (λ t own. refl) k.new)
         (rw (serial, look_serial w.store m key) k.left) (look_not_odd w.store (request_place c q) key key);
+    learns = λ c w op m r a k kept. tt;
     spends = λ c w op m r a k x h g now own is live. absurd (no_hold w op k.new h g own is);
     grants = λ c w op m r a k kept h none t ok. absurd (let f : false ≡ true = t in cc);
   }

@@ -58,6 +58,7 @@ module _ {S T R : Type 0} (f : S → T) {D : Deciding S R} {N : Known S R} {E : 
         let h : Next S R = d.hears c m op q (store_reply w.store q) in
         rw (decided_then h)
         (knows_then (settled op now (next_decided D h) (next w q)) op n h (l.goes_on c w op m n r a k kept serial));
+    learns = l.learns;
     heard = λ c m op q x r e. decided_then (d.hears c m op q x) ∙ l.heard c m op q x r e;
     spends = λ c w op m r a k e x h g is.
         let q : AnyReq = d.asks c m op in

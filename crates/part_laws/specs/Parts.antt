@@ -14,7 +14,7 @@ use Rattle.program_parts.specs.Parts.{Part}
 use Rattle.store_pasts.specs.Worlds.{World, Given, Live, next, settled}
 use Rattle.store_pasts.specs.Later.{Touched, Later}
 use Rattle.store_pasts.specs.Requests.{Moved, touched_by}
-use Rattle.program_laws.specs.Known.{Deciding, Known, Remembers, IsActor, IsApart, Meets}
+use Rattle.program_laws.specs.Known.{Deciding, Known, Remembers, AllLearnt, IsActor, IsApart, Meets}
 
 -- what is so of where it goes on, or of what it has come to
 abbrev pub NextKnows : {S R : Type 0} → Known S R → World → OpId → Memory → Next S R → Type 0
@@ -59,6 +59,10 @@ pub record PartLaws {S R : Type 0} (P : Part S R) (D : Deciding S R) (N : Known 
       (settled op (D.decided s) (next_decided D (P.hears c m op s (P.asks c m op s) (store_reply w.store (P.asks c m op s))))
       (next w (P.asks c m op s)))
       op n (P.hears c m op s (P.asks c m op s) (store_reply w.store (P.asks c m op s)))
+  -- what its actor keeps of the reply is so
+  pub learns : (c : Counts) (w : World) (op : OpId) (m : Memory) (s : S) → Remembers w op.actor m → IsActor op m
+      → N.Knows w op m s → Moved w (next w (P.asks c m op s)) (P.asks c m op s)
+      → AllLearnt (next w (P.asks c m op s)) op.actor (P.learns op s (P.asks c m op s) (store_reply w.store (P.asks c m op s)))
   -- once decided its answer stays so
   pub heard : (c : Counts) (m : Memory) (op : OpId) (s : S) (q : AnyReq) (x : AnyReply) (r : R) → D.decided s ≡ Some r
       → next_decided D (P.hears c m op s q x) ≡ Some r

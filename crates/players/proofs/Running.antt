@@ -69,7 +69,7 @@ ended_last P counts a s (Some r) some p is = absurd cc
 
 happens_last : {S : Type 0} (P : Programs S) (counts : Counts) (a : ℕ) (s : Actor S) (op : OpId) (h : Happening) → eqb op.actor a ≡ true
     → RunsLast a s → RunsLast a (own_next P counts s (Own op h))
-happens_last P counts a s op (Began c) mine last p is = begins_last a s op (Goes (P.starts counts c)) mine p is
+happens_last P counts a s op (Began c) mine last p is = begins_last a s op (Goes (P.starts counts s.memory c)) mine p is
 happens_last P counts a s op (NotBegun c) mine last p is = begins_last a s op NoRoom mine p is
 happens_last P counts a s op (Acted q x h) mine last p is = went_last P counts a s q x h s.running refl last p is
 happens_last P counts a s op (Ended x) mine last p is = ended_last P counts a s s.running refl p is

@@ -15,10 +15,10 @@ use tect_ids::{Answer, Command, NoMemory, OpId};
 pub trait Programs: Sized {
     ghost rules: { Rules Self };
 
-    /// The state in which a command begins.
+    /// The state in which a command begins, by what its actor knows.
     fn start(alloc: Global, memory: &Memory, op: OpId, command: Command) -> Result<Self, NoMemory>
         requires served { rules.serves command ≡ true }
-        ensures { IfOk result (λ state. state ≡ rules.starts memory.now.counts command) };
+        ensures { IfOk result (λ state. state ≡ rules.starts memory.now.counts memory.now.memory command) };
 
     /// Looks up in the memory what it can, and gives the request that the command makes next, with the tokens that it needs.
     /// None where it has its answer. For want of memory it has looked up all the same.

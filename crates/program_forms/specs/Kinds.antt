@@ -36,11 +36,11 @@ pub record Kind (S R : Type 0) : Type 0 where
   pub hears : Counts → Memory → OpId → S → AnyReq → AnyReply → S
   pub learns : OpId → S → AnyReq → AnyReply → List Learnt
 
--- the programs of all commands: which commands are served, and how each begins
+-- the programs of all commands: which commands are served, and how each begins, by what its actor knows
 pub record Programs (S : Type 0) : Type 0 where
   pub kind : Kind S Answer
   pub serves : Command → Bool
-  pub starts : Counts → Command → S
+  pub starts : Counts → Memory → Command → S
 
 -- only where it asks something does it look into the memory before
 abbrev pub turned_by : {S R : Type 0} → Does R → Memory → S → Turned S → Turned S

@@ -1,3 +1,4 @@
 pub mod Lacks
+pub mod Appends
 pub mod Memories
 pub mod Kinds

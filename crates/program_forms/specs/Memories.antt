@@ -1,9 +1,10 @@
 -- What an actor knows between its commands, and what a reply does to that.
-use Rattle.std.specs.Prelude.{ℕ, ◌+◌, if◌then◌else◌, List, [], ◌∷◌, Some}
+use Rattle.std.specs.Prelude.{ℕ, ◌+◌, Bool, true, if◌then◌else◌, List, [], ◌∷◌, Some}
 use Rattle.std.specs.declared.cmp.Ordering.{Ordering}
 use Rattle.std.specs.Ordering.{nat_cmp}
 use Rattle.std.specs.Cmp.Lexicographic.{slice_cmp}
 use Rattle.std.specs.FinMap.{FinMap, empty}
+use Rattle.std.specs.List.{filter}
 use Rattle.tect_ids.specs.declared.ids.FileId.{FileId}
 use Rattle.tect_ids.specs.declared.ids.OpId.{OpId}
 use Rattle.map_words.specs.Maps.{set_at}
@@ -39,10 +40,14 @@ opening_memory = record { serial = 1; opened = empty }
 pub data Learnt : Type 0 where
   Opens : List (List ℕ) → FileId → OpId → Learnt
 
+-- whether it has to be kept for its command to go on
+abbrev pub must_keep : Learnt → Bool
+must_keep (Opens path f t) = true
+
 -- what is kept after a reply that was heard so
 abbrev pub kept_of : Heard → List Learnt → List Learnt
 kept_of Whole ls = ls
-kept_of Unkept ls = []
+kept_of Unkept ls = filter must_keep ls
 kept_of Left ls = []
 
 -- a file that is opened anew takes the place of what was opened at the path before

@@ -1,5 +1,6 @@
 -- What a command knows where it stands, when its answer is decided, and what is so of its actor's memory.
-use Rattle.std.specs.Prelude.{◌≡◌, ℕ, ◌<◌, ◌≤◌, ◌^◌, Bool, true, false, ◌||◌, eqb, List, Option, None, Some}
+use Rattle.std.specs.Prelude.{◌≡◌, ℕ, ◌<◌, ◌≤◌, ◌^◌, Bool, true, false, ◌||◌, eqb, List, [], ◌∷◌, Option, None, Some}
+use Rattle.std.specs.FinMap.{get}
 use Rattle.tect_ids.specs.declared.ids.BlkId.{BlkId}
 use Rattle.tect_ids.specs.declared.ids.Hold.{Hold}
 use Rattle.tect_ids.specs.declared.ids.Node.{Node}
@@ -9,11 +10,11 @@ use Rattle.tect_ids.specs.declared.ids.Tag.{Tag}
 use Rattle.tect_ids.specs.declared.answer.Answer.{Answer}
 use Rattle.tect_ids.specs.declared.answer.Answer.TheVariants as answers
 use Rattle.tect_ids.specs.declared.command.Command.{Command}
-use Rattle.tect_ids.specs.declared.command.Command.TheVariants as commands
 use Rattle.tect_ids.specs.Keys.{op_eq, node_eq, blk_eq}
 use Rattle.tect_ids.specs.Numbers.{object_number}
 use Rattle.store_rules.specs.declared.any.AnyReq.{AnyReq}
-use Rattle.program_forms.specs.Memories.{Memory}
+use Rattle.program_forms.specs.Appends.{command_bytes}
+use Rattle.program_forms.specs.Memories.{Memory, OpenedFile, Learnt, Opens}
 use Rattle.program_forms.specs.Kinds.{Does, Asks, Says}
 use Rattle.store_pasts.specs.Worlds.{World}
 use Rattle.store_pasts.specs.Pasts.{was_made}
@@ -41,20 +42,26 @@ pub record IsNewOp (w : World) (op : OpId) : Type 0 where
   pub row_given : (h : Hold) → h.op ≡ op → w.ghost.row_given h ≡ None
   pub tagged : (t : Tag) → t.op ≡ op → w.ghost.tagged t ≡ None
 
--- the bytes that a command appends
-abbrev pub command_bytes : Command → Option (List ℕ)
-command_bytes (commands.Append path bytes) = Some bytes
-command_bytes _ = None
-
 -- what its command appends, the op has said
 abbrev pub HasSaid : World → OpId → Command → Type 0
 HasSaid w op c = (bytes : List ℕ) → command_bytes c ≡ Some bytes → w.ghost.said op ≡ Some bytes
 
--- what is so of an actor's memory: nothing was made yet from its serial on
+-- what is kept of an open is so: the file was made, and the token is the actor's own
+pub record IsOpenedFile (w : World) (a : ℕ) (o : OpenedFile) : Type 0 where
+  pub made : was_made w.ghost (File o.file) ≡ true
+  pub own : o.token.actor ≡ a
+
+-- so is all that a reply tells the actor
+abbrev pub AllLearnt : World → ℕ → List Learnt → Type 0
+AllLearnt w a [] = Unit {0}
+AllLearnt w a (Opens path f t ∷ ls) = IsOpenedFile w a record { file = f; token = t } × AllLearnt w a ls
+
+-- what is so of an actor's memory: nothing was made yet from its serial on, and what is kept of its opens is so
 pub record Remembers (w : World) (a : ℕ) (m : Memory) : Type 0 where
   pub files : 1 ≤ a → (i : ℕ) → m.serial ≤ i → i < 2 ^ 32 → was_made w.ghost (File record { 0 = object_number a i }) ≡ false
   pub dirs : 1 ≤ a → (i : ℕ) → m.serial ≤ i → i < 2 ^ 32 → was_made w.ghost (Dir record { 0 = object_number a i }) ≡ false
   pub blocks : 1 ≤ a → (i : ℕ) → m.serial ≤ i → i < 2 ^ 32 → w.ghost.born record { 0 = object_number a i } ≡ None
+  pub opened : (path : List (List ℕ)) (o : OpenedFile) → get m.opened path ≡ Some o → IsOpenedFile w a o
 
 -- the op's actor is numbered, and its serial is a small number
 pub record IsActor (op : OpId) (m : Memory) : Type 0 where

@@ -17,7 +17,8 @@ use Rattle.store_pasts.specs.Worlds.{World, Given, Live, next, settled}
 use Rattle.store_pasts.specs.Pasts.{was_made}
 use Rattle.store_pasts.specs.Later.{Touched, Later}
 use Rattle.store_pasts.specs.Requests.{Moved, touched_by}
-use Rattle.program_laws.specs.Known.{Deciding, Known, Remembers, IsActor, IsNewOp, HasSaid, IsApart, OfDoing, Meets, is_odd}
+use Rattle.program_laws.specs.Known.{Deciding, Known, Remembers, AllLearnt, IsActor, IsNewOp, HasSaid, IsApart, OfDoing}
+use Rattle.program_laws.specs.Known.{Meets, is_odd}
 
 -- Of a kind of commands: by its look-ups a command still knows what it has to, and its memory is as true; what it asks next is safe, and
 -- what it comes to is as it ought to be; what others do leaves what it knows; and at a reply it goes on, in the world after its request,
@@ -36,6 +37,11 @@ pub record KindLaws {S R : Type 0} (K : Kind S R) (D : Deciding S R) (N : Known 
       → OfDoing (λ q. Moved w (next w q) q → n.serial ≡ (always (turned K c m op s).memory q (store_reply w.store q)).serial
       → N.Knows (settled op (D.decided s) (D.decided (state_heard K c m op s q (store_reply w.store q))) (next w q)) op n
       (state_heard K c m op s q (store_reply w.store q))) (λ r. Unit {0}) (next_does K c m op s)
+  -- what its actor keeps of the reply is so
+  pub learns : (c : Counts) (w : World) (op : OpId) (m : Memory) (s : S) → Remembers w op.actor m → IsActor op m → N.Knows w op m s
+      → OfDoing
+      (λ q. Moved w (next w q) q → AllLearnt (next w q) op.actor (K.learns op (turned K c m op s).state q (store_reply w.store q)))
+      (λ r. Unit {0}) (next_does K c m op s)
 
 -- Of when its answer is decided: once it is, it stays so, by its look-ups and at each reply to what it asks; and what it comes to was
 -- decided.
@@ -62,9 +68,9 @@ pub record HoldLaws {S R : Type 0} (K : Kind S R) (D : Deciding S R) (N : Known 
       → D.decided (state_heard K c m op s q (store_reply w.store q)) ≡ None) (λ r. Unit {0}) (next_does K c m op s)
 
 -- Of the programs of all commands: each that is served begins with what it has to know, once the root was made and the op has said what it
--- appends, and no answer says that a reply was odd.
+-- appends, where its actor's memory is true; and no answer says that a reply was odd.
 pub record ProgramLaws {S : Type 0} (P : Programs S) (D : Deciding S Answer) (N : Known S Answer) : Type 0 where
   pub kind : KindLaws P.kind D N
   pub begins : (c : Counts) (w : World) (op : OpId) (m : Memory) (k : Command) → was_made w.ghost (Dir root) ≡ true → IsNewOp w op
-      → HasSaid w op k → m.serial ≤ op.number → P.serves k ≡ true → N.Knows w op m (P.starts c k)
+      → HasSaid w op k → Remembers w op.actor m → m.serial ≤ op.number → P.serves k ≡ true → N.Knows w op m (P.starts c m k)
   pub plain : (w : World) (a : Answer) → N.Ends w a → is_odd a ≡ false

@@ -69,5 +69,5 @@ abbrev pub programs : Programs Program
 programs = record {
   kind = kind_of (walking begins_in operations);
   serves = is_served;
-  starts = λ counts c. started (begun c);
+  starts = λ counts m c. started (begun c);
 }

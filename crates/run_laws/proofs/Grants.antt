@@ -13,6 +13,7 @@ use Rattle.store_rules.specs.Store.{store_reply}
 use Rattle.store_rules.specs.Views.{is_granted}
 use Rattle.program_forms.specs.declared.heard.Heard.{Heard}
 use Rattle.program_forms.specs.declared.heard.Heard.TheVariants as hearing
+use Rattle.program_forms.specs.Appends.{command_bytes}
 use Rattle.program_forms.specs.Kinds.{Programs, state_heard}
 use Rattle.world_runs.specs.declared.event.Event.{Event}
 use Rattle.world_runs.specs.declared.event.Event.TheVariants.{Own, Dumped}
@@ -28,7 +29,7 @@ use Rattle.store_pasts.specs.Requests.{Needs, is_moved, touched_by}
 use Rattle.store_pasts.proofs.Over.{settles_nothing}
 use Rattle.store_world.proofs.Rows.{role_laws}
 use Rattle.store_pasts.proofs.Sayings.{saying_later}
-use Rattle.program_laws.specs.Known.{Deciding, Known, command_bytes}
+use Rattle.program_laws.specs.Known.{Deciding, Known}
 use Rattle.program_laws.specs.Laws.{ProgramLaws, HoldLaws}
 use Rattle.run_laws.specs.Pasts.{ghosts_after, ghost_after, world_of, world}
 use Rattle.run_laws.specs.Known.{AllSound}

@@ -1,5 +1,6 @@
 -- each event keeps what is so at every moment
-use Rattle.std.proofs.Common.{◌≡◌, ℕ, ◌<◌, ◌≤◌, ◌^◌, Bool, true, false, eqb, List, Option, Some, None, refl, arith, subst}
+use Rattle.std.proofs.Common.{◌≡◌, ℕ, ◌<◌, ◌≤◌, ◌^◌, Bool, true, false, eqb, List, Option, Some, None, refl, sym, ◌∙◌, arith, subst}
+use Rattle.std.specs.FinMap.{get-empty}
 use Rattle.tect_ids.specs.declared.ids.Counts.{Counts}
 use Rattle.tect_ids.specs.declared.ids.Hold.{Hold}
 use Rattle.tect_ids.specs.declared.ids.Node.TheVariants.{Dir, File}
@@ -17,7 +18,8 @@ use Rattle.program_forms.specs.declared.heard.Heard.{Heard}
 use Rattle.program_forms.specs.declared.heard.Heard.TheVariants as hearing
 use Rattle.program_forms.specs.declared.standing.Standing.{Standing}
 use Rattle.program_forms.specs.declared.standing.Standing.TheVariants.{Goes, Left, NoRoom}
-use Rattle.program_forms.specs.Memories.{Memory, always}
+use Rattle.program_forms.specs.Memories.{Memory, Learnt, path_cmp, kept_of, always}
+use Rattle.program_forms.specs.Appends.{command_bytes}
 use Rattle.program_forms.specs.Kinds.{Programs, turned, state_heard, memory_heard}
 use Rattle.world_runs.specs.declared.event.Event.{Event}
 use Rattle.world_runs.specs.declared.event.Event.TheVariants.{Own, Dumped}
@@ -37,50 +39,14 @@ use Rattle.store_world.proofs.Sayings.{saying_sound}
 use Rattle.store_world.proofs.Rows.{row_kept, opening_sound}
 use Rattle.whole_runs.proofs.Actors.{changed, other_number}
 use Rattle.tect_ids.specs.Numbers.{object_number}
-use Rattle.program_laws.specs.Known.{Deciding, Known, Remembers, IsActor, IsNewOp, HasSaid, IsApart, Meets, by_op, command_bytes}
+use Rattle.program_laws.specs.Known.{Deciding, Known, Remembers, AllLearnt, IsActor, IsNewOp, HasSaid, IsApart, Meets, by_op}
 use Rattle.program_laws.specs.Laws.{ProgramLaws}
 use Rattle.run_laws.specs.Pasts.{standing_decided, ghost_after, world_of}
 use Rattle.run_laws.specs.Known.{StandingKnows, RunsSoundly, RunningKnows, ActorSound, AllSound}
 use Rattle.run_laws.proofs.Turns.{IsAsked, asked_by_op}
+use Rattle.run_laws.proofs.Own.{apart_of, said_own, given_up_own}
+use Rattle.run_laws.proofs.Learns.{opened_later, opened_so, kept_so}
 use Rattle.run_laws.proofs.Serials.{SerialGoesOn, serial_goes_on, within_actor, file_of_actor, dir_of_actor, block_of_actor}
-
--- what another actor does is apart from an op
-apart_of : (a : ℕ) (op : OpId) → eqb op.actor a ≡ false → IsApart (by_actor a) op
-apart_of a op other = record {
-  hold = λ h own. rw (own, other) refl;
-  made = λ n own. rw (own, other) refl;
-  named = λ n own. rw (own, other) refl;
-  row_hold = λ h own. rw (own, other) refl;
-  born = λ b own. rw (own, other) refl;
-  tag = λ t own. rw (own, other) refl;
-  sealed = λ b own. rw (own, other) refl;
-}
-
--- what it says at a begin is its own
-said_own : (op : OpId) → Within (touches_said op) (by_actor op.actor)
-said_own op = record {
-  hold = λ h o. refl;
-  made = λ n o. refl;
-  named = λ n o. refl;
-  row_hold = λ h o. refl;
-  born = λ b o. refl;
-  tag = λ t o. refl;
-  sealed = λ b o. refl;
-  said = λ x o. grind (arith, keys);
-}
-
--- what is given up is its op's
-given_up_own : (op : OpId) (m : Memory) → Within (touches_op op) (by_op op m)
-given_up_own op m = record {
-  hold = λ h o. o;
-  made = λ n o. refl;
-  named = λ n o. refl;
-  row_hold = λ h o. o;
-  born = λ b o. refl;
-  tag = λ t o. refl;
-  sealed = λ b o. refl;
-  said = λ x o. refl;
-}
 
 module _ {S : Type 0} (P : Programs S) (D : Deciding S Answer) (N : Known S Answer) (laws : ProgramLaws P D N) where
   -- what another actor does leaves an actor's part
@@ -90,6 +56,7 @@ module _ {S : Type 0} (P : Programs S) (D : Deciding S Answer) (N : Known S Answ
       files = λ one i le lt. l.unmade (File record { 0 = object_number b i }) (rw (file_of_actor b i lt) apart) (r.files one i le lt);
       dirs = λ one i le lt. l.unmade (Dir record { 0 = object_number b i }) (rw (dir_of_actor b i lt) apart) (r.dirs one i le lt);
       blocks = λ one i le lt. l.blocks.unborn record { 0 = object_number b i } (rw (block_of_actor b i lt) apart) (r.blocks one i le lt);
+      opened = λ path o e. opened_later (by_actor a) w v l b o (r.opened path o e);
     }
 
     standing_stays : (op : OpId) → eqb op.actor a ≡ false → (m : Memory) (at : Standing S) → StandingKnows N w op m at
@@ -174,6 +141,13 @@ module _ {S : Type 0} (P : Programs S) (D : Deciding S Answer) (N : Known S Answ
         (state_heard P.kind m.counts me.memory op st q x)
     goes_on n e = (rw by.ask at (laws.kind.goes_on m.counts w op me.memory n st actor.remembers is_actor runs.at)) moved e
 
+    -- what its actor keeps of the reply
+    abbrev learns : List Learnt
+    learns = P.kind.learns op (turned P.kind m.counts me.memory op st).state q x
+
+    learns_so : AllLearnt v op.actor learns
+    learns_so = (rw by.ask at (laws.kind.learns m.counts w op me.memory st actor.remembers is_actor runs.at)) moved
+
     -- the world once it heard the reply so
     abbrev pub u : Heard → World
     u h = settled op (D.decided st) (standing_decided D (standing_heard P m.counts me.memory op (Goes st) q x h)) v
@@ -195,7 +169,7 @@ module _ {S : Type 0} (P : Programs S) (D : Deciding S Answer) (N : Known S Answ
       later = weaken (by_op op mem) (by_actor op.actor) w (u h) (within_actor op mem few) own_later
 
       -- the actor's state then, with what it keeps
-      remembers_then : Remembers (u h) op.actor (always mem q x)
+      remembers_then : Remembers (u h) op.actor (memory_heard P.kind m.counts me.memory op st q x h)
       remembers_then = record {
         files = λ one i le lt. after_reply.unmade _ refl
             (kept.later.unmade _ (serial.file i le) (looked_up.0.files one i (omega (arith, serial.grows, le)) lt));
@@ -203,6 +177,9 @@ module _ {S : Type 0} (P : Programs S) (D : Deciding S Answer) (N : Known S Answ
             (kept.later.unmade _ (serial.dir i le) (looked_up.0.dirs one i (omega (arith, serial.grows, le)) lt));
         blocks = λ one i le lt. after_reply.blocks.unborn _ refl
             (kept.later.blocks.unborn _ (serial.block i le) (looked_up.0.blocks one i (omega (arith, serial.grows, le)) lt));
+        opened = λ path o e. opened_later (touches_op op) v (u h) after_reply op.actor o
+            (opened_so v op.actor (kept_of h learns) mem.opened (kept_so v op.actor h learns learns_so)
+            (λ was old is. opened_later (touched_by q) w v kept.later op.actor old (looked_up.0.opened was old is)) path o e);
       }
 
       ahead_then : (k : Hold) → k.op.actor ≡ op.actor → me.number < k.op.number → (u h).ghost.given k ≡ None
@@ -223,7 +200,7 @@ module _ {S : Type 0} (P : Programs S) (D : Deciding S Answer) (N : Known S Answ
 
     acts_on : (h : Heard) → ActorSound N (u h) op.actor (went_on P m.counts me (Some record { op = op; at = Goes st }) q x h)
     acts_on h = record {
-      remembers = record { files = (remembers_then h).files; dirs = (remembers_then h).dirs; blocks = (remembers_then h).blocks };
+      remembers = remembers_then h;
       ahead = ahead_then h;
       ahead_rows = ahead_rows_then h;
       ahead_tags = ahead_tags_then h;
@@ -282,13 +259,17 @@ module _ {S : Type 0} (P : Programs S) (D : Deciding S Answer) (N : Known S Answ
         tagged = λ t own. begun_later.blocks.untagged t refl (part.ahead_tags t (rw own refl) (rw own (omega (arith, can.next))));
       }
 
+      remembers_there : Remembers there op.actor idle.memory
+      remembers_there = record {
+        files = λ one i le lt. begun_later.unmade _ refl (part.remembers.files one i le lt);
+        dirs = λ one i le lt. begun_later.unmade _ refl (part.remembers.dirs one i le lt);
+        blocks = λ one i le lt. begun_later.blocks.unborn _ refl (part.remembers.blocks one i le lt);
+        opened = λ path file e. opened_later (touches_said op) here there begun_later op.actor file (part.remembers.opened path file e);
+      }
+
       begins : (at : Standing S) → StandingKnows N there op idle.memory at → ActorSound N there op.actor (runs_at at)
       begins at knows = record {
-        remembers = record {
-          files = λ one i le lt. begun_later.unmade _ refl (part.remembers.files one i le lt);
-          dirs = λ one i le lt. begun_later.unmade _ refl (part.remembers.dirs one i le lt);
-          blocks = λ one i le lt. begun_later.blocks.unborn _ refl (part.remembers.blocks one i le lt);
-        };
+        remembers = remembers_there;
         ahead = λ h own lt. begun_later.fresh h refl (part.ahead h own (omega (arith, can.next, lt)));
         ahead_rows = λ h own lt. begun_later.rows.fresh h refl (part.ahead_rows h own (omega (arith, can.next, lt)));
         ahead_tags = λ t own lt. begun_later.blocks.untagged t refl (part.ahead_tags t own (omega (arith, can.next, lt)));
@@ -312,9 +293,10 @@ module _ {S : Type 0} (P : Programs S) (D : Deciding S Answer) (N : Known S Answ
     has_said bytes e = says_now here op (command_bytes c) bytes e (part.unsaid op refl (omega (arith, can.next)))
 
     began_sound : P.serves c ≡ true → AllSound N (after P m (Own op (Began c))) (ghost_said op (command_bytes c) g)
-    began_sound served = begins_sound (command_bytes c) (Goes (P.starts m.counts c))
+    began_sound served = begins_sound (command_bytes c) (Goes (P.starts m.counts idle.memory c))
         (laws.begins m.counts (there (command_bytes c)) op idle.memory c
-        (saying_sound here op (command_bytes c) s.sound).tree.root_made (new (command_bytes c)) has_said serial_few served)
+        (saying_sound here op (command_bytes c) s.sound).tree.root_made (new (command_bytes c)) has_said (remembers_there (command_bytes c))
+        serial_few served)
 
     -- a refused op has its answer, of which nothing is owed
     refused_sound : AllSound N (after P m (Own op (NotBegun c))) g
@@ -397,6 +379,7 @@ opening_all_sound N counts = record {
       files = λ one i le lt. grind (arith, maps);
       dirs = λ one i le lt. grind (arith, maps);
       blocks = λ one i le lt. refl;
+      opened = λ path o e. absurd (let none : None ≡ Some o = sym (get-empty path_cmp path) ∙ e in cc);
     };
     ahead = λ h own lt. refl;
     ahead_rows = λ h own lt. refl;

@@ -6,6 +6,7 @@ use Rattle.tect_ids.specs.declared.answer.Answer.{Answer}
 use Rattle.store_rules.specs.Store.{Store, opening_store}
 use Rattle.program_forms.specs.declared.standing.Standing.{Standing}
 use Rattle.program_forms.specs.declared.standing.Standing.TheVariants.{Goes, Left, NoRoom}
+use Rattle.program_forms.specs.Appends.{command_bytes}
 use Rattle.program_forms.specs.Kinds.{Programs}
 use Rattle.world_runs.specs.declared.event.Event.{Event}
 use Rattle.world_runs.specs.declared.event.Event.TheVariants.{Own, Dumped}
@@ -15,7 +16,7 @@ use Rattle.world_runs.specs.Actors.{Actor, Running, went_on}
 use Rattle.world_runs.specs.Moments.{WorldState, after, opening}
 use Rattle.world_runs.specs.OwnRuns.{stored_after}
 use Rattle.store_pasts.specs.Worlds.{Ghost, World, opening_ghost, ghost_next, ghost_settled, ghost_said}
-use Rattle.program_laws.specs.Known.{Deciding, command_bytes}
+use Rattle.program_laws.specs.Known.{Deciding}
 
 -- what is decided where a command stands: one that did not hear its last reply decided nothing by it
 abbrev pub standing_decided : {S : Type 0} → Deciding S Answer → Standing S → Option Answer

@@ -126,7 +126,7 @@ module _ {S : Type 0} (P : Programs S) (full : List Event → ℕ → Bool) wher
       refuses : RefusesAsFull full before (begin ∷ [])
 
     abbrev starting : Running S
-    starting = record { op = op; at = Goes (P.starts m.counts c) }
+    starting = record { op = op; at = Goes (P.starts m.counts (m.actors a).memory c) }
 
     abbrev declined : Running S
     declined = record { op = op; at = NoRoom }

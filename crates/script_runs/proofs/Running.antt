@@ -132,7 +132,7 @@ module _ {S : Type 0} (P : Programs S) (c : Counts) (a : ℕ) (s : Actor S) wher
 module _ {S : Type 0} (P : Programs S) where
   own_well : (c : Counts) (s : Actor S) (op : OpId) (h : Happening) → OwnMay P c s op h → IsWell op.actor s
       → IsWell op.actor (own_after P c s op h)
-  own_well c s op (Began k) may well = started_well s op (Goes (P.starts c k)) may.0
+  own_well c s op (Began k) may well = started_well s op (Goes (P.starts c s.memory k)) may.0
   own_well c s op (NotBegun k) may well = started_well s op NoRoom may.0
   own_well c s op (Acted q x h) may well = heard_well P c op.actor s s.running q x h refl well
   own_well c s op (Ended x) may well = ended_well P c op.actor s s.running refl

@@ -133,7 +133,8 @@ module _ (w : World) (op : OpId) where
   row_before h g = by_op_row h (λ o. o ≡ Some g → RowWas (w.ghost.row_given h) g) (past_row (w.ghost.row_given h) g)
       (same_row (w.ghost.row_given h) g)
 
-  pub row_set_stays : (h : Hold) (b : BlkId) (f : FileId) (i : ℕ) → w.ghost.row_given h ≡ Some record { blk = b; file = f; phase = RowSet i }
+  pub row_set_stays : (h : Hold) (b : BlkId) (f : FileId) (i : ℕ)
+      → w.ghost.row_given h ≡ Some record { blk = b; file = f; phase = RowSet i }
       → (over op w).ghost.row_given h ≡ Some record { blk = b; file = f; phase = RowSet i }
   row_set_stays h b f i is = by_op_row h (λ o. o ≡ Some record { blk = b; file = f; phase = RowSet i }) (rw is refl) is
 

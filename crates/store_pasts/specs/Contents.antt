@@ -133,6 +133,6 @@ abbrev pub is_unsealed : Option Block → Bool
 is_unsealed None = false
 is_unsealed (Some x) = not x.sealed
 
--- where the chunk of a block's row stands
+-- where the chunk of a block's row stands, by the disk and the tag of the row
 abbrev pub chunk_of : BlkId → DiskId → Tag → ChunkKey
 chunk_of b d t = record { disk = d; blk = b; tag = t }

@@ -17,12 +17,17 @@ use Rattle.tect_ids.specs.declared.values.RowPart.{RowPart}
 use Rattle.store_rules.specs.declared.any.AnyReply.{AnyReply}
 use Rattle.store_rules.specs.declared.file_rows.FileRow.{FileRow}
 use Rattle.store_rules.specs.Files.{row_part}
-use Rattle.store_rules.specs.Views.{is_made, is_granted}
+use Rattle.store_rules.specs.Views.{is_made, is_granted, is_opened}
 use Rattle.store_pasts.specs.Ghosts.{World}
-use Rattle.store_pasts.specs.Contents.{tag_at, disk_at, Apart, bytes_length, born_length, born_tag, sealed_length, is_unsealed, chunk_of}
+use Rattle.store_pasts.specs.Contents.{tag_at, disk_at, Apart, bytes_length, born_length, born_tag}
+use Rattle.store_pasts.specs.Contents.{block_sealed, sealed_length, is_unsealed, chunk_of}
 use Rattle.store_pasts.specs.Pasts.{was_made, row_at, IsRowGranted, content, has_chunk}
 
--- ---- rows of files
+-- ---- tokens and rows of files
+
+-- TakeToken: what is opened was made
+abbrev pub OpenedTaught : World → FileId → AnyReply → Type 0
+OpenedTaught v f x = is_opened x ≡ true → was_made v.ghost (File f) ≡ true
 
 -- Attach: the hold is the block's for that file and not bound yet, and the block is sealed and has that length
 abbrev pub AttachNeeds : World → FileId → BlkId → ℕ → Hold → Type 0
@@ -60,13 +65,14 @@ pub record NewBlockNeeds (w : World) (b : BlkId) (n : ℕ) (f : FileId) (h : Hol
   pub own : (t : Tag) → is_some (disk_at rs t) ≡ true → t.op ≡ h.op
   pub untagged : (t : Tag) → is_some (disk_at rs t) ≡ true → w.ghost.tagged t ≡ None
 
--- it is made, with its hold, its rows have their tags, and it stands unsealed
+-- it is made, with its hold, its rows have their tags, no chunk stands under these yet, and it stands unsealed
 pub record NewBlockTaught (v : World) (b : BlkId) (c : Class) (n : ℕ) (f : FileId) (h : Hold) (rs : List NewRow) (x : AnyReply) : Type 0
   where
     pub made : is_made x ≡ true
     pub born : v.ghost.born b ≡ Some record { maker = h.op; class = c; len = n; rows = rs }
     pub granted : IsRowGranted v h b f
     pub tagged : (d : DiskId) (t : Tag) → tag_at rs d ≡ Some t → v.ghost.tagged t ≡ Some record { blk = b; disk = d }
+    pub no_chunk : (d : DiskId) (t : Tag) → tag_at rs d ≡ Some t → get v.store.chunks (chunk_of b d t) ≡ None
     pub unsealed : is_unsealed (get v.store.blocks b) ≡ true
 
 -- SealBlock: the block was made, and the chunk of each of its rows stands
@@ -98,9 +104,9 @@ BlockTaught v b (Some x) = LocationTaught v b x
 abbrev pub RowGrantNeeds : World → Hold → FileId → Type 0
 RowGrantNeeds w h f = (w.ghost.row_given h ≡ None) × (was_made w.ghost (File f) ≡ true)
 
--- a hold is granted where the reply says so
+-- where the reply says so a hold is granted, and the block is sealed
 abbrev pub RowGrantTaught : World → BlkId → Hold → FileId → AnyReply → Type 0
-RowGrantTaught v b h f x = is_granted x ≡ true → IsRowGranted v h b f
+RowGrantTaught v b h f x = is_granted x ≡ true → IsRowGranted v h b f × (block_sealed (get v.store.blocks b) ≡ true)
 
 -- ---- chunks
 

@@ -7,7 +7,7 @@ use Rattle.tect_ids.specs.declared.ids.OpId.{OpId}
 use Rattle.tect_ids.specs.Keys.{op_eq, hold_eq, node_eq, blk_eq}
 use Rattle.store_rules.specs.declared.any.AnyReq.{AnyReq}
 use Rattle.store_rules.specs.declared.any.AnyReply.{AnyReply}
-use Rattle.store_rules.specs.Holds.{HoldUse, Grants, GrantsRow, Binds, GivesUp, NoHold, hold_use}
+use Rattle.store_rules.specs.Holds.{HoldUse, Grants, GrantsRow, Binds, GivesUp, NoHold, RowGrant, hold_use}
 use Rattle.store_rules.specs.Store.{store_reply}
 use Rattle.store_pasts.specs.Ghosts.{World}
 use Rattle.store_pasts.specs.Later.{Touched, Later}
@@ -66,6 +66,17 @@ is_row_moved (GrantsRow g) x = hold_eq x g.hold
 is_row_moved (Binds h) x = hold_eq x h
 is_row_moved (GivesUp h) x = false
 is_row_moved NoHold x = false
+
+abbrev pub row_granted_by : HoldUse → Option RowGrant
+row_granted_by (Grants g) = None
+row_granted_by (GrantsRow g) = Some g
+row_granted_by (Binds h) = None
+row_granted_by (GivesUp h) = None
+row_granted_by NoHold = None
+
+-- what a request is to have granted for a row
+abbrev pub row_grant_of : AnyReq → Option RowGrant
+row_grant_of q = row_granted_by (hold_use q)
 
 abbrev pub is_that : Option Node → Node → Bool
 is_that None m = false

@@ -29,7 +29,8 @@ use Rattle.store_rules.specs.Views.{as_attached, as_block_list, as_location, as_
 use Rattle.store_pasts.specs.Contents.{disk_at, rows_in}
 use Rattle.store_pasts.specs.Ghosts.{Ghost, World, ghost_made, ghost_granted, ghost_bound, ghost_unbound}
 use Rattle.store_pasts.specs.Ghosts.{ghost_attached, ghost_row_granted, ghost_born}
-use Rattle.store_pasts.specs.Learned.{AttachNeeds, AttachTaught, ListedTaught, NewBlockNeeds, NewBlockTaught, SealNeeds, SealTaught, BlockTaught}
+use Rattle.store_pasts.specs.Learned.{OpenedTaught, AttachNeeds, AttachTaught, ListedTaught}
+use Rattle.store_pasts.specs.Learned.{NewBlockNeeds, NewBlockTaught, SealNeeds, SealTaught, BlockTaught}
 use Rattle.store_pasts.specs.Learned.{RowGrantNeeds, RowGrantTaught, PutNeeds, PutTaught, GotTaught}
 use Rattle.store_pasts.specs.Pasts.{was_made, is_spent, is_row_spent, IsGranted}
 
@@ -112,14 +113,6 @@ plain = record {
   taught = λ v x. Unit {0};
 }
 
--- no command asks for it yet
-abbrev pub unasked : Role
-unasked = record plain { needs = λ w. ⊥ }
-
--- nor is it modelled yet: no step of the small machine writes a token into a file, and no block is among the nodes that are made
-abbrev pub unmodelled : Role
-unmodelled = record unasked { fits = ⊥ }
-
 -- A swap asks for another name than the old one: the tree refuses the same. What it names was named before.
 abbrev pub name_role : NameReq → Role
 name_role (names.CheckDir d) = plain
@@ -175,7 +168,7 @@ file_role (files.Grant f h k) =
       taught = λ v x. GrantTaught v (File f) h k x;
     }
 file_role (files.Release f h) = record plain { needs = λ w. is_spent w h ≡ true }
-file_role (files.TakeToken f t) = unmodelled
+file_role (files.TakeToken f t) = record plain { taught = λ v x. OpenedTaught v f x }
 file_role (files.Attach f t b n h) =
     record plain {
       ghost = λ s g. ghost_attached g b f h (rows_in (get s.files f));

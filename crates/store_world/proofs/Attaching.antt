@@ -17,15 +17,15 @@ use Rattle.store_rules.specs.declared.any.AnyReq.TheVariants as any
 use Rattle.store_rules.specs.Files.{row_part}
 use Rattle.store_rules.specs.Store.{Store, store_changes, store_change, store_reply}
 use Rattle.store_rules.specs.Views.{is_made, as_attached, as_block_list}
-use Rattle.store_pasts.specs.Worlds.{World, RowLive, done, next}
+use Rattle.store_pasts.specs.Worlds.{World, RowLive, done}
 use Rattle.store_pasts.specs.Contents.{sealed_length}
-use Rattle.store_pasts.specs.Learned.{AttachTaught, RowsTaught, ListedTaught, part_in}
+use Rattle.store_pasts.specs.Learned.{OpenedTaught, AttachTaught, RowsTaught, ListedTaught, part_in}
 use Rattle.store_pasts.specs.Pasts.{row_at}
 use Rattle.store_pasts.specs.Requests.{Needs}
 use Rattle.store_pasts.proofs.Laters.{rows_stay, blocks_same, chunks_same}
 use Rattle.store_world.specs.Sound.{Sound, lists, stands}
 use Rattle.store_world.specs.Kept.{Kept}
-use Rattle.store_world.proofs.Frames.{Row, by_answer, by_reading, grants_nothing}
+use Rattle.store_world.proofs.Frames.{Row, by_answer, by_reading, grants_nothing, no_rows}
 use Rattle.store_world.proofs.Alike.{holds_alike, nodes_alike, rows_alike}
 use Rattle.store_world.proofs.BlockMaps.{block_maps}
 
@@ -46,8 +46,10 @@ module _ (w : World) (s : Sound w) (f : FileId) (t : OpId) where
   token_rows : (x : FileId) (i : ℕ) → row_at token_taken x i ≡ row_at w.store x i
   token_rows x i = grind (arith, block_maps)
 
-  token_done : Kept w (done w (any.File (files.TakeToken f t))) (any.File (files.TakeToken f t))
-  token_done = record {
+  -- what is opened stands, so it was made
+  token_done : store_changes w.store (any.File (files.TakeToken f t)) ≡ true
+      → Kept w (done w (any.File (files.TakeToken f t))) (any.File (files.TakeToken f t))
+  token_done ok = record {
     sound = record {
       entries = s.entries;
       holds = holds_alike _ _ _ _ _ token_lists s.holds;
@@ -70,13 +72,22 @@ module _ (w : World) (s : Sound w) (f : FileId) (t : OpId) where
       blocks = blocks_same _ _;
       chunks = chunks_same _ _;
     };
-    taught = tt;
+    taught = λ e. grind (arith, s.nodes.standing_made (File f));
   }
 
--- It is kept, whatever has to be known before.
-pub token_kept : (w : World) → Sound w → (f : FileId) (t : OpId)
-    → Kept w (next w (any.File (files.TakeToken f t))) (any.File (files.TakeToken f t))
-token_kept w s f t = by_answer w (any.File (files.TakeToken f t)) _ refl (λ e. by_reading w _ s tt) (λ e. token_done w s f t)
+token_refused : (w : World) (f : FileId) (t : OpId) → store_changes w.store (any.File (files.TakeToken f t)) ≡ false
+    → OpenedTaught w f (store_reply w.store (any.File (files.TakeToken f t)))
+token_refused w f t stayed = grind arith
+
+token_untold : (s : Store) (f : FileId) (t : OpId) → is_made (store_reply s (any.File (files.TakeToken f t))) ≡ false
+token_untold s f t = grind arith
+
+pub take_token_row : (f : FileId) (t : OpId) → Row (any.File (files.TakeToken f t))
+take_token_row f t = record {
+  kept = λ w s needs. by_answer w (any.File (files.TakeToken f t)) _ refl (λ e. by_reading w _ s (token_refused w f t e))
+      (token_done w s f t);
+  laws = grants_nothing (any.File (files.TakeToken f t)) refl refl (λ s. token_untold s f t) (λ w k. tt) (no_rows _ refl refl);
+}
 
 -- Attach
 module _ (w : World) (s : Sound w) (f : FileId) (t : OpId) (b : BlkId) (n : ℕ) (h : Hold)
@@ -102,7 +113,12 @@ module _ (w : World) (s : Sound w) (f : FileId) (t : OpId) (b : BlkId) (n : ℕ)
       tree = s.tree;
       rows = record {
         bound = λ x i r is. grind (arith, block_maps, s.rows.bound x i r);
-        has_hold = λ x i r is. grind (arith, block_maps, s.rows.has_hold x i r, s.rows.live h record { blk = b; file = f; phase = RowLive });
+        has_hold = λ x i r is. grind (
+          arith,
+          block_maps,
+          s.rows.has_hold x i r,
+          s.rows.live h record { blk = b; file = f; phase = RowLive },
+        );
         sealed_as = λ x i r is. grind (arith, block_maps, s.rows.sealed_as x i r);
         set = λ x g i is p. grind (arith, block_maps, s.rows.set x g i);
         live = λ x g is l. grind (arith, block_maps, s.rows.live x g);
@@ -153,7 +169,7 @@ pub attach_row : (f : FileId) (t : OpId) (b : BlkId) (n : ℕ) (h : Hold) → Ro
 attach_row f t b n h = record {
   kept = λ w s needs. by_answer w (any.File (files.Attach f t b n h)) _ refl
       (λ e. by_reading w _ s (attach_refused w f t b n h needs e)) (attach_done w s f t b n h needs);
-  laws = grants_nothing (any.File (files.Attach f t b n h)) refl refl (λ s. attach_untold s f t b n h) (λ w k. tt);
+  laws = grants_nothing (any.File (files.Attach f t b n h)) refl refl (λ s. attach_untold s f t b n h) (λ w k. tt) (no_rows _ refl refl);
 }
 
 -- ListBlocks
@@ -189,5 +205,5 @@ pub list_blocks_row : (f : FileId) → Row (any.File (files.ListBlocks f))
 list_blocks_row f = record {
   kept = λ w s needs. by_answer w (any.File (files.ListBlocks f)) _ refl (λ e. by_reading w _ s (listed_taught w s f))
       (λ e. by_reading w _ s (listed_taught w s f));
-  laws = grants_nothing (any.File (files.ListBlocks f)) refl refl (λ s. list_blocks_untold s f) (λ w k. tt);
+  laws = grants_nothing (any.File (files.ListBlocks f)) refl refl (λ s. list_blocks_untold s f) (λ w k. tt) (no_rows _ refl refl);
 }

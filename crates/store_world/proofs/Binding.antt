@@ -23,7 +23,7 @@ use Rattle.store_pasts.proofs.Laters.{rows_same, blocks_same, chunks_same}
 use Rattle.store_world.specs.Sound.{Sound, parent}
 use Rattle.store_pasts.specs.Requests.{Needs, BoundTaught, SwappedTaught, UnboundTaught}
 use Rattle.store_world.specs.Kept.{Kept}
-use Rattle.store_world.proofs.Frames.{Row, by_answer, by_reading, grants_nothing}
+use Rattle.store_world.proofs.Frames.{Row, by_answer, by_reading, grants_nothing, no_rows}
 
 -- a hold's node was made, and so was the directory that it is for
 module _ (w : World) (s : Sound w) (h : Hold) (n : Node) (k : Key) (granted : IsGranted w h n k) where
@@ -120,7 +120,7 @@ pub bind_row : (k : Key) (n : Node) (h : Hold) (o : Over) → Row (any.Name (nam
 bind_row k n h o = record {
   kept = λ w s needs. by_answer w (any.Name (names.Bind k n h o)) _ refl (λ e. by_reading w _ s (bind_refused w k n h o needs e))
       (bind_done w s k n h o needs);
-  laws = grants_nothing (any.Name (names.Bind k n h o)) refl refl (λ s. bind_untold s k n h o) (λ w k. tt);
+  laws = grants_nothing (any.Name (names.Bind k n h o)) refl refl (λ s. bind_untold s k n h o) (λ w k. tt) (no_rows _ refl refl);
 }
 
 -- Unbind
@@ -192,7 +192,7 @@ pub unbind_row : (k : Key) (want : Want) → Row (any.Name (names.Unbind k want)
 unbind_row k want = record {
   kept = λ w s needs. by_answer w (any.Name (names.Unbind k want)) _ refl (λ e. by_reading w _ s (unbind_refused w k want e))
       (unbind_done w s k want);
-  laws = grants_nothing (any.Name (names.Unbind k want)) refl refl (λ s. unbind_untold s k want) (λ w k. tt);
+  laws = grants_nothing (any.Name (names.Unbind k want)) refl refl (λ s. unbind_untold s k want) (λ w k. tt) (no_rows _ refl refl);
 }
 
 -- Swap
@@ -330,5 +330,6 @@ pub swap_row : (d : DirId) (from to : List ℕ) (n : Node) (h : Hold) → Row (a
 swap_row d from to n h = record {
   kept = λ w s needs. by_answer w (any.Name (names.Swap d from to n h)) _ refl
       (λ e. by_reading w _ s (swap_refused w d from to n h needs e)) (swap_done w s d from to n h needs);
-  laws = grants_nothing (any.Name (names.Swap d from to n h)) refl refl (λ s. swap_untold s d from to n h) (λ w k. k.1);
+  laws = grants_nothing (any.Name (names.Swap d from to n h)) refl refl (λ s. swap_untold s d from to n h) (λ w k. k.1)
+      (no_rows _ refl refl);
 }

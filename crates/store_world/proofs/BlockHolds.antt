@@ -21,7 +21,7 @@ use Rattle.store_pasts.specs.Requests.{Needs}
 use Rattle.store_pasts.proofs.Laters.{rows_same, chunks_same}
 use Rattle.store_world.specs.Sound.{Sound, SoundBlocks, shape_of, rows_of, version_of}
 use Rattle.store_world.specs.Kept.{Kept}
-use Rattle.store_world.proofs.Frames.{Row, by_answer, by_reading, grants_nothing}
+use Rattle.store_world.proofs.Frames.{Row, by_answer, by_reading, grants_nothing, grants_row, no_rows}
 use Rattle.store_world.proofs.Alike.{chunks_alike}
 use Rattle.store_world.proofs.BlockMaps.{block_maps}
 
@@ -56,7 +56,9 @@ module _ (w : World) (b : BlkId) (h : Hold) (u : Option Upper) where
     version = λ e. rw (held_version e, held_sealed e) (s.version e);
     length = s.length;
     some = s.some;
+    apart = s.apart;
     at_home = s.at_home;
+    tagged_born = s.tagged_born;
   }
 
   later_held : (by : Touched) → LaterBlocks by (blocks_part w) record (blocks_part w) { now = held }
@@ -112,7 +114,7 @@ module _ (w : World) (s : Sound w) (b : BlkId) (h : Hold) (f : FileId) (needs : 
       blocks = later_held w b h (Some (uppers.Row f)) _;
       chunks = chunks_same _ _;
     };
-    taught = λ e. grind (arith, block_maps);
+    taught = λ e. (grind (arith, block_maps), grind (arith, block_maps));
   }
 
 grant_refused : (w : World) (b : BlkId) (h : Hold) (f : FileId) → store_changes w.store (any.Block (blocks.Grant b h f)) ≡ false
@@ -126,7 +128,9 @@ pub grant_block_row : (b : BlkId) (h : Hold) (f : FileId) → Row (any.Block (bl
 grant_block_row b h f = record {
   kept = λ w s needs. by_answer w (any.Block (blocks.Grant b h f)) _ refl (λ e. by_reading w _ s (grant_refused w b h f e))
       (granted w s b h f needs);
-  laws = grants_nothing (any.Block (blocks.Grant b h f)) refl refl (λ s. grant_untold s b h f) (λ w k. tt);
+  laws = grants_nothing (any.Block (blocks.Grant b h f)) refl refl (λ s. grant_untold s b h f) (λ w k. tt)
+      (grants_row (any.Block (blocks.Grant b h f)) record { blk = b; hold = h; file = f } refl (λ w needs. needs.0) (λ v x t ok. (t ok).0)
+      (λ w e is. absurd (let k : None ≡ Some e = is in cc)));
 }
 
 -- Release
@@ -172,5 +176,5 @@ release_untold s b h = grind arith
 pub release_block_row : (b : BlkId) (h : Hold) → Row (any.Block (blocks.Release b h))
 release_block_row b h = record {
   kept = λ w s needs. by_answer w (any.Block (blocks.Release b h)) _ refl (λ e. by_reading w _ s tt) (λ e. released w s b h needs);
-  laws = grants_nothing (any.Block (blocks.Release b h)) refl refl (λ s. release_untold s b h) (λ w k. tt);
+  laws = grants_nothing (any.Block (blocks.Release b h)) refl refl (λ s. release_untold s b h) (λ w k. tt) (no_rows _ refl refl);
 }

@@ -1,15 +1,17 @@
 -- requests that make a block, seal it, and ask where it lies
-use Rattle.std.proofs.Common.{◌≡◌, ◌≤◌, ℕ, List, [], ◌∷◌, length, Bool, true, false, if◌then◌else◌, Option, Some, None, refl, arith, map}
+use Rattle.std.proofs.Common.{◌≡◌, ◌≤◌, ℕ, List, [], ◌∷◌, length, Bool, true, false, if◌then◌else◌, Option, Some, None, is_some, map}
+use Rattle.std.proofs.Common.{refl, subst, arith}
 use Rattle.std.specs.FinMap.{get, entries}
 use Rattle.std.proofs.lemmas.List.Elements.{All-map, All-weaker}
 use Rattle.tect_ids.specs.declared.ids.BlkId.{BlkId}
 use Rattle.tect_ids.specs.declared.ids.DiskId.{DiskId}
 use Rattle.tect_ids.specs.declared.ids.FileId.{FileId}
 use Rattle.tect_ids.specs.declared.ids.Hold.{Hold}
+use Rattle.tect_ids.specs.declared.ids.Tag.{Tag}
 use Rattle.tect_ids.specs.declared.values.BlockRow.{BlockRow}
 use Rattle.tect_ids.specs.declared.values.Class.{Class}
 use Rattle.tect_ids.specs.declared.values.NewRow.{NewRow}
-use Rattle.tect_ids.specs.Keys.{disk_cmp}
+use Rattle.tect_ids.specs.Keys.{blk_eq, disk_cmp}
 use Rattle.tect_ids.proofs.KeyTests.{disk_cmp_total}
 use Rattle.map_words.proofs.Entries.{gets_each}
 use Rattle.store_rules.specs.declared.blocks.Block.{Block}
@@ -19,8 +21,8 @@ use Rattle.small_maps.specs.RowsOfBlocks.{all_placed}
 use Rattle.store_rules.specs.Blocks.{rows_from, shown_row}
 use Rattle.store_rules.specs.Store.{Store, store_changes, store_reply}
 use Rattle.store_rules.specs.Views.{is_made, as_location}
-use Rattle.store_pasts.specs.Contents.{born_tag}
-use Rattle.store_pasts.specs.Ghosts.{Born}
+use Rattle.store_pasts.specs.Contents.{Apart, disk_at, born_tag, chunk_of}
+use Rattle.store_pasts.specs.Ghosts.{Born, with_born}
 use Rattle.store_pasts.specs.Learned.{SealTaught, LocationTaught, BlockTaught, IsStored}
 use Rattle.store_pasts.specs.Pasts.{has_chunk}
 use Rattle.store_pasts.specs.Worlds.{World, done}
@@ -28,8 +30,8 @@ use Rattle.store_pasts.specs.Requests.{Needs}
 use Rattle.store_pasts.proofs.Laters.{rows_same, chunks_same}
 use Rattle.store_world.specs.Sound.{Sound}
 use Rattle.store_world.specs.Kept.{Kept}
-use Rattle.store_world.proofs.Frames.{Row, by_answer, by_reading, grants_nothing, makes_block}
-use Rattle.store_world.proofs.NewRows.{new_rows, found_by_tag, tag_first, more_than_none}
+use Rattle.store_world.proofs.Frames.{Row, by_answer, by_reading, grants_nothing, makes_block, grants_row, no_rows}
+use Rattle.store_world.proofs.NewRows.{new_rows, found_by_tag, found_by_disk, tag_first, more_than_none}
 
 -- MakeBlock
 module _ (w : World) (s : Sound w) (b : BlkId) (c : Class) (n : ℕ) (f : FileId) (h : Hold) (rs : List NewRow)
@@ -37,6 +39,21 @@ module _ (w : World) (s : Sound w) (b : BlkId) (c : Class) (n : ℕ) (f : FileId
   -- no block stood there
   none_before : get w.store.blocks b ≡ None
   none_before = grind (arith, s.blocks.shape b, needs.unborn)
+
+  -- the rows of each block stand apart, also the new one's
+  abbrev new_born : Born
+  new_born = record { maker = h.op; class = c; len = n; rows = rs }
+
+  apart_then : (e : BlkId) (m : Born) → with_born w.ghost.born b new_born e ≡ Some m → Apart m.rows
+  apart_then e m is =
+      elim (blk_eq e b) as (λ (own : Bool). (if own then Some new_born else w.ghost.born e) ≡ Some m → Apart m.rows) [
+        | true ↦ λ now. let same : rs ≡ m.rows = cc in subst Apart same needs.apart
+        | false ↦ λ was. s.blocks.apart e m was
+      ] is
+
+  -- no chunk stands under a tag that was given to no row
+  no_chunk : (d : DiskId) (t : Tag) → is_some (disk_at rs t) ≡ true → get w.store.chunks (chunk_of b d t) ≡ None
+  no_chunk d t is = grind (arith, s.chunks.at_home (chunk_of b d t), needs.untagged t)
 
   block_made : store_changes w.store (any.Block (blocks.MakeBlock b c n f h rs)) ≡ true
       → Kept w (done w (any.Block (blocks.MakeBlock b c n f h rs))) (any.Block (blocks.MakeBlock b c n f h rs))
@@ -61,7 +78,9 @@ module _ (w : World) (s : Sound w) (b : BlkId) (c : Class) (n : ℕ) (f : FileId
         version = λ e. grind (arith, new_rows, s.blocks.version e);
         length = λ e. grind (arith, new_rows, s.blocks.length e, needs.said);
         some = λ e m is. grind (arith, new_rows, s.blocks.some e m, needs.some);
+        apart = apart_then;
         at_home = λ e d t is. grind (arith, new_rows, s.blocks.at_home e d t, found_by_tag rs needs.apart d t, needs.untagged t);
+        tagged_born = λ t e d is. grind (arith, new_rows, s.blocks.tagged_born t e d, found_by_disk rs needs.apart d t, needs.unborn);
       };
       chunks = record {
         at_home = λ x is. grind (arith, new_rows, s.chunks.at_home x, needs.untagged x.tag);
@@ -102,6 +121,7 @@ module _ (w : World) (s : Sound w) (b : BlkId) (c : Class) (n : ℕ) (f : FileId
       born = grind (arith, new_rows);
       granted = grind (arith, new_rows);
       tagged = λ d t at. grind (arith, new_rows, found_by_tag rs needs.apart d t at);
+      no_chunk = λ d t at. no_chunk d t (rw (found_by_tag rs needs.apart d t at) refl);
       unsealed = grind (arith, new_rows);
     };
   }
@@ -110,11 +130,14 @@ module _ (w : World) (s : Sound w) (b : BlkId) (c : Class) (n : ℕ) (f : FileId
       → Kept w w (any.Block (blocks.MakeBlock b c n f h rs))
   make_not_refused stayed = absurd (grind (arith, none_before))
 
-pub make_block_row : (b : BlkId) (c : Class) (n : ℕ) (f : FileId) (h : Hold) (rs : List NewRow) → Row (any.Block (blocks.MakeBlock b c n f h rs))
+pub make_block_row : (b : BlkId) (c : Class) (n : ℕ) (f : FileId) (h : Hold) (rs : List NewRow)
+    → Row (any.Block (blocks.MakeBlock b c n f h rs))
 make_block_row b c n f h rs = record {
   kept = λ w s needs. by_answer w (any.Block (blocks.MakeBlock b c n f h rs)) _ refl (make_not_refused w s b c n f h rs needs)
       (block_made w s b c n f h rs needs);
-  laws = makes_block (any.Block (blocks.MakeBlock b c n f h rs)) refl refl refl (λ v x t. t.made) (λ w k. tt);
+  laws = makes_block (any.Block (blocks.MakeBlock b c n f h rs)) refl refl refl (λ v x t. t.made) (λ w k. tt)
+      (grants_row (any.Block (blocks.MakeBlock b c n f h rs)) record { blk = b; hold = h; file = f } refl (λ w needs. needs.new_hold)
+      (λ v x t ok. t.granted) (λ w e is needs. let same : b ≡ e = cc in rw (← same) needs.unborn));
 }
 
 -- SealBlock
@@ -142,7 +165,9 @@ module _ (w : World) (s : Sound w) (b : BlkId) (needs : Needs w (any.Block (bloc
         version = λ e. grind (arith, new_rows, s.blocks.version e);
         length = s.blocks.length;
         some = s.blocks.some;
+        apart = s.blocks.apart;
         at_home = s.blocks.at_home;
+        tagged_born = s.blocks.tagged_born;
       };
       chunks = record {
         at_home = s.chunks.at_home;
@@ -186,13 +211,13 @@ pub seal_block_row : (b : BlkId) → Row (any.Block (blocks.SealBlock b))
 seal_block_row b = record {
   kept = λ w s needs. by_answer w (any.Block (blocks.SealBlock b)) _ refl (λ e. by_reading w _ s (seal_refused w s b needs e))
       (seal_done w s b needs);
-  laws = grants_nothing (any.Block (blocks.SealBlock b)) refl refl (λ s. seal_untold s b) (λ w k. tt);
+  laws = grants_nothing (any.Block (blocks.SealBlock b)) refl refl (λ s. seal_untold s b) (λ w k. tt) (no_rows _ refl refl);
 }
 
 -- GetBlock
 module _ (w : World) (s : Sound w) (b : BlkId) where
   -- of a sealed block each row is stored
-  row_stored : (x : Block) → get w.store.blocks b ≡ Some x → x.sealed ≡ true → (d : DiskId) (r : BlockRow) → get x.rows d ≡ Some r
+  pub row_stored : (x : Block) → get w.store.blocks b ≡ Some x → x.sealed ≡ true → (d : DiskId) (r : BlockRow) → get x.rows d ≡ Some r
       → IsStored w b (shown_row (d, r))
   row_stored x is sealed d r at = by_born (w.ghost.born b) refl
     where
@@ -218,7 +243,8 @@ module _ (w : World) (s : Sound w) (b : BlkId) where
       by_born (Some m) e = by_rows m.rows (s.blocks.some b (length m.rows) (rw e refl)) x.sealed (grind (arith, s.blocks.rows b))
 
   location_taught : (x : Block) → get w.store.blocks b ≡ Some x
-      → LocationTaught w b record { class = x.class; len = x.len; sealed = x.sealed; version = x.version; rows = map shown_row (entries x.rows) }
+      → LocationTaught w b
+      record { class = x.class; len = x.len; sealed = x.sealed; version = x.version; rows = map shown_row (entries x.rows) }
   location_taught x is = record {
     sealed = rw is refl;
     some = has_rows x is;
@@ -230,7 +256,8 @@ module _ (w : World) (s : Sound w) (b : BlkId) where
   get_block_taught : BlockTaught w b (as_location (store_reply w.store (any.Block (blocks.GetBlock b))))
   get_block_taught = at (get w.store.blocks b) refl
     where
-      at : (o : Option Block) → get w.store.blocks b ≡ o → BlockTaught w b (as_location (store_reply w.store (any.Block (blocks.GetBlock b))))
+      at : (o : Option Block) → get w.store.blocks b ≡ o
+          → BlockTaught w b (as_location (store_reply w.store (any.Block (blocks.GetBlock b))))
       at None e = rw e e
       at (Some x) e = rw e (location_taught x e)
 
@@ -241,5 +268,5 @@ pub get_block_row : (b : BlkId) → Row (any.Block (blocks.GetBlock b))
 get_block_row b = record {
   kept = λ w s needs. by_answer w (any.Block (blocks.GetBlock b)) _ refl (λ e. by_reading w _ s (get_block_taught w s b))
       (λ e. by_reading w _ s (get_block_taught w s b));
-  laws = grants_nothing (any.Block (blocks.GetBlock b)) refl refl (λ s. get_block_untold s b) (λ w k. tt);
+  laws = grants_nothing (any.Block (blocks.GetBlock b)) refl refl (λ s. get_block_untold s b) (λ w k. tt) (no_rows _ refl refl);
 }

@@ -12,7 +12,7 @@ use Rattle.store_pasts.specs.Requests.{Needs}
 use Rattle.store_pasts.proofs.Laters.{rows_same, blocks_same}
 use Rattle.store_world.specs.Sound.{Sound}
 use Rattle.store_world.specs.Kept.{Kept}
-use Rattle.store_world.proofs.Frames.{Row, by_answer, by_reading, grants_nothing}
+use Rattle.store_world.proofs.Frames.{Row, by_answer, by_reading, grants_nothing, no_rows}
 use Rattle.store_world.proofs.BlockMaps.{block_maps}
 
 -- Put
@@ -61,7 +61,7 @@ pub put_row : (c : ChunkKey) (bytes : List ℕ) → Row (any.Disk (disks.Put c b
 put_row c bytes = record {
   kept = λ w s needs. by_answer w (any.Disk (disks.Put c bytes)) _ refl (λ e. by_reading w _ s (put_refused w s c bytes needs e))
       (put_done w s c bytes needs);
-  laws = grants_nothing (any.Disk (disks.Put c bytes)) refl refl (λ s. refl) (λ w k. tt);
+  laws = grants_nothing (any.Disk (disks.Put c bytes)) refl refl (λ s. refl) (λ w k. tt) (no_rows _ refl refl);
 }
 
 -- Get
@@ -76,5 +76,5 @@ pub get_row : (c : ChunkKey) → Row (any.Disk (disks.Get c))
 get_row c = record {
   kept = λ w s needs. by_answer w (any.Disk (disks.Get c)) _ refl (λ e. by_reading w _ s (got_taught w s c))
       (λ e. by_reading w _ s (got_taught w s c));
-  laws = grants_nothing (any.Disk (disks.Get c)) refl refl (λ s. refl) (λ w k. tt);
+  laws = grants_nothing (any.Disk (disks.Get c)) refl refl (λ s. refl) (λ w k. tt) (no_rows _ refl refl);
 }

@@ -4,14 +4,14 @@ use Rattle.tect_ids.specs.declared.ids.BlkId.{BlkId}
 use Rattle.tect_ids.specs.declared.ids.Node.{Node}
 use Rattle.store_rules.specs.declared.any.AnyReq.{AnyReq}
 use Rattle.store_rules.specs.declared.any.AnyReply.{AnyReply}
-use Rattle.store_rules.specs.Holds.{Grant, grant_of}
+use Rattle.store_rules.specs.Holds.{Grant, RowGrant, grant_of}
 use Rattle.store_rules.specs.Store.{Store, store_changes, store_reply}
-use Rattle.store_rules.specs.Views.{is_made}
+use Rattle.store_rules.specs.Views.{is_made, is_granted}
 use Rattle.store_pasts.specs.Worlds.{World, done, next}
-use Rattle.store_pasts.specs.Pasts.{was_made}
+use Rattle.store_pasts.specs.Pasts.{was_made, IsRowGranted}
 use Rattle.store_pasts.specs.Roles.{role}
-use Rattle.store_pasts.specs.Requests.{Needs, Taught, makes, MadeTaught, GrantTaught}
-use Rattle.store_pasts.specs.RoleLaws.{RoleLaws}
+use Rattle.store_pasts.specs.Requests.{Needs, Taught, makes, row_grant_of, MadeTaught, GrantTaught}
+use Rattle.store_pasts.specs.RoleLaws.{RoleLaws, RowRoleLaws}
 use Rattle.store_pasts.proofs.Laters.{later_same}
 use Rattle.store_world.specs.Sound.{Sound}
 use Rattle.store_world.specs.Kept.{Kept}
@@ -40,45 +40,58 @@ no_node : (o : Option Node) (b : Option BlkId) → (is_some o || is_some b) ≡ 
 no_node None b none n e = let k : None ≡ Some n = e in cc
 no_node (Some m) b none n e = let k : true ≡ false = none in cc
 
--- it grants no hold for an entry and makes nothing; one that is not modelled yet may reply that it made something
-pub grants_none : (q : AnyReq) → grant_of q ≡ None → makes q ≡ false
-    → ((s : Store) → (role q).fits → is_made (store_reply s q) ≡ false) → ((w : World) → Needs w q → (role q).fits) → RoleLaws q
-grants_none q none makes_no untold fits = record {
+-- it grants no hold for a row, and makes no block
+pub no_rows : (q : AnyReq) → row_grant_of q ≡ None → (role q).makes_block ≡ None → RowRoleLaws q
+no_rows q none blockless = record {
+  new = λ w g e needs. absurd (let k : None ≡ Some g = sym none ∙ e in cc);
+  granted = λ v x g e ok t. absurd (let k : None ≡ Some g = sym none ∙ e in cc);
+  unborn = λ w b e needs. absurd (let k : None ≡ Some b = sym blockless ∙ e in cc);
+}
+
+-- it grants a hold for a row
+module _ (q : AnyReq) (a : RowGrant) (grants : row_grant_of q ≡ Some a)
+    (needs : (w : World) → Needs w q → w.ghost.row_given a.hold ≡ None)
+    (teaches : (v : World) (x : AnyReply) → Taught v q x → is_granted x ≡ true → IsRowGranted v a.hold a.blk a.file)
+    (unborn : (w : World) (b : BlkId) → (role q).makes_block ≡ Some b → Needs w q → w.ghost.born b ≡ None) where
+  same_row_grant : (g : RowGrant) → row_grant_of q ≡ Some g → a ≡ g
+  same_row_grant g e = let f : Some a ≡ Some g = sym grants ∙ e in cc
+
+  pub grants_row : RowRoleLaws q
+  grants_row = record {
+    new = λ w g e k. rw (← same_row_grant g e) (needs w k);
+    granted = λ v x g e ok t. rw (← same_row_grant g e) (teaches v x t ok);
+    unborn = unborn;
+  }
+
+-- it grants no hold for an entry and makes nothing
+pub grants_nothing : (q : AnyReq) → grant_of q ≡ None → makes q ≡ false → ((s : Store) → is_made (store_reply s q) ≡ false)
+    → ((w : World) → Needs w q → (role q).fits) → RowRoleLaws q → RoleLaws q
+grants_nothing q none makes_no untold fits rows = record {
   new = λ w g e needs. absurd (let k : None ≡ Some g = sym none ∙ e in cc);
   granted = λ v x g e ok t. absurd (let k : None ≡ Some g = sym none ∙ e in cc);
   told = λ v x e t. absurd (let k : false ≡ true = sym makes_no ∙ e in cc);
-  untold = λ s e f. untold s f;
+  untold = λ s e f. untold s;
   fresh = λ w n e needs. absurd (no_node (role q).makes (role q).makes_block makes_no n e);
   fits = fits;
+  rows = rows;
 }
-
--- the same where it replies so in no store
-pub grants_nothing : (q : AnyReq) → grant_of q ≡ None → makes q ≡ false → ((s : Store) → is_made (store_reply s q) ≡ false)
-    → ((w : World) → Needs w q → (role q).fits) → RoleLaws q
-grants_nothing q none makes_no untold fits = grants_none q none makes_no (λ s f. untold s) fits
 
 -- it makes a block, and grants a hold for a row
 pub makes_block : (q : AnyReq) → grant_of q ≡ None → (role q).makes ≡ None → makes q ≡ true
-    → ((v : World) (x : AnyReply) → Taught v q x → is_made x ≡ true) → ((w : World) → Needs w q → (role q).fits) → RoleLaws q
-makes_block q none nodeless makes_it teaches fits = record {
+    → ((v : World) (x : AnyReply) → Taught v q x → is_made x ≡ true) → ((w : World) → Needs w q → (role q).fits) → RowRoleLaws q
+    → RoleLaws q
+makes_block q none nodeless makes_it teaches fits rows = record {
   new = λ w g e needs. absurd (let k : None ≡ Some g = sym none ∙ e in cc);
   granted = λ v x g e ok t. absurd (let k : None ≡ Some g = sym none ∙ e in cc);
   told = λ v x e t. teaches v x t;
   untold = λ s e f. absurd (let k : true ≡ false = sym makes_it ∙ e in cc);
   fresh = λ w n e needs. absurd (let k : None ≡ Some n = sym nodeless ∙ e in cc);
   fits = fits;
-}
-
--- a request whose needs are never met
-pub unasked_row : (q : AnyReq) → ((w : World) → Needs w q → ⊥) → grant_of q ≡ None → makes q ≡ false
-    → ((s : Store) → (role q).fits → is_made (store_reply s q) ≡ false) → Row q
-unasked_row q unmet none makes_no untold = record {
-  kept = λ w s needs. absurd (unmet w needs);
-  laws = grants_none q none makes_no untold (λ w needs. absurd (unmet w needs));
+  rows = rows;
 }
 
 module _ (q : AnyReq) (a : Grant) (grants : grant_of q ≡ Some a) (needs : (w : World) → Needs w q → w.ghost.given a.hold ≡ None)
-    (fits : (w : World) → Needs w q → (role q).fits) where
+    (fits : (w : World) → Needs w q → (role q).fits) (rows : RowRoleLaws q) where
   same_grant : (g : Grant) → grant_of q ≡ Some g → a ≡ g
   same_grant g e = let f : Some a ≡ Some g = sym grants ∙ e in cc
 
@@ -92,6 +105,7 @@ module _ (q : AnyReq) (a : Grant) (grants : grant_of q ≡ Some a) (needs : (w :
     untold = λ s e f. untold s;
     fresh = λ w n e k. absurd (no_node (role q).makes (role q).makes_block makes_no n e);
     fits = fits;
+    rows = rows;
   }
 
   -- it makes a node and grants its hold
@@ -104,4 +118,5 @@ module _ (q : AnyReq) (a : Grant) (grants : grant_of q ≡ Some a) (needs : (w :
     untold = λ s e f. absurd (let k : true ≡ false = (rw makes_it at e) in cc);
     fresh = λ w n e k. let f : Some a.node ≡ Some n = sym makes_it ∙ e in let same : a.node ≡ n = cc in rw (← same) (unmade w k);
     fits = fits;
+    rows = rows;
   }

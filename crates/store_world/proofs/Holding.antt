@@ -17,7 +17,7 @@ use Rattle.store_pasts.proofs.Laters.{rows_same, rows_stay, blocks_same, chunks_
 use Rattle.store_world.specs.Sound.{Sound, parent}
 use Rattle.store_pasts.specs.Requests.{Needs, GrantTaught}
 use Rattle.store_world.specs.Kept.{Kept}
-use Rattle.store_world.proofs.Frames.{Row, by_answer, by_reading, grants_nothing, grants_one}
+use Rattle.store_world.proofs.Frames.{Row, by_answer, by_reading, grants_nothing, grants_one, no_rows}
 use Rattle.store_world.proofs.Alike.{rows_alike}
 use Rattle.store_world.proofs.Chains.{climbs_still}
 
@@ -91,8 +91,8 @@ pub grant_dir_row : (d : DirId) (h : Hold) (k : Key) → Row (any.Name (names.Gr
 grant_dir_row d h k = record {
   kept = λ w s needs. by_answer w (any.Name (names.Grant d h k)) _ refl (λ e. by_reading w _ s (dir_grant_refused w d h k e))
       (dir_granted w s d h k needs);
-  laws = grants_one (any.Name (names.Grant d h k)) record { node = Dir d; hold = h; key = k } refl (λ w needs. needs.0) (λ w k. tt) refl
-      (λ s. dir_grant_untold s d h k) (λ v x t. t);
+  laws = grants_one (any.Name (names.Grant d h k)) record { node = Dir d; hold = h; key = k } refl (λ w needs. needs.0) (λ w k. tt)
+      (no_rows _ refl refl) refl (λ s. dir_grant_untold s d h k) (λ v x t. t);
 }
 
 -- Grant at a file
@@ -162,8 +162,8 @@ pub grant_file_row : (f : FileId) (h : Hold) (k : Key) → Row (any.File (files.
 grant_file_row f h k = record {
   kept = λ w s needs. by_answer w (any.File (files.Grant f h k)) _ refl (λ e. by_reading w _ s (file_grant_refused w f h k e))
       (file_granted w s f h k needs);
-  laws = grants_one (any.File (files.Grant f h k)) record { node = File f; hold = h; key = k } refl (λ w needs. needs.0) (λ w k. tt) refl
-      (λ s. file_grant_untold s f h k) (λ v x t. t);
+  laws = grants_one (any.File (files.Grant f h k)) record { node = File f; hold = h; key = k } refl (λ w needs. needs.0) (λ w k. tt)
+      (no_rows _ refl refl) refl (λ s. file_grant_untold s f h k) (λ v x t. t);
 }
 
 -- Release at a directory
@@ -231,7 +231,7 @@ dir_release_untold s d h = grind arith
 pub release_dir_row : (d : DirId) (h : Hold) → Row (any.Name (names.Release d h))
 release_dir_row d h = record {
   kept = λ w s needs. by_answer w (any.Name (names.Release d h)) _ refl (λ e. by_reading w _ s tt) (λ e. dir_released w s d h needs);
-  laws = grants_nothing (any.Name (names.Release d h)) refl refl (λ s. dir_release_untold s d h) (λ w k. tt);
+  laws = grants_nothing (any.Name (names.Release d h)) refl refl (λ s. dir_release_untold s d h) (λ w k. tt) (no_rows _ refl refl);
 }
 
 -- Release at a file
@@ -282,5 +282,5 @@ file_release_untold s f h = grind arith
 pub release_file_row : (f : FileId) (h : Hold) → Row (any.File (files.Release f h))
 release_file_row f h = record {
   kept = λ w s needs. by_answer w (any.File (files.Release f h)) _ refl (λ e. by_reading w _ s tt) (λ e. file_released w s f h needs);
-  laws = grants_nothing (any.File (files.Release f h)) refl refl (λ s. file_release_untold s f h) (λ w k. tt);
+  laws = grants_nothing (any.File (files.Release f h)) refl refl (λ s. file_release_untold s f h) (λ w k. tt) (no_rows _ refl refl);
 }

@@ -7,7 +7,6 @@ pub mod Making
 pub mod Binding
 pub mod Holding
 pub mod Reading
-pub mod Unasked
 pub mod Attaching
 pub mod Blocks
 pub mod BlockHolds
@@ -15,3 +14,5 @@ pub mod Chunks
 pub mod Rows
 pub mod Over
 pub mod Sayings
+pub mod Acknowledged
+pub mod RowHolds

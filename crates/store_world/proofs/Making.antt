@@ -19,7 +19,7 @@ use Rattle.store_pasts.proofs.Laters.{rows_same, rows_stay, blocks_same, chunks_
 use Rattle.store_world.specs.Sound.{Sound, parent, above}
 use Rattle.store_pasts.specs.Requests.{Needs}
 use Rattle.store_world.specs.Kept.{Kept}
-use Rattle.store_world.proofs.Frames.{Row, by_answer, makes_one}
+use Rattle.store_world.proofs.Frames.{Row, by_answer, makes_one, no_rows}
 use Rattle.store_world.proofs.Alike.{rows_alike, rows_made}
 use Rattle.store_world.proofs.Chains.{climbs_still, climbs_from}
 
@@ -89,8 +89,7 @@ make_file_row f h k t = record {
   kept = λ w s needs. by_answer w (any.File (files.MakeFile f h k t)) _ refl (file_not_refused w s f h k t needs)
       (file_made w s f h k t needs);
   laws = makes_one (any.File (files.MakeFile f h k t)) record { node = File f; hold = h; key = k } refl (λ w needs. needs.1)
-      (λ w k. tt) refl
-      (λ w needs. needs.0) (λ v x t. t);
+      (λ w k. tt) (no_rows _ refl refl) refl (λ w needs. needs.0) (λ v x t. t);
 }
 
 -- MakeDir
@@ -178,6 +177,6 @@ pub make_dir_row : (d up : DirId) (h : Hold) (k : Key) → Row (any.Name (names.
 make_dir_row d up h k = record {
   kept = λ w s needs. by_answer w (any.Name (names.MakeDir d up h k)) _ refl (dir_not_refused w s d up h k needs)
       (dir_made w s d up h k needs);
-  laws = makes_one (any.Name (names.MakeDir d up h k)) record { node = Dir d; hold = h; key = k } refl (λ w needs. needs.1) (λ w k. tt) refl
-      (λ w needs. needs.0) (λ v x t. t);
+  laws = makes_one (any.Name (names.MakeDir d up h k)) record { node = Dir d; hold = h; key = k } refl (λ w needs. needs.1) (λ w k. tt)
+      (no_rows _ refl refl) refl (λ w needs. needs.0) (λ v x t. t);
 }

@@ -52,7 +52,24 @@ found_by_tag (r ∷ rs) apart d t e =
     split ih true b false c = grind (arith, block_keys)
     split ih false b true c =
         let at : tag_at rs d ≡ Some t = grind arith in let is : disk_at rs t ≡ Some d = ih at in grind (arith, block_keys)
-    split ih false b false c = let at : tag_at rs d ≡ Some t = grind arith in let is : disk_at rs t ≡ Some d = ih at in grind (arith, block_keys)
+    split ih false b false c =
+        let at : tag_at rs d ≡ Some t = grind arith in let is : disk_at rs t ≡ Some d = ih at in grind (arith, block_keys)
+
+-- and each is found by its disk
+pub found_by_disk : (rs : List NewRow) → Apart rs → (d : DiskId) (t : Tag) → disk_at rs t ≡ Some d → tag_at rs d ≡ Some t
+unfolding tag_at disk_at Apart
+found_by_disk [] apart d t e = cc
+found_by_disk (r ∷ rs) apart d t e =
+    split (λ at. found_by_disk rs apart.2 d t at) (disk_eq d r.disk) refl (tag_eq t r.tag) refl
+  where
+    split : (disk_at rs t ≡ Some d → tag_at rs d ≡ Some t) → (b : Bool) → disk_eq d r.disk ≡ b → (c : Bool) → tag_eq t r.tag ≡ c
+        → (if disk_eq d r.disk then Some r.tag else tag_at rs d) ≡ Some t
+    split ih true b true c = grind (arith, block_keys)
+    split ih true b false c =
+        let at : disk_at rs t ≡ Some d = grind arith in let is : tag_at rs d ≡ Some t = ih at in grind (arith, block_keys)
+    split ih false b true c = grind (arith, block_keys)
+    split ih false b false c =
+        let at : disk_at rs t ≡ Some d = grind arith in let is : tag_at rs d ≡ Some t = ih at in grind (arith, block_keys)
 
 -- ---- all rows placed
 

@@ -12,7 +12,7 @@ use Rattle.store_pasts.specs.Worlds.{World}
 use Rattle.store_pasts.specs.Pasts.{was_made}
 use Rattle.store_world.specs.Sound.{Sound}
 use Rattle.store_pasts.specs.Requests.{FoundTaught}
-use Rattle.store_world.proofs.Frames.{Row, by_answer, by_reading, grants_nothing}
+use Rattle.store_world.proofs.Frames.{Row, by_answer, by_reading, grants_nothing, no_rows}
 
 check_untold : (s : Store) (d : DirId) → is_made (store_reply s (any.Name (names.CheckDir d))) ≡ false
 check_untold s d = grind arith
@@ -20,7 +20,7 @@ check_untold s d = grind arith
 pub check_row : (d : DirId) → Row (any.Name (names.CheckDir d))
 check_row d = record {
   kept = λ w s needs. by_answer w (any.Name (names.CheckDir d)) _ refl (λ e. by_reading w _ s tt) (λ e. by_reading w _ s tt);
-  laws = grants_nothing (any.Name (names.CheckDir d)) refl refl (λ s. check_untold s d) (λ w k. tt);
+  laws = grants_nothing (any.Name (names.CheckDir d)) refl refl (λ s. check_untold s d) (λ w k. tt) (no_rows _ refl refl);
 }
 
 -- what has a name was made
@@ -38,7 +38,7 @@ pub look_row : (k : Key) → Row (any.Name (names.Look k))
 look_row k = record {
   kept = λ w s needs. by_answer w (any.Name (names.Look k)) _ refl (λ e. by_reading w _ s (look_taught w s k))
       (λ e. by_reading w _ s (look_taught w s k));
-  laws = grants_nothing (any.Name (names.Look k)) refl refl (λ s. look_untold s k) (λ w k. tt);
+  laws = grants_nothing (any.Name (names.Look k)) refl refl (λ s. look_untold s k) (λ w k. tt) (no_rows _ refl refl);
 }
 
 list_untold : (s : Store) (d : DirId) → is_made (store_reply s (any.Name (names.List d))) ≡ false
@@ -47,5 +47,5 @@ list_untold s d = grind arith
 pub list_row : (d : DirId) → Row (any.Name (names.List d))
 list_row d = record {
   kept = λ w s needs. by_answer w (any.Name (names.List d)) _ refl (λ e. by_reading w _ s tt) (λ e. by_reading w _ s tt);
-  laws = grants_nothing (any.Name (names.List d)) refl refl (λ s. list_untold s d) (λ w k. tt);
+  laws = grants_nothing (any.Name (names.List d)) refl refl (λ s. list_untold s d) (λ w k. tt) (no_rows _ refl refl);
 }

@@ -22,8 +22,7 @@ use Rattle.store_world.proofs.Reading.{check_row, look_row, list_row}
 use Rattle.store_world.proofs.Making.{make_dir_row, make_file_row}
 use Rattle.store_world.proofs.Binding.{bind_row, swap_row, unbind_row}
 use Rattle.store_world.proofs.Holding.{grant_dir_row, grant_file_row, release_dir_row, release_file_row}
-use Rattle.store_world.proofs.Unasked.{take_token_row}
-use Rattle.store_world.proofs.Attaching.{attach_row, list_blocks_row}
+use Rattle.store_world.proofs.Attaching.{take_token_row, attach_row, list_blocks_row}
 use Rattle.store_world.proofs.Blocks.{make_block_row, seal_block_row, get_block_row}
 use Rattle.store_world.proofs.BlockHolds.{grant_block_row, release_block_row}
 use Rattle.store_world.proofs.Chunks.{put_row, get_row}
@@ -115,7 +114,9 @@ opening_sound = record {
     version = λ b. grind (arith, maps);
     length = λ b. refl;
     some = λ b n is. absurd (let k : None ≡ Some n = is in cc);
+    apart = λ b m is. absurd (let k : None ≡ Some m = is in cc);
     at_home = λ b d t is. grind arith;
+    tagged_born = λ t b d is. grind arith;
   };
   chunks = record {
     at_home = λ c is. grind (arith, maps);

@@ -36,7 +36,9 @@ saying_sound w op (Some bytes) s = record {
     version = s.blocks.version;
     length = λ b. length_stays w.ghost.said op bytes (w.ghost.born b) (s.blocks.length b);
     some = s.blocks.some;
+    apart = s.blocks.apart;
     at_home = s.blocks.at_home;
+    tagged_born = s.blocks.tagged_born;
   };
   chunks = record {
     at_home = s.chunks.at_home;

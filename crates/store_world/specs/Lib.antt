@@ -1,2 +1,4 @@
 pub mod Sound
 pub mod Kept
+pub mod Acknowledged
+pub mod RowHolds

@@ -29,7 +29,7 @@ use Rattle.store_rules.specs.Blocks.{rows_from, block_lists}
 use Rattle.store_rules.specs.Disks.{Chunks}
 use Rattle.store_rules.specs.Store.{Store}
 use Rattle.store_pasts.specs.Ghosts.{Live, Set, Given, World, RowLive, RowSet, RowGiven, Born, TagHome}
-use Rattle.store_pasts.specs.Contents.{row_leads, born_shape, born_length, born_count, born_tag, born_content, bytes_length}
+use Rattle.store_pasts.specs.Contents.{Apart, row_leads, born_shape, born_length, born_count, born_tag, born_content, bytes_length}
 use Rattle.store_pasts.specs.Contents.{block_sealed, sealed_length, chunk_of}
 use Rattle.store_pasts.specs.Pasts.{was_made, dead_in, leads, row_at, BlocksPart, blocks_part}
 
@@ -158,8 +158,12 @@ pub record SoundBlocks (p : BlocksPart) : Type 0 where
   pub length : (b : BlkId) → bytes_length (born_content p.said (p.born b)) ≡ born_length (p.born b)
   -- it has rows
   pub some : (b : BlkId) (n : ℕ) → born_count (p.born b) ≡ Some n → 1 ≤ n
+  -- no disk stands twice among its rows, and no tag
+  pub apart : (b : BlkId) (m : Born) → p.born b ≡ Some m → Apart m.rows
   -- each of its rows is the home of its tag
   pub at_home : (b : BlkId) (d : DiskId) (t : Tag) → born_tag (p.born b) d ≡ Some t → p.tagged t ≡ Some record { blk = b; disk = d }
+  -- and a tag that was given is that of its home
+  pub tagged_born : (t : Tag) (b : BlkId) (d : DiskId) → p.tagged t ≡ Some record { blk = b; disk = d } → born_tag (p.born b) d ≡ Some t
 
 -- of the chunks: each is the one of its tag's row, with the content of its block; and of a sealed block the chunk of each row stands
 pub record SoundChunks (chunks : Chunks) (sealed : BlkId → Bool) (born : BlkId → Option Born) (tagged : Tag → Option TagHome)

@@ -2,6 +2,7 @@ pub mod ValuesSeen
 pub mod RequestsShow
 pub mod Made
 pub mod Histories
+pub mod Contents
 pub mod RunsFollow
 pub mod RunsTell
 pub mod Replies

@@ -1,6 +1,7 @@
 -- what stands in the tree was made, and the store that opens shows the tree that opens
-use Rattle.std.proofs.Common.{◌≡◌, true, is_some, refl, arith}
+use Rattle.std.proofs.Common.{◌≡◌, ℕ, List, true, is_some, refl, arith}
 use Rattle.std.specs.FinMap.{get, empty, same_map}
+use Rattle.tect_ids.specs.declared.ids.BlkId.{BlkId}
 use Rattle.tect_ids.specs.declared.ids.DirId.{DirId}
 use Rattle.tect_ids.specs.declared.ids.FileId.{FileId}
 use Rattle.tect_ids.specs.declared.ids.Node.TheVariants as nodes
@@ -24,9 +25,9 @@ pub record TreeMade (t : Tree) : Type 0 where
   pub files : (f : FileId) → is_some (get t.files f) ≡ true → is_some (get t.made (nodes.File f)) ≡ true
 
 -- what stands in the store was made
-pub all_made : (s : Store) (made : Made) → TreeMade (view s made) → AllMade s made
-all_made s made h (nodes.Dir d) st = grind (arith, h.dirs d, get-map_values)
-all_made s made h (nodes.File f) st = grind (arith, h.files f, get-map_values)
+pub all_made : (s : Store) (content : BlkId → List ℕ) (made : Made) → TreeMade (view s content made) → AllMade s made
+all_made s content made h (nodes.Dir d) st = grind (arith, h.dirs d, get-map_values)
+all_made s content made h (nodes.File f) st = grind (arith, h.files f, get-map_values)
 
 change_made : (t : Tree) (op : OpId) (st : TreeStep) → TreeMade t → TreeMade (tree_change t op st)
 change_made t op (step.Check d) h = h
@@ -55,14 +56,14 @@ next_made t op st (Refused why) h = h
 dirs_empty : map_values shown_dir (empty {R = dir_cmp}) ≡ empty
 dirs_empty = same_map dir_cmp_total dir_antisymmetric _ _ (λ q. grind (arith, maps, get-map_values))
 
-files_empty : map_values shown_file (empty {R = file_cmp}) ≡ empty
-files_empty = same_map file_cmp_total file_antisymmetric _ _ (λ q. grind (arith, maps, get-map_values))
+files_empty : (content : BlkId → List ℕ) → map_values (shown_file content) (empty {R = file_cmp}) ≡ empty
+files_empty content = same_map file_cmp_total file_antisymmetric _ _ (λ q. grind (arith, maps, get-map_values))
 
 entries_empty : map_values shown_entry (empty {R = key_cmp}) ≡ empty
 entries_empty = same_map key_cmp_total key_antisymmetric _ _ (λ q. grind (arith, maps, get-map_values))
 
-pub opening_shows : Shows opening_store opening_tree
-opening_shows = rw (dir_put, dirs_empty, files_empty, entries_empty) refl
+pub opening_shows : (content : BlkId → List ℕ) → Shows opening_store content opening_tree
+opening_shows content = rw (dir_put, dirs_empty, files_empty content, entries_empty) refl
 
 pub opening_made : TreeMade opening_tree
 opening_made = record { dirs = λ d is. grind (arith, maps); files = λ f is. grind (arith, maps) }

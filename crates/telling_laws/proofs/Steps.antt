@@ -21,6 +21,7 @@ use Rattle.world_runs.specs.declared.event.Event.TheVariants.{Own}
 use Rattle.world_runs.specs.declared.event.Happening.TheVariants.{Acted}
 use Rattle.world_runs.specs.OwnRuns.{stored_after}
 use Rattle.claim_words.specs.Points.{way, of_op, Walked, Seen, DecidesAt, Point}
+use Rattle.claim_words.specs.Commands.{content_in}
 use Rattle.claim_words.specs.TreeSteps.{tree_step, says, told_of, tree_steps, IsTreeRun}
 use Rattle.telling_laws.specs.Telling.{is_of, tree_of}
 use Rattle.telling_laws.proofs.Histories.{steps_more, others_steps}
@@ -35,7 +36,7 @@ act_at h op q how = Own op (Acted q (reply_at h q) how)
 
 -- the tree allows it
 abbrev pub Allows : List Event → Event → Type 0
-Allows h e = IsTreeRun (tree_of h) (told_of e)
+Allows h e = IsTreeRun (tree_of h) (told_of h e)
 
 -- the op's walk came to that directory, with these names left
 abbrev pub WalkedTo : List Event → OpId → Command → DirId → List (List ℕ) → Type 0
@@ -48,10 +49,10 @@ Saw h op s x = Seen (of_op op (tree_steps h)) s x
 module _ (h : List Event) (e : Event) (op : OpId) (c : Command) where
   -- an event of any op
   pub over_then : (d : DirId) → WalkedTo h op c d [] → WalkedTo (h ++ e ∷ []) op c d []
-  over_then d w = rw (steps_more h e) (over_still (tree_steps h) op c d (told_of e) w)
+  over_then d w = rw (steps_more h e) (over_still (tree_steps h) op c d (told_of h e) w)
 
   pub saw_then : (s : TreeStep) (x : TreeReply) → Saw h op s x → Saw (h ++ e ∷ []) op s x
-  saw_then s x saw = rw (steps_more h e) (seen_still (tree_steps h) op c (told_of e) s x saw)
+  saw_then s x saw = rw (steps_more h e) (seen_still (tree_steps h) op c (told_of h e) s x saw)
 
   -- an event of another op
   pub walked_stays : (d : DirId) (left : List (List ℕ)) → is_of op e ≡ false → WalkedTo h op c d left
@@ -59,7 +60,7 @@ module _ (h : List Event) (e : Event) (op : OpId) (c : Command) where
   walked_stays d left other w = rw (others_steps h e op other) w
 
 -- an event of its own, which is that step
-module _ (h : List Event) (op : OpId) (c : Command) (q : AnyReq) (x : AnyReply) (how : Heard) (s : TreeStep) (is : tree_step q x ≡ Some s)
+module _ (h : List Event) (op : OpId) (c : Command) (q : AnyReq) (x : AnyReply) (how : Heard) (s : TreeStep) (is : tree_step (content_in h) q x ≡ Some s)
   where
     -- the event
     abbrev e : Event

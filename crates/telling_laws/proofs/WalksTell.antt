@@ -1,5 +1,6 @@
 -- a walk before an operation: each look leads on, or is the command's point
 use Rattle.std.proofs.Common.{◌≡◌, ℕ, Option, Some, None, List, [], ◌∷◌, ◌++◌, refl}
+use Rattle.tect_ids.specs.declared.ids.Counts.{Counts}
 use Rattle.tect_ids.specs.declared.ids.DirId.{DirId}
 use Rattle.tect_ids.specs.declared.ids.FileId.{FileId}
 use Rattle.tect_ids.specs.declared.ids.Node.{Node}
@@ -90,14 +91,15 @@ module _ {O S : Type 0} (begins : O → DirId → S) (fits : Command → O → T
 
   -- ---- all of it
 
-  module _ {P : Part S Answer} (L : PartTells P D T) where
-    walk_tells_in : (s : Walking O S) → TellsIn (walking begins P) (walk_deciding D) (walk_telling fits T) s
+  module _ {counts : Counts} {P : Part S Answer} (L : PartTells counts P D T) where
+    walk_tells_in : (s : Walking O S) → TellsIn counts (walking begins P) (walk_deciding D) (walk_telling fits T) s
     walk_tells_in (Way d n ns o) = waits_tell (walking begins P) (walk_deciding D) (walk_telling fits T) (Way d n ns o) record {
-      looks = λ counts m op. refl;
+      looks = λ m op. refl;
       undecided = refl;
-      hears = λ counts h op c m how fresh before run.
+      hears = λ h op c m how fresh before run.
           walked_tells h op c d n ns o how before.0 before.1 run (request_place counts (any.Name (names.Look (key_in d n)))) _ refl;
       stays = λ h e op c other before. (walked_stays h e op c d (n ∷ ns) other before.0, before.1);
+      learns = λ h op c m x before. refl;
     }
     walk_tells_in (There s) = tells_within There record {
       decided = λ t. refl;
@@ -105,5 +107,5 @@ module _ {O S : Type 0} (begins : O → DirId → S) (fits : Command → O → T
       because = λ h op c a b. b;
     } (tells_in L s)
 
-    pub walk_tells : PartTells (walking begins P) (walk_deciding D) (walk_telling fits T)
+    pub walk_tells : PartTells counts (walking begins P) (walk_deciding D) (walk_telling fits T)
     walk_tells = part_tells walk_tells_in L.lasts

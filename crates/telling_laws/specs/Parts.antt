@@ -23,6 +23,7 @@ use Rattle.world_runs.specs.declared.event.Event.{Event}
 use Rattle.world_runs.specs.declared.event.Event.TheVariants.{Own}
 use Rattle.world_runs.specs.declared.event.Happening.TheVariants.{Acted}
 use Rattle.world_runs.specs.OwnRuns.{stored_after}
+use Rattle.claim_words.specs.Opened.{opens_of}
 use Rattle.claim_words.specs.Points.{way, of_op, Walked, Point}
 use Rattle.claim_words.specs.TreeSteps.{told_of, tree_steps, IsTreeRun}
 use Rattle.telling_laws.specs.Telling.{is_of, tree_of, IsFresh, Telling, Tells}
@@ -40,20 +41,26 @@ NextBefore T h op c (Comes a) = Unit {0}
 abbrev pub next_telling : {S : Type 0} → Telling S → Telling (Next S Answer)
 next_telling T = record { Before = NextBefore T; because = T.because }
 
-pub record PartTells {S : Type 0} (P : Part S Answer) (D : Deciding S Answer) (T : Telling S) : Type 0 where
-  pub turns : (counts : Counts) (h : List Event) (op : OpId) (c : Command) (m : Memory) (s : S) → T.Before h op c s → D.decided s ≡ None
+pub record PartTells {S : Type 0} (counts : Counts) (P : Part S Answer) (D : Deciding S Answer) (T : Telling S) : Type 0 where
+  pub turns : (h : List Event) (op : OpId) (c : Command) (m : Memory) (s : S) → T.Before h op c s → D.decided s ≡ None
       → NextTells D T h op c (P.turns counts m op s).state
-  pub hears : (counts : Counts) (h : List Event) (op : OpId) (c : Command) (m : Memory) (s : S) (x : AnyReply) (how : Heard)
+  pub hears : (h : List Event) (op : OpId) (c : Command) (m : Memory) (s : S) (x : AnyReply) (how : Heard)
       → IsFresh h (P.asks counts m op s) → x ≡ store_reply (stored_after opening_store h) (P.asks counts m op s)
-      → T.Before h op c s → D.decided s ≡ None → IsTreeRun (tree_of h) (told_of (Own op (Acted (P.asks counts m op s) x how)))
+      → T.Before h op c s → D.decided s ≡ None → IsTreeRun (tree_of h) (told_of h (Own op (Acted (P.asks counts m op s) x how)))
       → NextTells D T (h ++ Own op (Acted (P.asks counts m op s) x how) ∷ []) op c (P.hears counts m op s (P.asks counts m op s) x)
   pub stays : (h : List Event) (e : Event) (op : OpId) (c : Command) (s : S) → is_of op e ≡ false → T.Before h op c s
       → T.Before (h ++ e ∷ []) op c s
   pub lasts : (h es : List Event) (op : OpId) (c : Command) (a : Answer) → T.because h op c a → T.because (h ++ es) op c a
   -- look-ups decide nothing but what they come to, and once decided an answer stays so
-  pub turned : (c : Counts) (m : Memory) (op : OpId) (s : S) → IsTurned D (D.decided s) (P.turns c m op s).state
-  pub heard : (c : Counts) (m : Memory) (op : OpId) (s : S) (q : AnyReq) (x : AnyReply) (a : Answer) → D.decided s ≡ Some a
-      → next_decided D (P.hears c m op s q x) ≡ Some a
+  pub turned : (m : Memory) (op : OpId) (s : S) → IsTurned D (D.decided s) (P.turns counts m op s).state
+  pub heard : (m : Memory) (op : OpId) (s : S) (q : AnyReq) (x : AnyReply) (a : Answer) → D.decided s ≡ Some a
+      → next_decided D (P.hears counts m op s q x) ≡ Some a
+  -- of a reply its actor keeps just what it opened, and nothing once it is decided; its look-ups leave what it opened
+  pub learns : (h : List Event) (op : OpId) (c : Command) (m : Memory) (s : S) (x : AnyReply) → T.Before h op c s → D.decided s ≡ None
+      → P.learns op s (P.asks counts m op s) x ≡ opens_of (Some c) (P.asks counts m op s) x
+  pub learns_none : (op : OpId) (c : Command) (m : Memory) (s : S) (x : AnyReply) (a : Answer) → D.decided s ≡ Some a
+      → P.learns op s (P.asks counts m op s) x ≡ opens_of (Some c) (P.asks counts m op s) x
+  pub opened : (m : Memory) (op : OpId) (s : S) → (P.turns counts m op s).memory.opened ≡ m.opened
 
 -- ---- a walk before an operation that fits the command
 

@@ -1,7 +1,10 @@
 -- What is owed of programs so that each of their answers is explained by the history before it, and that it is so in all their runs.
-use Rattle.std.specs.Prelude.{◌≡◌, ℕ, Bool, true, false, Option, Some, None, List, [], ◌∷◌, ◌++◌}
+use Rattle.std.specs.Prelude.{◌≡◌, ℕ, Bool, true, false, Option, Some, None, is_some, List, [], ◌∷◌, ◌++◌}
+use Rattle.std.specs.FinMap.{get}
 use Rattle.tect_ids.specs.declared.ids.Counts.{Counts}
 use Rattle.tect_ids.specs.declared.ids.OpId.{OpId}
+use Rattle.tect_ids.specs.declared.key.ChunkKey.{ChunkKey}
+use Rattle.tect_ids.specs.declared.values.RowPart.{RowPart}
 use Rattle.tect_ids.specs.declared.command.Command.{Command}
 use Rattle.tect_ids.specs.declared.answer.Answer.{Answer}
 use Rattle.tect_ids.specs.Keys.{op_eq}
@@ -21,10 +24,12 @@ use Rattle.world_runs.specs.declared.event.Event.TheVariants.{Own, Dumped}
 use Rattle.world_runs.specs.declared.event.Happening.TheVariants.{Began, Acted}
 use Rattle.world_runs.specs.Moments.{IsWorldRun, moment}
 use Rattle.world_runs.specs.OwnRuns.{stored_after}
+use Rattle.claim_words.specs.Commands.{content_of, content_in}
+use Rattle.claim_words.specs.Opened.{opens_of, opened_in}
 use Rattle.claim_words.specs.TreeSteps.{told_of, tree_steps, tree_after, IsTreeRun}
 use Rattle.claim_words.specs.Points.{of_op}
 use Rattle.claim_words.specs.Headline.{HeadlineBy}
-use Rattle.telling_laws.specs.View.{MakesNew}
+use Rattle.telling_laws.specs.View.{MakesNew, attaches}
 
 -- the event is of that op
 abbrev pub is_of : OpId → Event → Bool
@@ -35,10 +40,13 @@ is_of op Dumped = false
 abbrev pub tree_of : List Event → Tree
 tree_of h = tree_after opening_tree (tree_steps h)
 
--- What is asked after that history is fresh: the tree has not made what it is to make, and the store says that it is made.
+-- What is asked after that history is fresh: the tree has not made what it is to make, and the store says that it is made; what it attaches
+-- has its content, and so has each chunk that stands.
 pub record IsFresh (h : List Event) (q : AnyReq) : Type 0 where
-  pub new : MakesNew (tree_of h).made q
+  pub new : MakesNew (content_in h) (tree_of h).made q
   pub made : makes q ≡ true → is_made (store_reply (stored_after opening_store h) q) ≡ true
+  pub known : (p : RowPart) → attaches q ≡ Some p → is_some (content_of h p.blk) ≡ true
+  pub chunks : (c : ChunkKey) (bytes : List ℕ) → get (stored_after opening_store h).chunks c ≡ Some bytes → content_of h c.blk ≡ Some bytes
 
 -- at each moment of each run, what a running command asks next is fresh
 abbrev pub RunsAskFresh : {S : Type 0} → Programs S → Type 0
@@ -64,19 +72,19 @@ OfDecided A B (Some a) = B a
 abbrev pub Tells : {S : Type 0} → Deciding S Answer → Telling S → List Event → OpId → Command → S → Type 0
 Tells D T h op c s = OfDecided (T.Before h op c s) (T.because h op c) (D.decided s)
 
--- What is owed of programs.
-pub record TellingLaws {S : Type 0} (P : Programs S) (D : Deciding S Answer) (T : Telling S) : Type 0 where
-  -- as a served command begins, no step of its op has been
-  pub begins : (counts : Counts) (h : List Event) (op : OpId) (c : Command) → P.serves c ≡ true → of_op op (tree_steps h) ≡ []
-      → Tells D T (h ++ Own op (Began c) ∷ []) op c (P.starts counts c)
+-- What is owed of programs, in a world of so many shards.
+pub record TellingLaws {S : Type 0} (counts : Counts) (P : Programs S) (D : Deciding S Answer) (T : Telling S) : Type 0 where
+  -- as a served command begins, no step of its op has been, and its actor knows which files it opened
+  pub begins : (h : List Event) (op : OpId) (c : Command) (m : Memory) → P.serves c ≡ true → of_op op (tree_steps h) ≡ []
+      → m.opened ≡ opened_in h op.actor → Tells D T (h ++ Own op (Began c) ∷ []) op c (P.starts counts m c)
   -- by its look-ups in its actor's memory it goes on, or finds its answer
-  pub turns : (counts : Counts) (h : List Event) (op : OpId) (c : Command) (m : Memory) (s : S) → T.Before h op c s → D.decided s ≡ None
+  pub turns : (h : List Event) (op : OpId) (c : Command) (m : Memory) (s : S) → T.Before h op c s → D.decided s ≡ None
       → Tells D T h op c (turned P.kind counts m op s).state
   -- at the store's reply to its request, which the tree allows, if it is a step
-  pub hears : (counts : Counts) (h : List Event) (op : OpId) (c : Command) (m : Memory) (s : S) (q : AnyReq) (x : AnyReply) (how : Heard)
+  pub hears : (h : List Event) (op : OpId) (c : Command) (m : Memory) (s : S) (q : AnyReq) (x : AnyReply) (how : Heard)
       → IsFresh h q → next_does P.kind counts m op s ≡ Asks q → x ≡ store_reply (stored_after opening_store h) q
       → T.Before h op c (turned P.kind counts m op s).state → D.decided (turned P.kind counts m op s).state ≡ None
-      → IsTreeRun (tree_of h) (told_of (Own op (Acted q x how)))
+      → IsTreeRun (tree_of h) (told_of h (Own op (Acted q x how)))
       → Tells D T (h ++ Own op (Acted q x how) ∷ []) op c (state_heard P.kind counts m op s q x)
   -- other ops' events change nothing of it
   pub stays : (h : List Event) (e : Event) (op : OpId) (c : Command) (s : S) → is_of op e ≡ false → T.Before h op c s
@@ -84,14 +92,25 @@ pub record TellingLaws {S : Type 0} (P : Programs S) (D : Deciding S Answer) (T 
   -- what explains an answer explains it later too
   pub lasts : (h es : List Event) (op : OpId) (c : Command) (a : Answer) → T.because h op c a → T.because (h ++ es) op c a
   -- once decided an answer stays so
-  pub turned_so : (counts : Counts) (m : Memory) (op : OpId) (s : S) (a : Answer) → D.decided s ≡ Some a
+  pub turned_so : (m : Memory) (op : OpId) (s : S) (a : Answer) → D.decided s ≡ Some a
       → D.decided (turned P.kind counts m op s).state ≡ Some a
-  pub heard_so : (counts : Counts) (m : Memory) (op : OpId) (s : S) (q : AnyReq) (x : AnyReply) (a : Answer)
+  pub heard_so : (m : Memory) (op : OpId) (s : S) (q : AnyReq) (x : AnyReply) (a : Answer)
       → D.decided (turned P.kind counts m op s).state ≡ Some a → D.decided (state_heard P.kind counts m op s q x) ≡ Some a
   -- what is said was decided
-  pub says : (counts : Counts) (m : Memory) (op : OpId) (s : S) (a : Answer) → next_does P.kind counts m op s ≡ Says a
+  pub says : (m : Memory) (op : OpId) (s : S) (a : Answer) → next_does P.kind counts m op s ≡ Says a
       → D.decided (turned P.kind counts m op s).state ≡ Some a
+  -- of its replies its actor keeps just what it opened
+  pub learns : (h : List Event) (op : OpId) (c : Command) (m : Memory) (s : S) (q : AnyReq) (x : AnyReply)
+      → next_does P.kind counts m op s ≡ Asks q → Tells D T h op c (turned P.kind counts m op s).state
+      → P.kind.learns op (turned P.kind counts m op s).state q x ≡ opens_of (Some c) q x
+  -- its look-ups leave what it opened
+  pub opened : (m : Memory) (op : OpId) (s : S) → (turned P.kind counts m op s).memory.opened ≡ m.opened
 
 -- in each run each answer is explained by the history before it
-abbrev pub RunsAreExplained : {S : Type 0} → Programs S → Telling S → Type 0
-RunsAreExplained P T = (counts : Counts) (es : List Event) → IsWorldRun P counts es → HeadlineBy T.because es
+abbrev pub RunsAreExplained : {S : Type 0} → Counts → Programs S → Telling S → Type 0
+RunsAreExplained counts P T = (es : List Event) → IsWorldRun P counts es → HeadlineBy T.because es
+
+-- at each moment of each run each actor knows which files it opened
+abbrev pub RunsRemember : {S : Type 0} → Counts → Programs S → Type 0
+RunsRemember counts P = (es : List Event) → IsWorldRun P counts es → (a : ℕ)
+    → ((moment P counts es).actors a).memory.opened ≡ opened_in es a

@@ -1,4 +1,4 @@
--- what a running command asks next is safe, whatever the lawful programs; and so it is fresh
+-- what is asked safely is fresh
 use Rattle.std.proofs.Common.{◌≡◌, ℕ, true, Some, List, sym, subst, arith}
 use Rattle.key_words.proofs.Lookups.{maps}
 use Rattle.tect_ids.specs.declared.ids.Counts.{Counts}
@@ -32,55 +32,52 @@ use Rattle.tree_runs.proofs.Pasts.{WithinPast, run_within}
 pub opening_within : WithinPast opening_ghost opening_tree.made
 opening_within n un = grind (arith, maps)
 
-module _ {S : Type 0} (P : Programs S) (D : Deciding S Answer) (N : Known S Answer) (laws : ProgramLaws P D N) (counts : Counts)
-    (es : List Event) (run : IsWorldRun P counts es) where
-  abbrev now : WorldState S
-  now = moment P counts es
-
-  abbrev past : Ghost
-  past = ghosts P D counts es
-
-  known : AllSound N now past
-  known = what_is_known_is_so P D N laws counts es run
-
-  module _ (a : ℕ) (op : OpId) (s : S) (q : AnyReq) (is : (now.actors a).running ≡ Some record { op = op; at = Goes s })
-      (asks : next_does P.kind counts (now.actors a).memory op s ≡ Asks q) where
-    own : a ≡ op.actor
-    own = sym (knows_of P D N laws now past known a record { op = op; at = Goes s } is).own
-
-    by : IsAsked P now op q s
-    by = record {
-      is = subst (λ (b : ℕ). (now.actors b).running ≡ Some record { op = op; at = Goes s }) own is;
-      ask = subst (λ (c : Counts). next_does P.kind c (now.actors op.actor).memory op s ≡ Asks q) (sym (counts_stay P (opening counts) es))
-          (subst (λ (b : ℕ). next_does P.kind counts (now.actors b).memory op s ≡ Asks q) own asks);
-    }
-
-    pub safe : IsSafe es q
-    safe = record {
-      world = world_of now past;
-      store = store_is_after P (opening counts) es;
-      sound = known.sound;
-      needs = (meets P D N laws now past known op q s by).needs;
-      made = run_within P D es (opening counts) opening_ghost opening_tree run opening_within;
-    }
-
-pub runs_ask_safely : {S : Type 0} (P : Programs S) (D : Deciding S Answer) (N : Known S Answer) → ProgramLaws P D N → RunsAskSafely P
-runs_ask_safely P D N laws counts es run a op s q is asks = safe P D N laws counts es run a op s q is asks
-
 -- ---- what is safe is fresh
 
--- what a request needs it makes new, where no more was made than in the past
-pub needs_make_new : (w : World) (made : Made) (q : AnyReq) → WithinPast w.ghost made → Needs w q → MakesNew made q
-needs_make_new w made q new needs =
-    record { new = λ n e. new n ((role_laws q).fresh w n e needs); fits = (role_laws q).fits w needs }
+-- what a request needs it makes new, where no more was made than in the past, and what it attaches has its content
+module _ (h : List Event) (w : World) (sound : Sound w) (contents : (b : BlkId) → content w.ghost b ≡ content_of h b) where
+  -- a block that is sealed and that long
+  sealed_known : (b : BlkId) (n : ℕ) → sealed_length (get w.store.blocks b) ≡ Some n
+      → (is_some (content_of h b) ≡ true) × (length (content_in h b) ≡ n)
+  sealed_known b n is =
+      let whole : IsWholeBlock w b n = sealed_is_whole w sound b n is in
+      let so : content_of h b ≡ Some whole.bytes = sym (contents b) ∙ whole.said in (rw so refl, rw so whole.full)
+
+  attached_known : (q : AnyReq) → Needs w q → (p : RowPart) → attaches q ≡ Some p
+      → (is_some (content_of h p.blk) ≡ true) × (length (content_in h p.blk) ≡ p.len)
+  attached_known (any.File (files.Attach f t b n hold)) needs p is =
+      let same : record { blk = b; len = n } ≡ p = cc in
+      subst (λ (r : RowPart). (is_some (content_of h r.blk) ≡ true) × (length (content_in h r.blk) ≡ r.len)) same
+      (sealed_known b n needs.1)
+  attached_known (any.File (files.MakeFile f hold k t)) needs p is = absurd (let z : None ≡ Some p = is in cc)
+  attached_known (any.File (files.Grant f hold k)) needs p is = absurd (let z : None ≡ Some p = is in cc)
+  attached_known (any.File (files.Release f hold)) needs p is = absurd (let z : None ≡ Some p = is in cc)
+  attached_known (any.File (files.TakeToken f t)) needs p is = absurd (let z : None ≡ Some p = is in cc)
+  attached_known (any.File (files.ListBlocks f)) needs p is = absurd (let z : None ≡ Some p = is in cc)
+  attached_known (any.Name q) needs p is = absurd (let z : None ≡ Some p = is in cc)
+  attached_known (any.Block q) needs p is = absurd (let z : None ≡ Some p = is in cc)
+  attached_known (any.Disk q) needs p is = absurd (let z : None ≡ Some p = is in cc)
+
+  pub needs_make_new : (made : Made) (q : AnyReq) → WithinPast w.ghost made → Needs w q → MakesNew (content_in h) made q
+  needs_make_new made q new needs = record {
+    new = λ n e. new n ((role_laws q).fresh w n e needs);
+    fits = (role_laws q).fits w needs;
+    long = λ p is. (attached_known q needs p is).1;
+  }
+
+  pub needs_known : (q : AnyReq) → Needs w q → (p : RowPart) → attaches q ≡ Some p → is_some (content_of h p.blk) ≡ true
+  needs_known q needs p is = (attached_known q needs p is).0
 
 safe_is_fresh : (h : List Event) (q : AnyReq) → IsSafe h q → IsFresh h q
 safe_is_fresh h q safe =
     let kept : Kept safe.world (next safe.world q) q = row_kept safe.world safe.sound q safe.needs in
     record {
-      new = needs_make_new safe.world (tree_of h).made q safe.made safe.needs;
+      new = needs_make_new h safe.world safe.sound safe.contents (tree_of h).made q safe.made safe.needs;
       made = λ e. subst (λ (s : Store). is_made (store_reply s q) ≡ true) safe.store
           ((role_laws q).told (next safe.world q) (store_reply safe.world.store q) e kept.taught);
+      known = needs_known h safe.world safe.sound safe.contents q safe.needs;
+      chunks = λ c bytes is. sym (safe.contents c.blk)
+          ∙ ((safe.sound).chunks).content c bytes (subst (λ (s : Store). get s.chunks c ≡ Some bytes) (sym safe.store) is);
     }
 
 pub runs_ask_fresh : {S : Type 0} (P : Programs S) → RunsAskSafely P → RunsAskFresh P

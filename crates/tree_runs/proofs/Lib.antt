@@ -1,3 +1,4 @@
+pub mod Contents
 pub mod Pasts
 pub mod AskSafely
 pub mod Tracks

@@ -28,67 +28,138 @@ use Rattle.telling_laws.proofs.RunsFollow.{Following, request_follows}
 use Rattle.tree_runs.proofs.Pasts.{WithinPast, event_within}
 use Rattle.tree_runs.proofs.AskSafely.{opening_within, needs_make_new}
 
--- so it is of a moment and a tree
-pub record Tracks {S : Type 0} (N : Known S Answer) (m : WorldState S) (t : Tree) : Type 0 where
+-- so it is of a moment and a tree, after a history
+pub record Tracks {S : Type 0} (N : Known S Answer) (h : List Event) (m : WorldState S) (t : Tree) : Type 0 where
   pub past : Ghost
   pub sound : AllSound N m past
   pub within : WithinPast past t.made
-  pub shown : Shows m.store t
-  pub made : TreeMade t
+  pub told : PastTold past h
+  pub shown : Shown h m.store t
 
-pub opening_tracks : {S : Type 0} (N : Known S Answer) (counts : Counts) → Tracks N (opening counts) opening_tree
+pub opening_tracks : {S : Type 0} (N : Known S Answer) (counts : Counts) → Tracks N [] (opening counts) opening_tree
 opening_tracks N counts = record {
   past = opening_ghost;
   sound = opening_all_sound N counts;
   within = opening_within;
-  shown = opening_shows;
-  made = opening_made;
+  told = opening_told;
+  shown = opening_shown;
 }
 
 module _ {S : Type 0} (P : Programs S) (D : Deciding S Answer) (N : Known S Answer) (laws : ProgramLaws P D N) where
-  module _ (m : WorldState S) (t : Tree) (tracks : Tracks N m t) where
-    -- what is asked makes what the tree has not made
-    pub asks_new : (op : OpId) (q : AnyReq) (s : S) → IsAsked P m op q s → MakesNew t.made q
-    asks_new op q s by =
-        needs_make_new (world_of m tracks.past) t.made q tracks.within (meets P D N laws m tracks.past tracks.sound op q s by).needs
+  module _ (h : List Event) (m : WorldState S) (t : Tree) (tracks : Tracks N h m t) where
+    -- the store beside its past
+    abbrev w : World
+    w = world_of m tracks.past
+
+    contents : (b : BlkId) → content w.ghost b ≡ content_of h b
+    contents = told_content tracks.past h tracks.told
+
+    needed : (op : OpId) (q : AnyReq) (s : S) → IsAsked P m op q s → Needs w q
+    needed op q s by = (meets P D N laws m tracks.past tracks.sound op q s by).needs
+
+    -- what is asked makes what the tree has not made, and what it attaches has its content
+    pub asks_new : (op : OpId) (q : AnyReq) (s : S) → IsAsked P m op q s → MakesNew (content_in h) t.made q
+    asks_new op q s by = needs_make_new h w (tracks.sound).sound contents t.made q tracks.within (needed op q s by)
 
     acted_follows : (op : OpId) (q : AnyReq) (x : AnyReply) (how : Heard) → May P m (Own op (Acted q x how))
-        → Following t (store_step m.store q) (told_of (Own op (Acted q x how)))
+        → Follows h (Own op (Acted q x how)) (store_step m.store q) t
     acted_follows op q x how may =
         let by : (s : S) × IsAsked P m op q s = asked_by_op P m op q may.0 in
-        subst (λ (y : AnyReply). Following t (store_step m.store q) (told_as op (tree_step q y) (says y))) (sym may.1)
-        (request_follows t m.store op q tracks.shown tracks.made (asks_new op q by.0 by.1))
+        asked_follows h m.store t op q x how (asks_new op q by.0 by.1)
+        (needs_known h w (tracks.sound).sound contents q (needed op q by.0 by.1)) tracks.shown may.1
 
-    follows : (e : Event) → May P m e → Following t (after P m e).store (told_of e)
+    follows : (e : Event) → May P m e → Follows h e (after P m e).store t
     follows (Own op (Acted q x how)) may = acted_follows op q x how may
-    follows (Own op (Began c)) may = record { shown = tracks.shown; made = tracks.made; run = tt }
-    follows (Own op (NotBegun c)) may = record { shown = tracks.shown; made = tracks.made; run = tt }
-    follows (Own op (Ended a)) may = record { shown = tracks.shown; made = tracks.made; run = tt }
-    follows (Own op Stopped) may = record { shown = tracks.shown; made = tracks.made; run = tt }
-    follows (Own op (Failed a)) may = record { shown = tracks.shown; made = tracks.made; run = tt }
-    follows Dumped may = record { shown = tracks.shown; made = tracks.made; run = tt }
+    follows (Own op (Began c)) may = idle_follows h (Own op (Began c)) m.store t refl tracks.shown
+    follows (Own op (NotBegun c)) may = idle_follows h (Own op (NotBegun c)) m.store t refl tracks.shown
+    follows (Own op (Ended a)) may = idle_follows h (Own op (Ended a)) m.store t refl tracks.shown
+    follows (Own op Stopped) may = idle_follows h (Own op Stopped) m.store t refl tracks.shown
+    follows (Own op (Failed a)) may = idle_follows h (Own op (Failed a)) m.store t refl tracks.shown
+    follows Dumped may = idle_follows h Dumped m.store t refl tracks.shown
+
+    acted_told : (op : OpId) (q : AnyReq) (x : AnyReply) (how : Heard) → May P m (Own op (Acted q x how))
+        → PastTold (ghost_after P D m tracks.past (Own op (Acted q x how))) (h ++ Own op (Acted q x how) ∷ [])
+    acted_told op q x how may =
+        let by : (s : S) × IsAsked P m op q s = asked_by_op P m op q may.0 in
+        subst (λ (y : AnyReply). PastTold (ghost_after P D m tracks.past (Own op (Acted q y how))) (h ++ Own op (Acted q y how) ∷ []))
+        (sym may.1)
+        (told_acted w h op _ q how _ _ (meets P D N laws m tracks.past tracks.sound op q by.0 by.1) tracks.told)
+
+    past_told : (e : Event) → May P m e → PastTold (ghost_after P D m tracks.past e) (h ++ e ∷ [])
+    past_told (Own op (Acted q x how)) may = acted_told op q x how may
+    past_told (Own op (Began c)) may = told_begun tracks.past h op c tracks.told
+    past_told (Own op (NotBegun c)) may =
+        told_idle tracks.past tracks.past h _ (λ x. refl) (λ b. refl) (λ x. refl) (λ b. refl) tracks.told
+    past_told (Own op (Ended a)) may =
+        told_idle tracks.past tracks.past h _ (λ x. refl) (λ b. refl) (λ x. refl) (λ b. refl) tracks.told
+    past_told (Own op Stopped) may =
+        told_idle tracks.past tracks.past h _ (λ x. refl) (λ b. refl) (λ x. refl) (λ b. refl) tracks.told
+    past_told (Own op (Failed a)) may =
+        told_idle tracks.past tracks.past h _ (λ x. refl) (λ b. refl) (λ x. refl) (λ b. refl) tracks.told
+    past_told Dumped may = told_idle tracks.past tracks.past h _ (λ x. refl) (λ b. refl) (λ x. refl) (λ b. refl) tracks.told
 
     -- and it is so after each event, whose step the tree allows
-    pub event_tracked : (e : Event) → May P m e → Tracks N (after P m e) (tree_after t (told_of e)) × IsTreeRun t (told_of e)
+    pub event_tracked : (e : Event) → May P m e → Tracks N (h ++ e ∷ []) (after P m e) (tree_after t (told_of h e)) × IsTreeRun t (told_of h e)
     event_tracked e may =
-        let f : Following t (after P m e).store (told_of e) = follows e may in (
+        let f : Follows h e (after P m e).store t = follows e may in (
           record {
             past = ghost_after P D m tracks.past e;
             sound = event_sound P D N laws m tracks.past e tracks.sound may;
-            within = event_within P D m tracks.past t e may tracks.within;
+            within = event_within P D h m tracks.past t e may tracks.within;
+            told = past_told e may;
             shown = f.shown;
-            made = f.made;
           },
           f.run,
         )
 
-  pub run_tracked : (es : List Event) (m : WorldState S) (t : Tree) → Tracks N m t → RunFrom P m es
-      → Tracks N (after_all P m es) (tree_after t (tree_steps es)) × IsTreeRun t (tree_steps es)
-  run_tracked [] m t tracks run = (tracks, tt)
-  run_tracked (e ∷ es) m t tracks run =
-      let now : Tracks N (after P m e) (tree_after t (told_of e)) × IsTreeRun t (told_of e) = event_tracked m t tracks e run.0 in
-      let rest : Tracks N (after_all P (after P m e) es) (tree_after (tree_after t (told_of e)) (tree_steps es))
-      × IsTreeRun (tree_after t (told_of e)) (tree_steps es) = run_tracked es (after P m e) (tree_after t (told_of e)) now.0 run.1 in (
-        subst (λ (u : Tree). Tracks N (after_all P (after P m e) es) u) (sym (tree_after-append t (told_of e) (tree_steps es))) rest.0,
-        tree_run-append t (told_of e) (tree_steps es) now.1 rest.1,
+  pub run_tracked : (es h : List Event) (m : WorldState S) (t : Tree) → Tracks N h m t → RunFrom P m es
+      → Tracks N (h ++ es) (after_all P m es) (tree_after t (steps_after h es)) × IsTreeRun t (steps_after h es)
+  run_tracked [] h m t tracks run = (rw append-nil tracks, tt)
+  run_tracked (e ∷ es) h m t tracks run =
+      let now : Tracks N (h ++ e ∷ []) (after P m e) (tree_after t (told_of h e)) × IsTreeRun t (told_of h e) =
+      event_tracked h m t tracks e run.0 in
+      let rest : Tracks N ((h ++ e ∷ []) ++ es) (after_all P (after P m e) es)
+      (tree_after (tree_after t (told_of h e)) (steps_after (h ++ e ∷ []) es))
+      × IsTreeRun (tree_after t (told_of h e)) (steps_after (h ++ e ∷ []) es) =
+      run_tracked es (h ++ e ∷ []) (after P m e) (tree_after t (told_of h e)) now.0 run.1 in (
+        subst (λ (l : List Event). Tracks N l (after_all P (after P m e) es) (tree_after t (steps_after h (e ∷ es))))
+        (append_assoc h (e ∷ []) es)
+        (subst (λ (u : Tree). Tracks N ((h ++ e ∷ []) ++ es) (after_all P (after P m e) es) u)
+        (sym (tree_after-append t (told_of h e) (steps_after (h ++ e ∷ []) es))) rest.0),
+        tree_run-append t (told_of h e) (steps_after (h ++ e ∷ []) es) now.1 rest.1,
       )
+
+  -- ---- what a running command asks next is safe
+
+  module _ (counts : Counts) (es : List Event) (run : IsWorldRun P counts es) where
+    abbrev now : WorldState S
+    now = moment P counts es
+
+    tracked : Tracks N es now (tree_of es)
+    tracked = (run_tracked es [] (opening counts) opening_tree (opening_tracks N counts) run).0
+
+    module _ (a : ℕ) (op : OpId) (s : S) (q : AnyReq) (is : (now.actors a).running ≡ Some record { op = op; at = Goes s })
+        (asks : next_does P.kind counts (now.actors a).memory op s ≡ Asks q) where
+      own : a ≡ op.actor
+      own = sym (knows_of P D N laws now tracked.past tracked.sound a record { op = op; at = Goes s } is).own
+
+      by : IsAsked P now op q s
+      by = record {
+        is = subst (λ (b : ℕ). (now.actors b).running ≡ Some record { op = op; at = Goes s }) own is;
+        ask = subst (λ (c : Counts). next_does P.kind c (now.actors op.actor).memory op s ≡ Asks q)
+            (sym (counts_stay P (opening counts) es))
+            (subst (λ (b : ℕ). next_does P.kind counts (now.actors b).memory op s ≡ Asks q) own asks);
+      }
+
+      pub safe : IsSafe es q
+      safe = record {
+        world = world_of now tracked.past;
+        store = store_is_after P (opening counts) es;
+        sound = (tracked.sound).sound;
+        needs = needed es now (tree_of es) tracked op q s by;
+        made = tracked.within;
+        contents = contents es now (tree_of es) tracked;
+      }
+
+  pub runs_ask_safely : RunsAskSafely P
+  runs_ask_safely counts es run a op s q is asks = safe counts es run a op s q is asks

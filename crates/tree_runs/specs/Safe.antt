@@ -1,13 +1,14 @@
 -- What a running command asks is safe.
 use Rattle.std.specs.Prelude.{◌≡◌, ℕ, false, Some, None, List}
 use Rattle.std.specs.FinMap.{get}
+use Rattle.tect_ids.specs.declared.ids.BlkId.{BlkId}
 use Rattle.tect_ids.specs.declared.ids.Counts.{Counts}
 use Rattle.tect_ids.specs.declared.ids.Node.{Node}
 use Rattle.tect_ids.specs.declared.ids.OpId.{OpId}
 use Rattle.store_rules.specs.declared.any.AnyReq.{AnyReq}
 use Rattle.store_rules.specs.Store.{opening_store}
 use Rattle.store_pasts.specs.Worlds.{World}
-use Rattle.store_pasts.specs.Pasts.{was_made}
+use Rattle.store_pasts.specs.Pasts.{was_made, content}
 use Rattle.store_pasts.specs.Requests.{Needs}
 use Rattle.store_world.specs.Sound.{Sound}
 use Rattle.program_forms.specs.declared.standing.Standing.TheVariants.{Goes}
@@ -15,16 +16,18 @@ use Rattle.program_forms.specs.Kinds.{Asks, Programs, next_does}
 use Rattle.world_runs.specs.declared.event.Event.{Event}
 use Rattle.world_runs.specs.Moments.{IsWorldRun, moment}
 use Rattle.world_runs.specs.OwnRuns.{stored_after}
+use Rattle.claim_words.specs.Commands.{content_of}
 use Rattle.telling_laws.specs.Telling.{tree_of}
 
 -- What is asked after that history is safe: some past of the store knows what the request needs, and the tree has made no more than was
--- made in that past.
+-- made in that past; and blocks consist of what they do by the history.
 pub record IsSafe (h : List Event) (q : AnyReq) : Type 0 where
   pub world : World
   pub store : world.store ≡ stored_after opening_store h
   pub sound : Sound world
   pub needs : Needs world q
   pub made : (n : Node) → was_made world.ghost n ≡ false → get (tree_of h).made n ≡ None
+  pub contents : (b : BlkId) → content world.ghost b ≡ content_of h b
 
 -- at each moment of each run, what a running command asks next is safe
 abbrev pub RunsAskSafely : {S : Type 0} → Programs S → Type 0

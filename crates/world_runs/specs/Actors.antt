@@ -103,7 +103,7 @@ OwnMay P c a op (Failed x) = IsLack x × ((r : _) × (program_of a.running op �
 -- ---- how an actor stands after what it did
 
 abbrev pub begun : {S : Type 0} → Programs S → Counts → Actor S → OpId → Command → Actor S
-begun P c a op k = record a { number = op.number; running = Some record { op = op; at = Goes (P.starts c k) } }
+begun P c a op k = record a { number = op.number; running = Some record { op = op; at = Goes (P.starts c a.memory k) } }
 
 -- an op that is refused has its answer from the first
 abbrev pub not_begun : {S : Type 0} → Actor S → OpId → Actor S
