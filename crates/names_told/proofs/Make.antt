@@ -120,7 +120,7 @@ module _ (counts : Counts) where
         let k : Key = key_in d n in
         let q : AnyReq = any.File (files.MakeFile f (own_hold op) k None) in
         made_tells (h ++ act_at h op q how ∷ []) op c (request_place counts q) new.File k (File f) (reply_at h q)
-        (fresh.made refl) (still_came h (act_at h op q how) op c d (operation.Make new.File n) came) tt;
+        ((fresh.fresh).made refl) (still_came h (act_at h op q how) op c d (operation.Make new.File n) came) tt;
     stays = λ h e op c other came. still_came h e op c d (operation.Make new.File n) came;
     learns = λ h op c m x before. refl;
   }
@@ -132,7 +132,7 @@ module _ (counts : Counts) where
         let k : Key = key_in d n in
         let q : AnyReq = any.Name (names.MakeDir g d (own_hold op) k) in
         made_tells (h ++ act_at h op q how ∷ []) op c (request_place counts q) new.Dir k (Dir g) (reply_at h q)
-        (fresh.made refl) (still_came h (act_at h op q how) op c d (operation.Make new.Dir n) came) tt;
+        ((fresh.fresh).made refl) (still_came h (act_at h op q how) op c d (operation.Make new.Dir n) came) tt;
     stays = λ h e op c other came. still_came h e op c d (operation.Make new.Dir n) came;
     learns = λ h op c m x before. refl;
   }

@@ -49,4 +49,4 @@ module _ (counts : Counts) (h : List Event) (op : OpId) (none : of_op op (tree_s
 pub names_tell_so : (counts : Counts) → TellingLaws counts programs names_deciding (names_telling counts)
 names_tell_so counts = part_telling_laws (walk_tells begins_in Fits (walks_tell counts) (operations_tell counts)) is_served
     (λ counts m c. started (begun c))
-    (λ h op c m served none opened. begins_tells counts h op none c (begun c) refl (begins_so c served))
+    (λ h op c m served unbegun none opened. begins_tells counts h op none c (begun c) refl (begins_so c served))

@@ -12,6 +12,7 @@ use Rattle.world_runs.specs.declared.event.Event.TheVariants.{Own}
 use Rattle.world_runs.specs.declared.event.Happening.TheVariants.{Ended}
 use Rattle.world_runs.specs.Moments.{WorldState, May, IsWorldRun, moment, opening}
 use Rattle.whole_runs.proofs.Fronts.{front_runs, may_at}
+use Rattle.claim_words.specs.Commands.{content_in}
 use Rattle.claim_words.specs.Sound.{AfterEachFront}
 use Rattle.telling_laws.specs.View.{Shows}
 use Rattle.telling_laws.specs.Telling.{tree_of}
@@ -35,7 +36,7 @@ no_end_is_odd counts history run op a n at place odd =
 -- the store shows the tree at each moment
 shown_at_each_moment : (counts : Counts) (history : List Event) → IsWorldRun programs counts history → AfterEachFront ShowsTree history
 shown_at_each_moment counts history run n =
-    subst (λ (s : Store). Shows s (tree_of (take n history))) (store_is_after programs (opening counts) (take n history))
+    subst (λ (s : Store). Shows s (content_in (take n history)) (tree_of (take n history))) (store_is_after programs (opening counts) (take n history))
     (shown_so counts (take n history) (front_runs programs n history (opening counts) run))
 
 pub every_run_is_claimed : EveryRunIsClaimed

@@ -14,6 +14,7 @@ use Rattle.program_rules.specs.Served.{programs}
 use Rattle.world_runs.specs.OwnRuns.{stored_after}
 use Rattle.telling_laws.specs.View.{Shows}
 use Rattle.tree_model.specs.Tree.{opening_tree}
+use Rattle.claim_words.specs.Commands.{content_in}
 use Rattle.claim_words.specs.TreeSteps.{tree_steps, tree_after}
 use Rattle.claim_words.specs.Headline.{Headline, command_of}
 use Rattle.claim_words.specs.Sound.{IsSound, AfterEachFront}
@@ -23,9 +24,9 @@ use Rattle.world_runs.specs.Limits.{KeepsLimits}
 use Rattle.run_claims.specs.Bounds.{IsShort}
 use Rattle.run_claims.specs.Complete.{IsComplete}
 
--- the store, without its holds, is the tree that the small machine's steps made
+-- the store, without its holds and with the contents of blocks, is the tree that the small machine's steps made
 abbrev pub ShowsTree : List Event → Type 0
-ShowsTree history = Shows (stored_after opening_store history) (tree_after opening_tree (tree_steps history))
+ShowsTree history = Shows (stored_after opening_store history) (content_in history) (tree_after opening_tree (tree_steps history))
 
 -- It is a run of the world, within the limits of its actors' histories. The store is sound at each moment, lists each hold that was
 -- granted and neither bound nor given up, and shows the small machine's tree; each answer is the one that the tree gives at the command's
@@ -37,10 +38,10 @@ pub record IsHistory (counts : Counts) (history : List Event) : Type 0 where
   pub sound : AfterEachFront IsSound history
   pub granted : AfterEachFront GrantedHoldsAreListed history
   pub shown : AfterEachFront ShowsTree history
-  pub answers : Headline history
+  pub answers : Headline counts history
   pub not_odd : (op : OpId) (a : Answer) (n : ℕ) → slice_get history n ≡ Some (Own op (Ended a)) → (place : Place) → a ≢ Odd place
   pub short : (op : OpId) (c : Command) → command_of history op ≡ Some c → IsShort history op c
-  pub complete : IsComplete history
+  pub complete : IsComplete counts history
 
 abbrev pub EveryRunIsClaimed : Type 0
 EveryRunIsClaimed =

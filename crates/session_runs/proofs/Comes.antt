@@ -38,7 +38,8 @@ use Rattle.world_runs.specs.Moments.{WorldState, May, after, after_all, RunFrom,
 use Rattle.world_runs.specs.Follows.{Acts}
 use Rattle.whole_runs.proofs.Actors.{changed_there}
 use Rattle.script_runs.proofs.Histories.{IsActed, act_is}
-use Rattle.claim_words.specs.TreeSteps.{told_of, told_as, tree_steps, tree_step, says, tree_after, IsTreeRun}
+use Rattle.claim_words.specs.Commands.{content_in}
+use Rattle.claim_words.specs.TreeSteps.{Told, told_of, told_as, steps_after, tree_step, says, tree_after, IsTreeRun}
 use Rattle.run_laws.specs.Pasts.{world_of}
 use Rattle.telling_laws.proofs.Histories.{tree_after-append}
 use Rattle.session_runs.specs.Session.{Played}
@@ -67,12 +68,23 @@ pub record StandsAt (m : WorldState Program) (t : Tree) (op : OpId) (own : ℕ) 
   pub runs : (m.actors op.actor).running ≡ Some record { op = op; at = standing.Goes p }
   pub memory : (m.actors op.actor).memory ≡ memory_of own
 
--- those transactions of the op and its end, with that answer, are what was played
+-- a transaction of the op, heard whole
+abbrev pub acted : OpId → AnyReq → AnyReply → Event
+acted op q x = Own op (Acted q x hearing.Whole)
+
+-- its step, where it attaches nothing: then it is the same after each history
+abbrev pub step_of : OpId → AnyReq → AnyReply → List Told
+step_of op q x = told_of [] (acted op q x)
+
+abbrev pub AttachesNothing : OpId → AnyReq → AnyReply → Type 0
+AttachesNothing op q x = (h : List Event) → told_of h (acted op q x) ≡ step_of op q x
+
+-- those transactions of the op and its end, with that answer, are what was played, after whatever history
 pub record Comes (m : WorldState Program) (t : Tree) (op : OpId) (front : List Event) (n : ℕ) (a : Answer) (p : Played) (left : ℕ) : Type 0
   where
     pub count : n ≡ left
     pub answer : a ≡ p.answer
-    pub tree : tree_after t (tree_steps front) ≡ p.tree
+    pub tree : (h : List Event) → tree_after t (steps_after h front) ≡ p.tree
     pub memory : ((after_all programs m front).actors op.actor).memory ≡ memory_of p.serial
 
 -- so it is of all transactions that may come
@@ -115,7 +127,7 @@ module _ (m : WorldState Program) (t : Tree) (op : OpId) (own : ℕ) (p : Progra
       ap (λ (r : Option (Running Program)). program_answer programs m.counts s.memory r) runs_now
       ∙ ap (λ (d : Does Answer). said_by d) does_now
 
-  module _ (q : AnyReq) (asks : does_at m op own p ≡ Asks q) where
+  module _ (q : AnyReq) (asks : does_at m op own p ≡ Asks q) (plain : AttachesNothing op q (store_reply m.store q)) where
     -- what the store replies
     abbrev x : AnyReply
     x = store_reply m.store q
@@ -137,7 +149,7 @@ module _ (m : WorldState Program) (t : Tree) (op : OpId) (own : ℕ) (p : Progra
     may_now = (asked_this, refl)
 
     -- what the reply teaches
-    pub kept_now : Kept (world_of m st.tracks.past) (worlds.next (world_of m st.tracks.past) q) q
+    pub kept_now : Kept (world_of m (st.tracks).so.past) (worlds.next (world_of m (st.tracks).so.past) q) q
     kept_now = act_kept m t st.tracks op q asked_this
 
     -- what a reply makes of the actor
@@ -149,27 +161,36 @@ module _ (m : WorldState Program) (t : Tree) (op : OpId) (own : ℕ) (p : Progra
         ≡ record s { memory = always s.memory q x; running = Some record { op = op; at = stands_after m.counts s.memory op p q x h } }
     goes_on_as h = went_on_as m.counts s s.running op p q x h st.runs
 
-    pub next_stands : StandsAt (after programs m did) (tree_after t (told_of did)) op (serial_after own q x) (heard_at m op own p q x)
+    -- what it was told
+    told_now : told_of (st.tracks).history did ≡ step_of op q x
+    told_now = plain (st.tracks).history
+
+    pub next_stands : StandsAt (after programs m did) (tree_after t (step_of op q x)) op (serial_after own q x) (heard_at m op own p q x)
     next_stands = record {
-      tracks = (event_tracked m t did st.tracks may_now).0;
+      tracks = subst (λ (l : List Told). Tracks (after programs m did) (tree_after t l)) told_now (event_tracked m t did st.tracks may_now).0;
       runs = heard_as (λ (a : Actor Program). a.running ≡ Some record { op = op; at = standing.Goes (heard_at m op own p q x) })
           hearing.Whole (rw (goes_on_as hearing.Whole, st.memory) refl);
       memory = heard_as (λ (a : Actor Program). a.memory ≡ memory_of (serial_after own q x)) hearing.Whole
           (rw (goes_on_as hearing.Whole, st.memory) refl);
     }
 
-    pub step_said : (s : TreeStep) → tree_step q x ≡ Some s → says x ≡ tree_reply t op s
-    step_said s is = let run : IsTreeRun t (told_as op (tree_step q x) (says x)) = (event_tracked m t did st.tracks may_now).1
-        in (rw is at run).0
+    pub step_said : (s : TreeStep) → tree_step (content_in []) q x ≡ Some s → says x ≡ tree_reply t op s
+    step_said s is =
+        let run : IsTreeRun t (told_as op (tree_step (content_in []) q x) (says x)) =
+        subst (λ (l : List Told). IsTreeRun t l) told_now (event_tracked m t did st.tracks may_now).1 in
+        (rw is at run).0
 
     -- one transaction, and then the others
     step_here : (h : Heard) (y : Played) (left n rest : ℕ) (a : Answer) (es : List Event) → n ≡ rest + 1
-        → Comes (after programs m (did_so h)) (tree_after t (told_of did)) op es rest a y left
+        → Comes (after programs m (did_so h)) (tree_after t (step_of op q x)) op es rest a y left
         → Comes m t op (did_so h ∷ es) n a y (left + 1)
     step_here h y left n rest a es is r = record {
       count = omega (arith, r.count);
       answer = r.answer;
-      tree = tree_after-append t (told_of did) (tree_steps es) ∙ r.tree;
+      tree = λ g.
+          tree_after-append t (told_of g did) (steps_after (g ++ did_so h ∷ []) es)
+          ∙ ap (λ (l : List Told). tree_after (tree_after t l) (steps_after (g ++ did_so h ∷ []) es)) (plain g)
+          ∙ r.tree (g ++ did_so h ∷ []);
       memory = r.memory;
     }
 
@@ -182,13 +203,13 @@ module _ (m : WorldState Program) (t : Tree) (op : OpId) (own : ℕ) (p : Progra
     left_runs = heard_as (λ (a : Actor Program). a.running ≡ Some record { op = op; at = standing.Left }) hearing.Left
         (rw (goes_on_as hearing.Left) refl)
 
-    module _ (y : Played) (left : ℕ) (more : Goes (after programs m did) (tree_after t (told_of did)) op y left) where
+    module _ (y : Played) (left : ℕ) (more : Goes (after programs m did) (tree_after t (step_of op q x)) op y left) where
       heard_goes : (h : Heard) (es : List Event) (n rest : ℕ) (a : Answer) → n ≡ rest + 1 → Acts op rest es
           → RunFrom programs (after programs m (did_so h)) (es ++ Own op (Ended a) ∷ []) → Comes m t op (did_so h ∷ es) n a y (left + 1)
       heard_goes hearing.Whole es n rest a is acts run = step_here hearing.Whole y left n rest a es is (more es rest a acts run)
       heard_goes hearing.Unkept es n rest a is acts run =
           step_here hearing.Unkept y left n rest a es is
-          (subst (λ (w : WorldState Program). Goes w (tree_after t (told_of did)) op y left) unkept_same more es rest a acts run)
+          (subst (λ (w : WorldState Program). Goes w (tree_after t (step_of op q x)) op y left) unkept_same more es rest a acts run)
       heard_goes hearing.Left es n rest a is acts run = absurd (left_stuck _ op left_runs es rest a acts run)
 
       acted_goes : (q2 : AnyReq) (x2 : AnyReply) (h : Heard) (es : List Event) (n rest : ℕ) (a : Answer) → n ≡ rest + 1 → Acts op rest es
@@ -223,15 +244,11 @@ pub end_goes : (m : WorldState Program) (t : Tree) (op : OpId) (own : ℕ) (b : 
 end_goes m t op own b p st tree serial answer [] n a acts run =
     let now : Some b ≡ Some a = sym (says_now m t op own (next.Comes b) st) ∙ (run.0).0 in
     let same : b ≡ a = cc in
-    record { count = acts; answer = sym same ∙ answer; tree = tree; memory = st.memory ∙ ap (λ (i : ℕ). memory_of i) serial }
+    record { count = acts; answer = sym same ∙ answer; tree = λ h. tree; memory = st.memory ∙ ap (λ (i : ℕ). memory_of i) serial }
 end_goes m t op own b p st tree serial answer (e ∷ es) n a acts run =
     let i : IsActed op e = act_is op e acts.0 in
     let may : May programs m (Own op (Acted i.req i.reply i.heard)) = subst (λ (z : Event). May programs m z) i.is run.0 in
     absurd (let k : Some i.req ≡ None = sym may.0 ∙ asked_now m t op own (next.Comes b) st in cc)
-
--- a transaction of the op, heard whole
-abbrev pub acted : OpId → AnyReq → AnyReply → Event
-acted op q x = Own op (Acted q x hearing.Whole)
 
 -- a hold that is released, if there is one, before the answer
 abbrev pub releasing_first : Freed → Answer → Program
@@ -244,11 +261,15 @@ module _ (m : WorldState Program) (t : Tree) (op : OpId) (own : ℕ) (b : Answer
   release_goes f st =
       let q : AnyReq = release_ask f.node f.hold in
       let x : AnyReply = store_reply m.store q in
-      step_goes m t op own (releasing_first f b) st q refl p 0
-      (end_goes _ _ op _ b p (next_stands m t op own (releasing_first f b) st q refl) (no_step f.node f.hold ∙ tree)
+      step_goes m t op own (releasing_first f b) st q refl (plain f.node f.hold) p 0
+      (end_goes _ _ op _ b p (next_stands m t op own (releasing_first f b) st q refl (plain f.node f.hold)) (no_step f.node f.hold ∙ tree)
       (none_taken f.node f.hold ∙ serial) answer)
     where
-      no_step : (n : Node) (h : Hold) → tree_after t (told_of (acted op (release_ask n h) (store_reply m.store (release_ask n h)))) ≡ t
+      plain : (n : Node) (h : Hold) → AttachesNothing op (release_ask n h) (store_reply m.store (release_ask n h))
+      plain (nodes.Dir d) h = λ g. refl
+      plain (nodes.File f) h = λ g. refl
+
+      no_step : (n : Node) (h : Hold) → tree_after t (step_of op (release_ask n h) (store_reply m.store (release_ask n h))) ≡ t
       no_step (nodes.Dir d) h = refl
       no_step (nodes.File f) h = refl
 

@@ -54,6 +54,6 @@ pub quiet_run : (m : WorldState Program) (t : Tree) (before es : List Event) →
 quiet_run m t before [] tracks quiet run = rw append-nil quiet
 quiet_run m t before (e ∷ es) tracks quiet run =
     let more : Quiet (after_all programs (after programs m e) es) ((before ++ e ∷ []) ++ es) =
-    quiet_run (after programs m e) (tree_after t (told_of e)) (before ++ e ∷ []) es (event_tracked m t e tracks run.0).0
+    quiet_run (after programs m e) (tree_after t (told_of tracks.history e)) (before ++ e ∷ []) es (event_tracked m t e tracks run.0).0
     (quiet_more m t before e tracks quiet run.0) run.1 in
     rw (append_assoc before (e ∷ []) es) at more

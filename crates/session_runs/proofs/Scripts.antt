@@ -20,13 +20,13 @@ use Rattle.world_runs.specs.declared.event.Event.TheVariants.{Own, Dumped}
 use Rattle.world_runs.specs.declared.event.Happening.TheVariants.{Began, NotBegun, Acted, Ended, Stopped, Failed}
 use Rattle.world_runs.specs.Actors.{Actor, CanBegin, ended}
 use Rattle.world_runs.specs.Moments.{WorldState, opening, after, after_all, RunFrom, IsWorldRun}
-use Rattle.claim_words.specs.TreeSteps.{tree_steps, tree_after}
+use Rattle.claim_words.specs.TreeSteps.{steps_after, tree_after}
 use Rattle.world_runs.specs.Report.{transactions, lines_at, report, report_after, answer_line, client_name}
 use Rattle.world_runs.specs.Follows.{Acts, IsEndOf, EndsAfter, BeginsAndEnds, DoesLine, Busy, none_busy, with_busy, FollowsFrom, Follows}
 use Rattle.session_runs.specs.Session.{Played, played, played_line, IsPlayed, session_lines, session_script}
 use Rattle.session_runs.specs.Session as session
 use Rattle.session_runs.proofs.Tracked.{Tracks, opening_tracks, event_tracked, run_tracked}
-use Rattle.telling_laws.proofs.Histories.{tree_steps-append}
+use Rattle.telling_laws.proofs.Histories.{steps_after-append}
 use Rattle.session_runs.proofs.Quiet.{Quiet, quiet_run}
 use Rattle.script_runs.proofs.Histories.{run-front, run-rest, report-append, IsActed, act_is}
 use Rattle.script_runs.proofs.Moves.{acts_move}
@@ -145,8 +145,10 @@ module _ (clients : List (List ℕ)) (m : WorldState Program) (t : Tree) (before
       (acts_no_lines clients begun_before op n front acts, line_now) refl
 
   -- the moment after it
-  tree_now : tree_after t (tree_steps part) ≡ p.tree
-  tree_now = ap (tree_after t) (tree_steps-append front (Own op (Ended a) ∷ []) ∙ append-nil (tree_steps front)) ∙ comes.tree
+  tree_now : (h : List Event) → tree_after t (steps_after h part) ≡ p.tree
+  tree_now h =
+      let g : List Event = h ++ Own op (Began c) ∷ [] in
+      ap (tree_after t) (steps_after-append g front (Own op (Ended a) ∷ []) ∙ append-nil (steps_after g front)) ∙ comes.tree g
 
   last : WorldState Program
   last = after_all programs mid front
@@ -178,7 +180,7 @@ module _ (clients : List (List ℕ)) (m : WorldState Program) (t : Tree) (before
 
   rests_after : Between (after_all programs m part) p.tree (before ++ part) p.serial (number + 1)
   rests_after = record {
-    tracks = subst (λ (u : Tree). Tracks (after_all programs m part) u) tree_now (run_tracked m t part rests.tracks run).0;
+    tracks = subst (λ (u : Tree). Tracks (after_all programs m part) u) (tree_now (rests.tracks).history) (run_tracked m t part rests.tracks run).0;
     quiet = quiet_run m t before part rests.tracks rests.quiet run;
     memory = memory_after;
     count = count_after;

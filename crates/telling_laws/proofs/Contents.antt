@@ -24,7 +24,7 @@ use Rattle.store_pasts.specs.Contents.{row_in}
 use Rattle.store_pasts.specs.Pasts.{row_at}
 use Rattle.world_runs.specs.declared.event.Event.{Event}
 use Rattle.claim_words.specs.Commands.{or_later, maker_by, maker_of, said_by, said_in, bytes_by, content_of, content_in}
-use Rattle.telling_laws.specs.View.{Made, view, AllLong, attaches, shown_row, shown_file}
+use Rattle.telling_laws.specs.View.{Made, view, AllLong, AllKnown, attaches, shown_row, shown_file}
 use Rattle.telling_laws.specs.MapValues.{map_values}
 use Rattle.telling_laws.proofs.ValuesSeen.{get-map_values}
 
@@ -76,9 +76,6 @@ known_stays h e b some = some_stays h e b (content_of h b) refl some
 
 -- ---- the rows of files
 
--- the content of each row's block is known by that history
-abbrev pub AllKnown : List Event → Store → Type 0
-AllKnown h s = (f : FileId) (i : ℕ) (r : FileRow) → row_at s f i ≡ Some r → is_some (content_of h r.blk) ≡ true
 
 -- a row of a list with one more at its end
 last_row : (rs : List FileRow) (x : FileRow) (i : ℕ) (r : FileRow) → slice_get (rs ++ x ∷ []) i ≡ Some r

@@ -27,8 +27,9 @@ use Rattle.world_runs.specs.declared.event.Event.TheVariants.{Own}
 use Rattle.world_runs.specs.declared.event.Happening.TheVariants.{Began, Acted}
 use Rattle.claim_words.specs.Opened.{opens_of, opened_in}
 use Rattle.claim_words.specs.TreeSteps.{tree_steps}
+use Rattle.claim_words.specs.Commands.{command_of}
 use Rattle.claim_words.specs.Points.{of_op}
-use Rattle.telling_laws.specs.Telling.{is_of, IsFresh, Telling, OfDecided, Tells, TellingLaws}
+use Rattle.telling_laws.specs.Telling.{is_of, IsSeen, Telling, OfDecided, Tells, TellingLaws}
 use Rattle.telling_laws.specs.Parts.{NextTells, NextBefore, next_telling, PartTells, release_telling}
 use Rattle.telling_laws.proofs.Steps.{reply_at, act_at, Allows}
 
@@ -39,7 +40,7 @@ pub record TellsAt {S : Type 0} (counts : Counts) (d : Doing S Answer) (D : Deci
     (Before : List Event → OpId → Command → Type 0) : Type 0 where
   pub turns : (h : List Event) (op : OpId) (c : Command) (m : Memory) → Before h op c → now ≡ None
       → NextTells D T h op c (d.turns counts m op).state
-  pub hears : (h : List Event) (op : OpId) (c : Command) (m : Memory) (how : Heard) → IsFresh h (d.asks counts m op)
+  pub hears : (h : List Event) (op : OpId) (c : Command) (m : Memory) (how : Heard) → IsSeen h (d.asks counts m op)
       → Before h op c → now ≡ None → Allows h (act_at h op (d.asks counts m op) how)
       → NextTells D T (h ++ act_at h op (d.asks counts m op) how ∷ []) op c
       (d.hears counts m op (d.asks counts m op) (reply_at h (d.asks counts m op)))
@@ -95,7 +96,7 @@ module _ {S : Type 0} {counts : Counts} {P : Part S Answer} {D : Deciding S Answ
 pub record WaitsAt {S : Type 0} (counts : Counts) (P : Part S Answer) (D : Deciding S Answer) (T : Telling S) (s : S) : Type 0 where
   pub looks : (m : Memory) (op : OpId) → P.turns counts m op s ≡ record { memory = m; state = Goes s }
   pub undecided : D.decided s ≡ None
-  pub hears : (h : List Event) (op : OpId) (c : Command) (m : Memory) (how : Heard) → IsFresh h (P.asks counts m op s)
+  pub hears : (h : List Event) (op : OpId) (c : Command) (m : Memory) (how : Heard) → IsSeen h (P.asks counts m op s)
       → T.Before h op c s → Allows h (act_at h op (P.asks counts m op s) how)
       → NextTells D T (h ++ act_at h op (P.asks counts m op s) how ∷ []) op c
       (P.hears counts m op s (P.asks counts m op s) (reply_at h (P.asks counts m op s)))
@@ -207,11 +208,11 @@ module _ {S : Type 0} {counts : Counts} {P : Part S Answer} {D : Deciding S Answ
   next_turns h op c m (Comes r) before none = absurd (let k : Some r ≡ None = none in cc)
 
   next_hears_told : (h : List Event) (op : OpId) (c : Command) (m : Memory) (n : Next S Answer) (q : AnyReq)
-      (x : AnyReply) (how : Heard) → IsFresh h q → next_asks P counts m op n ≡ Asks q → x ≡ reply_at h q → NextBefore T h op c n
+      (x : AnyReply) (how : Heard) → IsSeen h q → next_asks P counts m op n ≡ Asks q → x ≡ reply_at h q → NextBefore T h op c n
       → next_decided D n ≡ None → Allows h (Own op (Acted q x how))
       → Tells (next_deciding D) (next_telling T) (h ++ Own op (Acted q x how) ∷ []) op c (next_hears P counts m op n q x)
   next_hears_told h op c m (Goes s) q x how fresh asks is before none run =
-      next_tells (h ++ Own op (Acted q x how) ∷ []) op c (P.hears counts m op s q x) (subst (λ (r : AnyReq). IsFresh h r → x ≡ reply_at h r
+      next_tells (h ++ Own op (Acted q x how) ∷ []) op c (P.hears counts m op s q x) (subst (λ (r : AnyReq). IsSeen h r → x ≡ reply_at h r
       → Allows h (Own op (Acted r x how)) → NextTells D T (h ++ Own op (Acted r x how) ∷ []) op c (P.hears counts m op s r x))
       (same_ask (P.asks counts m op s) q (ap (λ (d : Does Answer). asked_by d) asks))
       (λ fresh is run. L.hears h op c m s x how fresh is before none run) fresh is run)
@@ -267,12 +268,12 @@ module _ {S : Type 0} {counts : Counts} {P : Part S Answer} {D : Deciding S Answ
     programs = record { kind = kind_of P; serves = serves; starts = starts }
 
     pub part_telling_laws : ((h : List Event) (op : OpId) (c : Command) (m : Memory) → serves c ≡ true
-        → of_op op (tree_steps h) ≡ [] → m.opened ≡ opened_in h op.actor
+        → command_of h op ≡ None → of_op op (tree_steps h) ≡ [] → m.opened ≡ opened_in h op.actor
         → NextTells D T (h ++ Own op (Began c) ∷ []) op c (starts counts m c))
         → TellingLaws counts programs (next_deciding D) (next_telling T)
     part_telling_laws begins = record {
-      begins = λ h op c m served none opened. next_tells (h ++ Own op (Began c) ∷ []) op c (starts counts m c)
-          (begins h op c m served none opened);
+      begins = λ h op c m served unbegun none opened. next_tells (h ++ Own op (Began c) ∷ []) op c (starts counts m c)
+          (begins h op c m served unbegun none opened);
       turns = next_turns;
       hears = λ h op c m n q x how fresh asks is before none run.
           let t : Turned (Next S Answer) = turned (kind_of P) counts m op n in

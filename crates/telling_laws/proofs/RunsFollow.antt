@@ -25,12 +25,12 @@ use Rattle.whole_runs.proofs.Owns.{counts_stay}
 use Rattle.whole_runs.proofs.Standings.{Asking, asks_of}
 use Rattle.claim_words.specs.Commands.{content_of, content_in}
 use Rattle.claim_words.specs.TreeSteps.{Told, told_as, told_of, tree_steps, tree_step, says, tree_after, IsTreeRun}
-use Rattle.telling_laws.specs.View.{Shows, AllMade, AllLong, MakesNew, attaches, TreeFollows, StepShows}
+use Rattle.telling_laws.specs.View.{Shows, AllMade, AllLong, AllKnown, MakesNew, attaches, TreeFollows, StepShows}
 use Rattle.telling_laws.specs.Telling.{tree_of, IsFresh, RunsAskFresh, RunsFollowTree}
 use Rattle.telling_laws.specs.Following.{RunsShowTree}
 use Rattle.telling_laws.proofs.RequestsShow.{request_shows}
 use Rattle.telling_laws.proofs.Made.{TreeMade, all_made, next_made, opening_shows, opening_made}
-use Rattle.telling_laws.proofs.Contents.{AllKnown, long_then, known_then, long_more, known_more, view_more}
+use Rattle.telling_laws.proofs.Contents.{long_then, known_then, long_more, known_more, view_more}
 use Rattle.telling_laws.proofs.Histories.{steps_more, tree_after-append, tree_run-append, run_front, run_rest}
 
 -- ---- a request
@@ -130,18 +130,24 @@ idle_follows h e s t none g = record {
   run = rw none tt;
 }
 
+-- so it does a transaction that makes what is new, and attaches what has its content
+pub asked_follows : (h : List Event) (s : Store) (t : Tree) (op : OpId) (q : AnyReq) (x : AnyReply) (how : Heard)
+    → MakesNew (content_in h) t.made q → ((p : RowPart) → attaches q ≡ Some p → is_some (content_of h p.blk) ≡ true) → Shown h s t
+    → x ≡ store_reply s q → Follows h (Own op (Acted q x how)) (store_step s q) t
+asked_follows h s t op q x how new known g is =
+    let c : BlkId → List ℕ = content_in h in
+    let f : Following c t (store_step s q) (told_as op (tree_step c q x) (says x)) =
+    subst (λ (y : AnyReply). Following c t (store_step s q) (told_as op (tree_step c q y) (says y))) (sym is)
+    (request_follows c t s op q g.shows g.made g.long new) in
+    record {
+      shown = shown_then h (Own op (Acted q x how)) s t q (told_as op (tree_step c q x) (says x)) g new known f;
+      run = f.run;
+    }
+
 -- so it does a transaction of what is fresh
 pub fresh_follows : (h : List Event) (s : Store) (op : OpId) (q : AnyReq) (x : AnyReply) (how : Heard) → IsFresh h q → Shown h s (tree_of h)
     → x ≡ store_reply s q → Follows h (Own op (Acted q x how)) (store_step s q) (tree_of h)
-fresh_follows h s op q x how fresh g is =
-    let c : BlkId → List ℕ = content_in h in
-    let f : Following c (tree_of h) (store_step s q) (told_as op (tree_step c q x) (says x)) =
-    subst (λ (y : AnyReply). Following c (tree_of h) (store_step s q) (told_as op (tree_step c q y) (says y))) (sym is)
-    (request_follows c (tree_of h) s op q g.shows g.made g.long fresh.new) in
-    record {
-      shown = shown_then h (Own op (Acted q x how)) s (tree_of h) q (told_as op (tree_step c q x) (says x)) g fresh.new fresh.known f;
-      run = f.run;
-    }
+fresh_follows h s op q x how fresh g is = asked_follows h s (tree_of h) op q x how fresh.new fresh.known g is
 
 module _ {S : Type 0} (P : Programs S) where
   acted_follows : (h : List Event) (m : WorldState S) (op : OpId) (q : AnyReq) (x : AnyReply) (how : Heard) → AskFresh P h m
@@ -205,6 +211,10 @@ module _ {S : Type 0} (P : Programs S) where
 
   pub runs_show_tree : RunsAskFresh P → RunsShowTree P
   runs_show_tree fresh counts es run = ((world_followed fresh counts es run).shown).shows
+
+  -- and what each row's block consists of is told
+  pub rows_known : RunsAskFresh P → (counts : Counts) (es : List Event) → IsWorldRun P counts es → AllKnown es (moment P counts es).store
+  rows_known fresh counts es run = ((world_followed fresh counts es run).shown).known
 
   pub runs_follow_tree : RunsAskFresh P → RunsFollowTree P
   runs_follow_tree fresh counts es run = (world_followed fresh counts es run).run

@@ -34,14 +34,16 @@ use Rattle.whole_runs.proofs.Owns.{counts_stay, store_is_after}
 use Rattle.world_runs.proofs.Refusals.{refused-rest}
 use Rattle.whole_runs.proofs.Refusals.{refused-front}
 use Rattle.whole_runs.proofs.Standings.{runs_at, Asking, asks_of, Saying, says_of, does_say, went_on_number, ended_number, own_grows}
+use Rattle.claim_words.specs.Commands.{content_in}
 use Rattle.claim_words.specs.Opened.{opens_of, learnt_by, opened_in}
 use Rattle.claim_words.specs.TreeSteps.{told_of, tree_steps, IsTreeRun}
 use Rattle.claim_words.specs.Points.{of_op}
 use Rattle.claim_words.specs.Headline.{begun_by, or_later, command_of, ExplainsBy, HadNoRoom}
-use Rattle.telling_laws.specs.Telling.{is_of, tree_of, IsFresh, RunsAskFresh, RunsFollowTree, Telling, OfDecided, Tells, TellingLaws}
+use Rattle.telling_laws.specs.Telling.{is_of, tree_of, IsSeen, RunsAskFresh, RunsFollowTree, Telling, OfDecided, Tells, TellingLaws}
 use Rattle.telling_laws.specs.Telling.{RunsAreExplained, RunsRemember}
+use Rattle.telling_laws.specs.View.{Shows, AllKnown}
 use Rattle.telling_laws.proofs.Histories.{steps_more, opened_more, tree_run-rest, others_steps, others_begin, command_more, itself, run_front, run_rest}
-use Rattle.telling_laws.proofs.RunsFollow.{AskFresh, asks_fresh}
+use Rattle.telling_laws.proofs.RunsFollow.{AskFresh, asks_fresh, runs_show_tree, rows_known}
 
 module _ (S : Type 0) (counts : Counts) (P : Programs S) (D : Deciding S Answer) (T : Telling S) (L : TellingLaws counts P D T) where
   -- ---- one command
@@ -64,7 +66,7 @@ module _ (S : Type 0) (counts : Counts) (P : Programs S) (D : Deciding S Answer)
 
   -- after a reply
   heard_tells : (h : List Event) (op : OpId) (c : Command) (m : Memory) (s : S) (q : AnyReq) (x : AnyReply) (how : Heard)
-      → IsFresh h q → next_does P.kind counts m op s ≡ Asks q → x ≡ store_reply (stored_after opening_store h) q
+      → IsSeen h q → next_does P.kind counts m op s ≡ Asks q → x ≡ store_reply (stored_after opening_store h) q
       → IsTreeRun (tree_of h) (told_of h (Own op (Acted q x how))) → Tells D T h op c s
       → Tells D T (h ++ Own op (Acted q x how) ∷ []) op c (state_heard P.kind counts m op s q x)
   heard_tells h op c m s q x how fresh asks is allowed t =
@@ -127,7 +129,8 @@ module _ (S : Type 0) (counts : Counts) (P : Programs S) (D : Deciding S Answer)
   world_of actors store = record { counts = counts; actors = actors; store = store }
 
   module _ (h : List Event) (actors : ℕ → Actor S) (store : Store) (t : AllTold h (world_of actors store))
-      (fresh : AskFresh P h (world_of actors store)) (stored : store ≡ stored_after opening_store h) (op : OpId) where
+      (fresh : AskFresh P h (world_of actors store)) (shows : Shows store (content_in h) (tree_of h))
+      (known : AllKnown h store) (stored : store ≡ stored_after opening_store h) (op : OpId) where
     -- the moment
     abbrev m : WorldState S
     m = world_of actors store
@@ -159,7 +162,7 @@ module _ (S : Type 0) (counts : Counts) (P : Programs S) (D : Deciding S Answer)
     begun_tells c can served = (
       c,
       command_more h (Own op (Began c)) op ∙ rw (t.unbegun op (omega (arith, can.next)), itself op) refl,
-      L.begins h op c s.memory served (t.unasked op (omega (arith, can.next))) (t.opened op.actor),
+      L.begins h op c s.memory served (t.unbegun op (omega (arith, can.next))) (t.unasked op (omega (arith, can.next))) (t.opened op.actor),
     )
 
     acted_tells : (q : AnyReq) (x : AnyReply) (how : Heard) (state : S) → s.running ≡ Some record { op = op; at = Goes state }
@@ -174,12 +177,18 @@ module _ (S : Type 0) (counts : Counts) (P : Programs S) (D : Deciding S Answer)
         here : x ≡ store_reply (stored_after opening_store h) q
         here = reply ∙ ap (λ (w : Store). store_reply w q) stored
 
+        shown_here : Shows (stored_after opening_store h) (content_in h) (tree_of h)
+        shown_here = subst (λ (w : Store). Shows w (content_in h) (tree_of h)) stored shows
+
+        known_here : AllKnown h (stored_after opening_store h)
+        known_here = subst (λ (w : Store). AllKnown h w) stored known
+
         goes : (g : Heard) → IsTreeRun (tree_of h) (told_of h (Own op (Acted q x g)))
             → StandTells (h ++ Own op (Acted q x g) ∷ []) op (Goes (state_heard P.kind m.counts s.memory op state q x))
         goes g run = (
           was.0,
           command_more h (Own op (Acted q x g)) op ∙ ap (λ (z : Option Command). or_later z None) was.1,
-          heard_tells h op was.0 s.memory state q x g (fresh op.actor op state q is asks) asks here run was.2,
+          heard_tells h op was.0 s.memory state q x g record { fresh = fresh op.actor op state q is asks; shows = shown_here; known = known_here } asks here run was.2,
         )
 
         by : (g : Heard) → IsTreeRun (tree_of h) (told_of h (Own op (Acted q x g)))
@@ -301,14 +310,14 @@ module _ (S : Type 0) (counts : Counts) (P : Programs S) (D : Deciding S Answer)
   }
 
   abbrev EventTold : List Event → WorldState S → Event → Type 0
-  EventTold h m e = AllTold h m → AskFresh P h m → m.store ≡ stored_after opening_store h → May P m e → IsTreeRun (tree_of h) (told_of h e)
+  EventTold h m e = AllTold h m → AskFresh P h m → Shows m.store (content_in h) (tree_of h) → AllKnown h m.store → m.store ≡ stored_after opening_store h → May P m e → IsTreeRun (tree_of h) (told_of h e)
       → AllTold (h ++ e ∷ []) (after P m e)
 
   event_told : (h : List Event) (m : WorldState S) (e : Event) → m.counts ≡ counts → EventTold h m e
   event_told h m (Own op hp) many =
       subst (λ (c : Counts). EventTold h record { counts = c; actors = m.actors; store = m.store } (Own op hp)) (sym many)
-      (λ t fresh stored may allowed. own_told h m.actors m.store t fresh stored op hp may allowed)
-  event_told h m Dumped many = λ t fresh stored may allowed. dump_told h m t
+      (λ t fresh shows known stored may allowed. own_told h m.actors m.store t fresh shows known stored op hp may allowed)
+  event_told h m Dumped many = λ t fresh shows known stored may allowed. dump_told h m t
 
   opening_told : AllTold [] (opening counts)
   opening_told = record { tells = λ a. tt; unbegun = λ op late. refl; unasked = λ op late. refl; opened = λ a. refl }
@@ -342,7 +351,8 @@ module _ (S : Type 0) (counts : Counts) (P : Programs S) (D : Deciding S Answer)
         let now : moment P counts (h ++ e ∷ []) ≡ after P (moment P counts h) e = moment-append P counts h (e ∷ []) in
         let next : AllTold (h ++ e ∷ []) (moment P counts (h ++ e ∷ [])) =
         subst (λ (n : WorldState S). AllTold (h ++ e ∷ []) n) (sym now)
-        (event_told h (moment P counts h) e (counts_stay P (opening counts) h) t (asks_fresh P freshly counts h front) (store_is_after P (opening counts) h) may
+        (event_told h (moment P counts h) e (counts_stay P (opening counts) h) t (asks_fresh P freshly counts h front)
+        (runs_show_tree P freshly counts h front) (rows_known P freshly counts h front) (store_is_after P (opening counts) h) may
         (tree_run-rest opening_tree (tree_steps h) (told_of h e) steps)) in
         subst (λ (l : List Event). AllTold l (moment P counts l)) (append_assoc h (e ∷ []) es) (run_told (h ++ e ∷ []) es whole next)
 

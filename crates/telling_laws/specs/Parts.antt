@@ -26,7 +26,7 @@ use Rattle.world_runs.specs.OwnRuns.{stored_after}
 use Rattle.claim_words.specs.Opened.{opens_of}
 use Rattle.claim_words.specs.Points.{way, of_op, Walked, Point}
 use Rattle.claim_words.specs.TreeSteps.{told_of, tree_steps, IsTreeRun}
-use Rattle.telling_laws.specs.Telling.{is_of, tree_of, IsFresh, Telling, Tells}
+use Rattle.telling_laws.specs.Telling.{is_of, tree_of, IsSeen, Telling, Tells}
 
 -- what the history tells where the part goes on, or explains what it has come to
 abbrev pub NextTells : {S : Type 0} → Deciding S Answer → Telling S → List Event → OpId → Command → Next S Answer → Type 0
@@ -45,7 +45,7 @@ pub record PartTells {S : Type 0} (counts : Counts) (P : Part S Answer) (D : Dec
   pub turns : (h : List Event) (op : OpId) (c : Command) (m : Memory) (s : S) → T.Before h op c s → D.decided s ≡ None
       → NextTells D T h op c (P.turns counts m op s).state
   pub hears : (h : List Event) (op : OpId) (c : Command) (m : Memory) (s : S) (x : AnyReply) (how : Heard)
-      → IsFresh h (P.asks counts m op s) → x ≡ store_reply (stored_after opening_store h) (P.asks counts m op s)
+      → IsSeen h (P.asks counts m op s) → x ≡ store_reply (stored_after opening_store h) (P.asks counts m op s)
       → T.Before h op c s → D.decided s ≡ None → IsTreeRun (tree_of h) (told_of h (Own op (Acted (P.asks counts m op s) x how)))
       → NextTells D T (h ++ Own op (Acted (P.asks counts m op s) x how) ∷ []) op c (P.hears counts m op s (P.asks counts m op s) x)
   pub stays : (h : List Event) (e : Event) (op : OpId) (c : Command) (s : S) → is_of op e ≡ false → T.Before h op c s

@@ -1,6 +1,7 @@
 -- What is owed of programs so that each of their answers is explained by the history before it, and that it is so in all their runs.
 use Rattle.std.specs.Prelude.{◌≡◌, ℕ, Bool, true, false, Option, Some, None, is_some, List, [], ◌∷◌, ◌++◌}
 use Rattle.std.specs.FinMap.{get}
+use Rattle.tect_ids.specs.declared.ids.BlkId.{BlkId}
 use Rattle.tect_ids.specs.declared.ids.Counts.{Counts}
 use Rattle.tect_ids.specs.declared.ids.OpId.{OpId}
 use Rattle.tect_ids.specs.declared.key.ChunkKey.{ChunkKey}
@@ -24,12 +25,12 @@ use Rattle.world_runs.specs.declared.event.Event.TheVariants.{Own, Dumped}
 use Rattle.world_runs.specs.declared.event.Happening.TheVariants.{Began, Acted}
 use Rattle.world_runs.specs.Moments.{IsWorldRun, moment}
 use Rattle.world_runs.specs.OwnRuns.{stored_after}
-use Rattle.claim_words.specs.Commands.{content_of, content_in}
+use Rattle.claim_words.specs.Commands.{makes_block, maker_of, content_of, content_in}
 use Rattle.claim_words.specs.Opened.{opens_of, opened_in}
 use Rattle.claim_words.specs.TreeSteps.{told_of, tree_steps, tree_after, IsTreeRun}
 use Rattle.claim_words.specs.Points.{of_op}
-use Rattle.claim_words.specs.Headline.{HeadlineBy}
-use Rattle.telling_laws.specs.View.{MakesNew, attaches}
+use Rattle.claim_words.specs.Headline.{HeadlineBy, command_of}
+use Rattle.telling_laws.specs.View.{Shows, AllKnown, MakesNew, attaches}
 
 -- the event is of that op
 abbrev pub is_of : OpId → Event → Bool
@@ -41,12 +42,20 @@ abbrev pub tree_of : List Event → Tree
 tree_of h = tree_after opening_tree (tree_steps h)
 
 -- What is asked after that history is fresh: the tree has not made what it is to make, and the store says that it is made; what it attaches
--- has its content, and so has each chunk that stands.
+-- has its content, and so has each chunk that stands; and a block that it makes, no op has made.
 pub record IsFresh (h : List Event) (q : AnyReq) : Type 0 where
   pub new : MakesNew (content_in h) (tree_of h).made q
   pub made : makes q ≡ true → is_made (store_reply (stored_after opening_store h) q) ≡ true
   pub known : (p : RowPart) → attaches q ≡ Some p → is_some (content_of h p.blk) ≡ true
   pub chunks : (c : ChunkKey) (bytes : List ℕ) → get (stored_after opening_store h).chunks c ≡ Some bytes → content_of h c.blk ≡ Some bytes
+  pub unmade : (b : BlkId) → makes_block q b ≡ true → maker_of h b ≡ None
+
+-- What is asked after that history is fresh, and the store shows the tree then, the content of each row's block known: what the store
+-- replies, the tree says.
+pub record IsSeen (h : List Event) (q : AnyReq) : Type 0 where
+  pub fresh : IsFresh h q
+  pub shows : Shows (stored_after opening_store h) (content_in h) (tree_of h)
+  pub known : AllKnown h (stored_after opening_store h)
 
 -- at each moment of each run, what a running command asks next is fresh
 abbrev pub RunsAskFresh : {S : Type 0} → Programs S → Type 0
@@ -74,15 +83,15 @@ Tells D T h op c s = OfDecided (T.Before h op c s) (T.because h op c) (D.decided
 
 -- What is owed of programs, in a world of so many shards.
 pub record TellingLaws {S : Type 0} (counts : Counts) (P : Programs S) (D : Deciding S Answer) (T : Telling S) : Type 0 where
-  -- as a served command begins, no step of its op has been, and its actor knows which files it opened
-  pub begins : (h : List Event) (op : OpId) (c : Command) (m : Memory) → P.serves c ≡ true → of_op op (tree_steps h) ≡ []
-      → m.opened ≡ opened_in h op.actor → Tells D T (h ++ Own op (Began c) ∷ []) op c (P.starts counts m c)
+  -- as a served command begins, its op has begun no other and taken no step, and its actor knows which files it opened
+  pub begins : (h : List Event) (op : OpId) (c : Command) (m : Memory) → P.serves c ≡ true → command_of h op ≡ None
+      → of_op op (tree_steps h) ≡ [] → m.opened ≡ opened_in h op.actor → Tells D T (h ++ Own op (Began c) ∷ []) op c (P.starts counts m c)
   -- by its look-ups in its actor's memory it goes on, or finds its answer
   pub turns : (h : List Event) (op : OpId) (c : Command) (m : Memory) (s : S) → T.Before h op c s → D.decided s ≡ None
       → Tells D T h op c (turned P.kind counts m op s).state
   -- at the store's reply to its request, which the tree allows, if it is a step
   pub hears : (h : List Event) (op : OpId) (c : Command) (m : Memory) (s : S) (q : AnyReq) (x : AnyReply) (how : Heard)
-      → IsFresh h q → next_does P.kind counts m op s ≡ Asks q → x ≡ store_reply (stored_after opening_store h) q
+      → IsSeen h q → next_does P.kind counts m op s ≡ Asks q → x ≡ store_reply (stored_after opening_store h) q
       → T.Before h op c (turned P.kind counts m op s).state → D.decided (turned P.kind counts m op s).state ≡ None
       → IsTreeRun (tree_of h) (told_of h (Own op (Acted q x how)))
       → Tells D T (h ++ Own op (Acted q x how) ∷ []) op c (state_heard P.kind counts m op s q x)

@@ -25,6 +25,8 @@ use Rattle.tree_model.specs.declared.step.TreeFile.{TreeFile}
 use Rattle.tree_model.specs.declared.step.TreeStep.{TreeStep}
 use Rattle.tree_model.specs.declared.step.TreeReply.{TreeReply}
 use Rattle.tree_model.specs.Tree.{Tree, Allowed, tree_next}
+use Rattle.world_runs.specs.declared.event.Event.{Event}
+use Rattle.claim_words.specs.Commands.{content_of}
 use Rattle.claim_words.specs.TreeSteps.{tree_step, says}
 use Rattle.telling_laws.specs.MapValues.{map_values}
 
@@ -73,6 +75,10 @@ AllMade s made = (n : Node) → stands s n ≡ true → is_some (get made n) ≡
 -- each row of a file is as long as its block's content
 abbrev pub AllLong : Store → (BlkId → List ℕ) → Type 0
 AllLong s content = (f : FileId) (i : ℕ) (r : FileRow) → row_at s f i ≡ Some r → length (content r.blk) ≡ r.len
+
+-- the content of each row's block is told by that history
+abbrev pub AllKnown : List Event → Store → Type 0
+AllKnown h s = (f : FileId) (i : ℕ) (r : FileRow) → row_at s f i ≡ Some r → is_some (content_of h r.blk) ≡ true
 
 -- the block that a request attaches, and as how long
 abbrev pub file_attaches : FileReq → Option RowPart

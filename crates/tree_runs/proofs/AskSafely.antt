@@ -1,33 +1,33 @@
 -- what is asked safely is fresh
-use Rattle.std.proofs.Common.{◌≡◌, ℕ, true, Some, List, sym, subst, arith}
+use Rattle.std.proofs.Common.{◌≡◌, ℕ, true, false, is_some, length, Some, None, List, refl, sym, subst, ◌∙◌, arith}
+use Rattle.std.specs.FinMap.{get}
 use Rattle.key_words.proofs.Lookups.{maps}
-use Rattle.tect_ids.specs.declared.ids.Counts.{Counts}
-use Rattle.tect_ids.specs.declared.ids.OpId.{OpId}
-use Rattle.tect_ids.specs.declared.answer.Answer.{Answer}
+use Rattle.tect_ids.specs.declared.ids.BlkId.{BlkId}
+use Rattle.tect_ids.specs.declared.values.RowPart.{RowPart}
+use Rattle.tect_ids.proofs.KeyTests.{keys, block_keys}
+use Rattle.store_rules.specs.declared.blocks.BlockReq.TheVariants as blocks
+use Rattle.store_rules.specs.declared.files.FileReq.TheVariants as files
 use Rattle.store_rules.specs.declared.any.AnyReq.{AnyReq}
+use Rattle.store_rules.specs.declared.any.AnyReq.TheVariants as any
 use Rattle.store_rules.specs.Store.{Store, store_reply}
 use Rattle.store_rules.specs.Views.{is_made}
-use Rattle.store_pasts.specs.Worlds.{Ghost, World, next, opening_ghost}
+use Rattle.store_pasts.specs.Contents.{sealed_length}
+use Rattle.store_pasts.specs.Pasts.{content}
+use Rattle.store_pasts.specs.Worlds.{World, next, opening_ghost}
 use Rattle.store_pasts.specs.Requests.{Needs}
+use Rattle.store_world.specs.Acknowledged.{IsWholeBlock}
 use Rattle.store_world.specs.Kept.{Kept}
+use Rattle.store_world.specs.Sound.{Sound}
+use Rattle.store_world.proofs.Acknowledged.{sealed_is_whole}
 use Rattle.store_world.proofs.Rows.{row_kept, role_laws}
 use Rattle.tree_model.specs.Tree.{opening_tree}
-use Rattle.program_forms.specs.declared.standing.Standing.TheVariants.{Goes}
-use Rattle.program_forms.specs.Kinds.{Programs, Asks, next_does}
+use Rattle.program_forms.specs.Kinds.{Programs}
 use Rattle.world_runs.specs.declared.event.Event.{Event}
-use Rattle.world_runs.specs.Moments.{WorldState, opening, IsWorldRun, moment}
-use Rattle.whole_runs.proofs.Owns.{counts_stay, store_is_after}
-use Rattle.program_laws.specs.Known.{Deciding, Known}
-use Rattle.program_laws.specs.Laws.{ProgramLaws}
-use Rattle.run_laws.specs.Pasts.{ghosts, world_of}
-use Rattle.run_laws.specs.Known.{AllSound}
-use Rattle.run_laws.proofs.Turns.{IsAsked}
-use Rattle.run_laws.proofs.MomentsKeep.{meets}
-use Rattle.run_laws.proofs.RunsKeep.{what_is_known_is_so, knows_of}
-use Rattle.telling_laws.specs.View.{Made, MakesNew}
+use Rattle.claim_words.specs.Commands.{makes_block, content_of, content_in}
+use Rattle.telling_laws.specs.View.{Made, MakesNew, attaches}
 use Rattle.telling_laws.specs.Telling.{tree_of, IsFresh, RunsAskFresh}
 use Rattle.tree_runs.specs.Safe.{IsSafe, RunsAskSafely}
-use Rattle.tree_runs.proofs.Pasts.{WithinPast, run_within}
+use Rattle.tree_runs.proofs.Pasts.{WithinPast}
 
 pub opening_within : WithinPast opening_ghost opening_tree.made
 opening_within n un = grind (arith, maps)
@@ -68,6 +68,18 @@ module _ (h : List Event) (w : World) (sound : Sound w) (contents : (b : BlkId) 
   pub needs_known : (q : AnyReq) → Needs w q → (p : RowPart) → attaches q ≡ Some p → is_some (content_of h p.blk) ≡ true
   needs_known q needs p is = (attached_known q needs p is).0
 
+-- a block that a request makes was not made before
+makes_unborn : (w : World) (q : AnyReq) → Needs w q → (b : BlkId) → makes_block q b ≡ true → w.ghost.born b ≡ None
+makes_unborn w (any.Block (blocks.MakeBlock k c n f h rs)) needs b is =
+    let same : b ≡ k = grind (arith, keys, block_keys, is) in rw same needs.unborn
+makes_unborn w (any.Block (blocks.SealBlock k)) needs b is = absurd (let z : false ≡ true = is in cc)
+makes_unborn w (any.Block (blocks.GetBlock k)) needs b is = absurd (let z : false ≡ true = is in cc)
+makes_unborn w (any.Block (blocks.Grant k h f)) needs b is = absurd (let z : false ≡ true = is in cc)
+makes_unborn w (any.Block (blocks.Release k h)) needs b is = absurd (let z : false ≡ true = is in cc)
+makes_unborn w (any.Name q) needs b is = absurd (let z : false ≡ true = is in cc)
+makes_unborn w (any.File q) needs b is = absurd (let z : false ≡ true = is in cc)
+makes_unborn w (any.Disk q) needs b is = absurd (let z : false ≡ true = is in cc)
+
 safe_is_fresh : (h : List Event) (q : AnyReq) → IsSafe h q → IsFresh h q
 safe_is_fresh h q safe =
     let kept : Kept safe.world (next safe.world q) q = row_kept safe.world safe.sound q safe.needs in
@@ -78,6 +90,7 @@ safe_is_fresh h q safe =
       known = needs_known h safe.world safe.sound safe.contents q safe.needs;
       chunks = λ c bytes is. sym (safe.contents c.blk)
           ∙ ((safe.sound).chunks).content c bytes (subst (λ (s : Store). get s.chunks c ≡ Some bytes) (sym safe.store) is);
+      unmade = λ b is. safe.unmade b (makes_unborn safe.world q safe.needs b is);
     }
 
 pub runs_ask_fresh : {S : Type 0} (P : Programs S) → RunsAskSafely P → RunsAskFresh P

@@ -14,7 +14,8 @@ use Rattle.names_laws.proofs.Laws.{names_program_laws}
 use Rattle.names_told.specs.NamesTelling.{names_telling}
 use Rattle.names_told.proofs.NamesTell.{names_tell_so}
 use Rattle.tree_runs.specs.Safe.{RunsAskSafely}
-use Rattle.tree_runs.proofs.AskSafely.{runs_ask_safely, runs_ask_fresh}
+use Rattle.tree_runs.proofs.AskSafely.{runs_ask_fresh}
+use Rattle.tree_runs.proofs.Tracks.{runs_ask_safely}
 
 pub safely : RunsAskSafely programs
 safely = runs_ask_safely programs names_deciding names_known names_program_laws
@@ -28,8 +29,8 @@ shown_so = runs_show_tree programs freshly
 pub followed_so : RunsFollowTree programs
 followed_so = runs_follow_tree programs freshly
 
-pub run_headline : (counts : Counts) (events : List Event) → IsWorldRun programs counts events → Headline events
-run_headline counts events run = explained counts events run
+pub run_headline : (counts : Counts) (events : List Event) → IsWorldRun programs counts events → Headline counts events
+run_headline counts events run = explained events run
   where
-    explained : RunsAreExplained programs names_telling
-    explained = runs_are_explained Program programs names_deciding names_telling names_tell_so freshly followed_so
+    explained : RunsAreExplained counts programs (names_telling counts)
+    explained = runs_are_explained Program counts programs names_deciding (names_telling counts) (names_tell_so counts) freshly followed_so

@@ -1,32 +1,42 @@
 -- at each moment of a run the tree follows, and a past of the store is sound that made no less
-use Rattle.std.proofs.Common.{List, [], ◌∷◌, sym, subst}
+use Rattle.std.proofs.Common.{◌≡◌, ℕ, Some, List, [], ◌∷◌, ◌++◌, refl, sym, ap, subst, append_assoc}
+use Rattle.std.proofs.lemmas.List.{append-nil}
+use Rattle.tect_ids.specs.declared.ids.BlkId.{BlkId}
 use Rattle.tect_ids.specs.declared.ids.Counts.{Counts}
 use Rattle.tect_ids.specs.declared.ids.OpId.{OpId}
 use Rattle.tect_ids.specs.declared.answer.Answer.{Answer}
 use Rattle.store_rules.specs.declared.any.AnyReq.{AnyReq}
 use Rattle.store_rules.specs.declared.any.AnyReply.{AnyReply}
 use Rattle.store_rules.specs.Store.{store_step}
-use Rattle.store_pasts.specs.Worlds.{Ghost, opening_ghost}
+use Rattle.store_pasts.specs.Pasts.{content}
+use Rattle.store_pasts.specs.Requests.{Needs}
+use Rattle.store_pasts.specs.Worlds.{Ghost, World, opening_ghost}
 use Rattle.tree_model.specs.Tree.{Tree, opening_tree}
 use Rattle.program_forms.specs.declared.heard.Heard.{Heard}
-use Rattle.program_forms.specs.Kinds.{Programs}
+use Rattle.program_forms.specs.declared.standing.Standing.TheVariants.{Goes}
+use Rattle.program_forms.specs.Kinds.{Asks, Programs, next_does}
 use Rattle.world_runs.specs.declared.event.Event.{Event}
 use Rattle.world_runs.specs.declared.event.Event.TheVariants.{Own, Dumped}
 use Rattle.world_runs.specs.declared.event.Happening.TheVariants.{Began, NotBegun, Acted, Ended, Stopped, Failed}
-use Rattle.world_runs.specs.Moments.{WorldState, May, RunFrom, opening, after, after_all}
-use Rattle.claim_words.specs.TreeSteps.{told_as, told_of, tree_steps, tree_step, says, tree_after, IsTreeRun}
+use Rattle.world_runs.specs.Moments.{WorldState, May, RunFrom, opening, after, after_all, IsWorldRun, moment}
+use Rattle.whole_runs.proofs.Owns.{counts_stay, store_is_after}
+use Rattle.claim_words.specs.Commands.{content_of, content_in}
+use Rattle.claim_words.specs.TreeSteps.{told_of, steps_after, tree_after, IsTreeRun}
 use Rattle.program_laws.specs.Known.{Deciding, Known}
 use Rattle.program_laws.specs.Laws.{ProgramLaws}
 use Rattle.run_laws.specs.Pasts.{world_of, ghost_after}
 use Rattle.run_laws.specs.Known.{AllSound}
 use Rattle.run_laws.proofs.Turns.{IsAsked, asked_by_op}
 use Rattle.run_laws.proofs.MomentsKeep.{meets, event_sound, opening_all_sound}
-use Rattle.telling_laws.specs.View.{Shows, MakesNew}
-use Rattle.telling_laws.proofs.Made.{TreeMade, opening_shows, opening_made}
+use Rattle.run_laws.proofs.RunsKeep.{knows_of}
+use Rattle.telling_laws.specs.Telling.{tree_of}
+use Rattle.telling_laws.specs.View.{MakesNew}
 use Rattle.telling_laws.proofs.Histories.{tree_after-append, tree_run-append}
-use Rattle.telling_laws.proofs.RunsFollow.{Following, request_follows}
+use Rattle.telling_laws.proofs.RunsFollow.{Shown, Follows, opening_shown, idle_follows, asked_follows}
+use Rattle.tree_runs.specs.Safe.{IsSafe, RunsAskSafely}
+use Rattle.tree_runs.proofs.Contents.{PastTold, born_maker, opening_told, told_content, told_idle, told_begun, told_acted}
 use Rattle.tree_runs.proofs.Pasts.{WithinPast, event_within}
-use Rattle.tree_runs.proofs.AskSafely.{opening_within, needs_make_new}
+use Rattle.tree_runs.proofs.AskSafely.{opening_within, needs_make_new, needs_known}
 
 -- so it is of a moment and a tree, after a history
 pub record Tracks {S : Type 0} (N : Known S Answer) (h : List Event) (m : WorldState S) (t : Tree) : Type 0 where
@@ -159,6 +169,7 @@ module _ {S : Type 0} (P : Programs S) (D : Deciding S Answer) (N : Known S Answ
         needs = needed es now (tree_of es) tracked op q s by;
         made = tracked.within;
         contents = contents es now (tree_of es) tracked;
+        unmade = λ b none. sym ((tracked.told).born b) ∙ ap born_maker none;
       }
 
   pub runs_ask_safely : RunsAskSafely P

@@ -16,11 +16,11 @@ use Rattle.program_forms.specs.Kinds.{Asks, Programs, next_does}
 use Rattle.world_runs.specs.declared.event.Event.{Event}
 use Rattle.world_runs.specs.Moments.{IsWorldRun, moment}
 use Rattle.world_runs.specs.OwnRuns.{stored_after}
-use Rattle.claim_words.specs.Commands.{content_of}
+use Rattle.claim_words.specs.Commands.{maker_of, content_of}
 use Rattle.telling_laws.specs.Telling.{tree_of}
 
 -- What is asked after that history is safe: some past of the store knows what the request needs, and the tree has made no more than was
--- made in that past; and blocks consist of what they do by the history.
+-- made in that past; blocks consist of what they do by the history, which tells of no other blocks.
 pub record IsSafe (h : List Event) (q : AnyReq) : Type 0 where
   pub world : World
   pub store : world.store ≡ stored_after opening_store h
@@ -28,6 +28,7 @@ pub record IsSafe (h : List Event) (q : AnyReq) : Type 0 where
   pub needs : Needs world q
   pub made : (n : Node) → was_made world.ghost n ≡ false → get (tree_of h).made n ≡ None
   pub contents : (b : BlkId) → content world.ghost b ≡ content_of h b
+  pub unmade : (b : BlkId) → world.ghost.born b ≡ None → maker_of h b ≡ None
 
 -- at each moment of each run, what a running command asks next is safe
 abbrev pub RunsAskSafely : {S : Type 0} → Programs S → Type 0

@@ -2,10 +2,12 @@
 //! that the tree gives at the command's point. Nothing here is called: each function's contract is a law.
 #![tactic(auto)]
 
-ghost use Rattle.std.specs.Prelude.{List};
+ghost use Rattle.std.specs.Prelude.{ℕ, List};
+ghost use Rattle.claim_words.specs.Commands.{content_in};
 ghost use Rattle.claim_words.specs.Headline.{Headline};
 ghost use Rattle.store_rules.specs.Store.{Store};
 ghost use Rattle.store_rules.specs.declared.any.AnyReq.{AnyReq};
+ghost use Rattle.tect_ids.specs.declared.ids.BlkId.{BlkId};
 ghost use Rattle.tect_ids.specs.declared.ids.Counts.{Counts};
 ghost use Rattle.tect_ids.specs.declared.ids.OpId.{OpId};
 ghost use Rattle.tree_model.specs.Tree.{opening_tree};
@@ -14,13 +16,13 @@ ghost use Rattle.world_runs.specs.declared.event.Event.{Event};
 ghost use Rattle.world_runs.specs.Moments.{IsWorldRun, moment};
 ghost use Rattle.tree_runs.specs.Safe.{RunsAskSafely};
 ghost use Rattle.claim_words.specs.TreeSteps.{tree_steps, tree_after, IsTreeRun};
-ghost use Rattle.telling_laws.specs.View.{Made, Shows, AllMade, MakesNew, StepShows};
+ghost use Rattle.telling_laws.specs.View.{Made, Shows, AllMade, AllLong, MakesNew, StepShows};
 
 /// Each request is no step of the tree, and then what the store shows stays; or it is a step to which the tree allows what
-/// the store replied, and then what the store shows follows the tree.
+/// the store replied, and then what the store shows follows the tree. What blocks consist of is told beside: each row is as long as that.
 pub fn store_shows_a_tree()
-    ensures { (store : Store) (made : Made) (op : OpId) (req : AnyReq) → AllMade store made → MakesNew made req
-        → StepShows store made op req }
+    ensures { (store : Store) (content : BlkId → List ℕ) (made : Made) (op : OpId) (req : AnyReq) → AllMade store made
+        → AllLong store content → MakesNew content made req → StepShows store content made op req }
 {}
 
 /// In every run of the world what each running command asks next is safe: what it needs is so of the store and its past, and what it is to
@@ -33,7 +35,7 @@ pub fn running_commands_ask_safely()
 /// after them.
 pub fn every_run_follows_the_tree()
     ensures shown { (counts : Counts) (events : List Event) → IsWorldRun programs counts events
-        → Shows (moment programs counts events).store (tree_after opening_tree (tree_steps events)) }
+        → Shows (moment programs counts events).store (content_in events) (tree_after opening_tree (tree_steps events)) }
     ensures allowed { (counts : Counts) (events : List Event) → IsWorldRun programs counts events
         → IsTreeRun opening_tree (tree_steps events) }
 {}
@@ -41,5 +43,5 @@ pub fn every_run_follows_the_tree()
 /// In every run of the world, whatever its actors ask in whatever order, each answer is the one that the tree gives at the
 /// command's point, or says that there was no room to begin the command.
 pub fn each_answer_is_the_trees()
-    ensures { (counts : Counts) (events : List Event) → IsWorldRun programs counts events → Headline events }
+    ensures { (counts : Counts) (events : List Event) → IsWorldRun programs counts events → Headline counts events }
 {}
