@@ -1,10 +1,11 @@
 -- a command that met no bar has succeeded
-use Rattle.std.proofs.Common.{◌≡◌, ℕ, zero, suc, ◌⊎◌, inl, inr, true, false, if◌then◌else◌, Bool, Some, None, List, [], ◌∷◌, ◌++◌}
+use Rattle.std.proofs.Common.{◌≡◌, ◌≢◌, ℕ, zero, suc, ◌⊎◌, inl, inr, true, false, if◌then◌else◌, Bool, Some, None, List, [], ◌∷◌, ◌++◌}
 use Rattle.std.proofs.Common.{take, refl, sym, ap, ◌∙◌, subst, arith}
 use Rattle.std.proofs.Common.{append_assoc}
 use Rattle.std.proofs.lemmas.List.{append-nil}
 use Rattle.std.specs.List.{slice_get, AllByRecursion}
 use Rattle.tect_ids.specs.declared.ids.Counts.{Counts}
+use Rattle.tect_ids.specs.declared.ids.BlkId.{BlkId}
 use Rattle.tect_ids.specs.declared.ids.DirId.{DirId}
 use Rattle.tect_ids.specs.declared.ids.Node.TheVariants.{Dir, File}
 use Rattle.tect_ids.specs.declared.ids.OpId.{OpId}
@@ -37,10 +38,15 @@ use Rattle.world_runs.specs.Refusals.{was_refused}
 use Rattle.whole_runs.proofs.Fronts.{may_at}
 use Rattle.claim_words.specs.Points.{way, of_op, Walked, StopsWalk, Finds, Lists, LookDecides, ListDecides, CreateDecides}
 use Rattle.claim_words.specs.TreeSteps.{Told, tree_steps}
+use Rattle.claim_words.specs.Points as looks
+use Rattle.claim_words.specs.Points.{OpenDecides, AppendDecides, BlocksDecides, ReadDecides, ListsBlocks, Attaches, file_key}
 use Rattle.claim_words.specs.Points.{MkdirDecides, DeleteDecides, RenameDecides, Decides, DecidesAt, Point, LacksName}
+use Rattle.claim_words.specs.Because.{because}
+use Rattle.claim_words.specs.FilesBecause.{files_because}
 use Rattle.claim_words.specs.Headline.{command_of, Explains, HadNoRoom, Headline}
 use Rattle.telling_laws.proofs.Histories.{of_op-append}
-use Rattle.run_claims.specs.Complete.{Succeeds, WentWell, IsNoFile, FindsNoFile, MeetsNoBar, IsComplete}
+use Rattle.run_claims.specs.Complete.{Succeeds, WentWell, IsNoFile, FindsNoFile, IsNoDir, SawNoDir, LedToFile, LacksFile}
+use Rattle.run_claims.specs.Complete.{MeetsNoBar, IsComplete}
 
 -- ---- what decides with a reply that refuses nothing
 
@@ -105,15 +111,81 @@ rename_well own d p to (step.GrantFile f) v a h = absurd h.1
 rename_well own d p to (step.Swap e old new n) v a h = succeeds_as a answers.Done h.4 tt
 rename_well own d p to s v a h = absurd h
 
-decides_well : (c : Command) (own : List Told) (d : DirId) (s : TreeStep) (v : StepValue) (a : Answer) → Decides c own d s (Ok v) a
-    → Succeeds a
-decides_well (commands.Look p) own d s v a h = look_well d p s v a h
-decides_well (commands.List p) own d s v a h = list_well d s v a h
-decides_well (commands.Create p) own d s v a h = create_well d p s v a h
-decides_well (commands.Mkdir p) own d s v a h = mkdir_well d p s v a h
-decides_well (commands.Delete p) own d s v a h = delete_well d p s v a h
-decides_well (commands.Rename p to) own d s v a h = rename_well own d p _ s v a h
-decides_well _ own d s v a h = absurd h
+-- a look for a file ends a command only where it is refused or finds a directory
+no_file_not : (k : Key) (v : StepValue) (a : Answer) → ((d : DirId) → Ok v ≢ Ok (shown.Node (Dir d))) → looks.FindsNoFile k (Ok v) a → ⊥
+no_file_not k (shown.Node (Dir d)) a clear h = clear d refl
+no_file_not k (shown.Node (File f)) a clear h = h
+no_file_not k shown.Done a clear h = h
+no_file_not k (shown.Parent p sealed) a clear h = h
+no_file_not k (shown.Entries sealed items) a clear h = h
+no_file_not k (shown.Attached i) a clear h = h
+no_file_not k (shown.Blocks sealed rows) a clear h = h
+no_file_not k (shown.Bytes bytes) a clear h = h
+
+blocks_listed_well : (k : Key) (v : StepValue) (a : Answer) → ListsBlocks k (Ok v) a → Succeeds a
+blocks_listed_well k (shown.Blocks sealed rows) a h = succeeds_as a (answers.Blocks rows) h tt
+blocks_listed_well k shown.Done a h = absurd h
+blocks_listed_well k (shown.Parent p sealed) a h = absurd h
+blocks_listed_well k (shown.Node n) a h = absurd h
+blocks_listed_well k (shown.Entries sealed items) a h = absurd h
+blocks_listed_well k (shown.Attached i) a h = absurd h
+blocks_listed_well k (shown.Bytes bytes) a h = absurd h
+
+attaches_well : (k : Key) (b : BlkId) (v : StepValue) (a : Answer) → Attaches k b (Ok v) a → Succeeds a
+attaches_well k b (shown.Attached i) a h = succeeds_as a (answers.Appended b i) h tt
+attaches_well k b shown.Done a h = absurd h
+attaches_well k b (shown.Parent p sealed) a h = absurd h
+attaches_well k b (shown.Node n) a h = absurd h
+attaches_well k b (shown.Entries sealed items) a h = absurd h
+attaches_well k b (shown.Blocks sealed rows) a h = absurd h
+attaches_well k b (shown.Bytes bytes) a h = absurd h
+
+-- the reply shows no directory
+abbrev ShowsNoDir : StepValue → Type 0
+ShowsNoDir v = (d : DirId) → Ok v ≢ Ok (shown.Node (Dir d))
+
+open_well : (own : List Told) (d : DirId) (p : List (List ℕ)) (s : TreeStep) (v : StepValue) (a : Answer) → ShowsNoDir v
+    → OpenDecides own d p s (Ok v) a → Succeeds a
+open_well own d p (step.Look k) v a clear h = absurd (no_file_not k v a clear h.1)
+open_well own d p (step.Open f token) v a clear h = succeeds_as a (answers.Opened f token) h.1 tt
+open_well own d p s v a clear h = absurd h
+
+blocks_well : (own : List Told) (d : DirId) (p : List (List ℕ)) (s : TreeStep) (v : StepValue) (a : Answer) → ShowsNoDir v
+    → BlocksDecides own d p s (Ok v) a → Succeeds a
+blocks_well own d p (step.Look k) v a clear h = absurd (no_file_not k v a clear h.1)
+blocks_well own d p (step.Blocks f) v a clear h = blocks_listed_well (file_key f) v a h.1
+blocks_well own d p s v a clear h = absurd h
+
+read_well : (own : List Told) (d : DirId) (p : List (List ℕ)) (s : TreeStep) (v : StepValue) (a : Answer) → ShowsNoDir v
+    → ReadDecides own d p s (Ok v) a → Succeeds a
+read_well own d p (step.Look k) v a clear h = absurd (no_file_not k v a clear h.1)
+read_well own d p (step.Blocks f) v a clear h = absurd h.1
+read_well own d p s v a clear h = absurd h
+
+append_well : (bytes : List ℕ) (s : TreeStep) (v : StepValue) (a : Answer) → AppendDecides bytes s (Ok v) a → Succeeds a
+append_well bytes (step.Attach f token b content) v a h = attaches_well (file_key f) b v a h.1
+append_well bytes s v a h = absurd h
+
+-- where it leads to a file, what it was shown is no directory
+abbrev NoDirShown : Command → StepValue → Type 0
+NoDirShown (commands.Open p) v = ShowsNoDir v
+NoDirShown (commands.Blocks p) v = ShowsNoDir v
+NoDirShown (commands.Read p) v = ShowsNoDir v
+NoDirShown c v = Unit {0}
+
+decides_well : (c : Command) (own : List Told) (d : DirId) (s : TreeStep) (v : StepValue) (a : Answer) → NoDirShown c v
+    → Decides c own d s (Ok v) a → Succeeds a
+decides_well (commands.Look p) own d s v a clear h = look_well d p s v a h
+decides_well (commands.List p) own d s v a clear h = list_well d s v a h
+decides_well (commands.Create p) own d s v a clear h = create_well d p s v a h
+decides_well (commands.Mkdir p) own d s v a clear h = mkdir_well d p s v a h
+decides_well (commands.Delete p) own d s v a clear h = delete_well d p s v a h
+decides_well (commands.Rename p to) own d s v a clear h = rename_well own d p _ s v a h
+decides_well (commands.Open p) own d s v a clear h = open_well own d p s v a clear h
+decides_well (commands.Append p bytes) own d s v a clear h = append_well bytes s v a h
+decides_well (commands.Blocks p) own d s v a clear h = blocks_well own d p s v a clear h
+decides_well (commands.Read p) own d s v a clear h = read_well own d p s v a clear h
+decides_well _ own d s v a clear h = absurd h
 
 -- ---- the point among the op's own steps
 
@@ -129,6 +201,21 @@ on_way d [] (o ∷ os) e n left s more w clear = absurd (nothing_left d os w)
     nothing_left d (o ∷ os) w = nothing_left d os w
 on_way d (m ∷ ms) (o ∷ os) e n left s more w clear = on_way w.0 ms os e n left s more w.3 clear.1
 
+-- behind the steps that led there, with no name left, comes a step that showed no directory
+behind_way : (d : DirId) (names : List (List ℕ)) (own : List Told) (e : DirId) (s : Told) (more : List Told) → Walked d names own e []
+    → SawNoDir names (own ++ s ∷ more) → IsNoDir s
+behind_way d [] [] e s more w clear = clear.0
+behind_way d [] (o ∷ os) e s more w clear = behind_way d [] os e s more w clear.1
+behind_way d (m ∷ ms) [] e s more w clear = absurd (let k : m ∷ ms ≡ [] = w.1 in cc)
+behind_way d (m ∷ ms) (o ∷ os) e s more w clear = behind_way w.0 ms os e s more w.3 clear
+
+no_dir_shown : (c : Command) (own more : List Told) (d : DirId) (s : Told) (v : StepValue) → s.says ≡ Ok v → Walked root (way c) own d []
+    → LedToFile c (own ++ s ∷ more) → NoDirShown c v
+no_dir_shown (commands.Open p) own more d s v e w to = λ x is. behind_way root (way (commands.Open p)) own d s more w to x (e ∙ is)
+no_dir_shown (commands.Blocks p) own more d s v e w to = λ x is. behind_way root (way (commands.Blocks p)) own d s more w to x (e ∙ is)
+no_dir_shown (commands.Read p) own more d s v e w to = λ x is. behind_way root (way (commands.Read p)) own d s more w to x (e ∙ is)
+no_dir_shown c own more d s v e w to = tt
+
 -- one of them went well as all of them
 one_well : (own more : List Told) (s : Told) → AllByRecursion WentWell (own ++ s ∷ more) → WentWell s
 one_well [] more s all = all.0
@@ -141,18 +228,18 @@ own_first op s more own =
     ap (λ (b : Bool). if b then s ∷ of_op op more else of_op op more) same
 
 decided_well : (c : Command) (own more : List Told) (d : DirId) (left : List (List ℕ)) (s : Told) (v : StepValue) (a : Answer)
-    → s.says ≡ Ok v → Walked root (way c) own d left → FindsNoFile (way c) (own ++ s ∷ more) → DecidesAt c own d left s.does s.says a
-    → Succeeds a
-decided_well c own more d (n ∷ ns) s v a e w clear h =
+    → s.says ≡ Ok v → Walked root (way c) own d left → FindsNoFile (way c) (own ++ s ∷ more) → LedToFile c (own ++ s ∷ more)
+    → DecidesAt c own d left s.does s.says a → Succeeds a
+decided_well c own more d (n ∷ ns) s v a e w clear to h =
     let k : Key = key_in d n in
     let stops : StopsWalk k (Ok v) a = subst (λ (r : TreeReply). StopsWalk k r a) e h.1 in
     absurd (stops_not k v a (subst (λ (r : TreeReply). IsNoFile r) e (on_way root (way c) own d n ns s more w clear)) stops)
-decided_well c own more d [] s v a e w clear h =
-    decides_well c own d s.does v a (subst (λ (r : TreeReply). Decides c own d s.does r a) e h)
+decided_well c own more d [] s v a e w clear to h =
+    decides_well c own d s.does v a (no_dir_shown c own more d s v e w to) (subst (λ (r : TreeReply). Decides c own d s.does r a) e h)
 
-point_succeeds : (steps : List Told) (op : OpId) (c : Command) (a : Answer) → Point steps op c a → MeetsNoBar c (of_op op steps)
-    → Succeeds a
-point_succeeds steps op c a p meets =
+point_succeeds : (counts : Counts) (history : List Event) (steps : List Told) (op : OpId) (c : Command) (a : Answer) → Point steps op c a
+    → MeetsNoBar counts history op c (of_op op steps) → Succeeds a
+point_succeeds counts history steps op c a p meets =
     let own : List Told = of_op op p.before in
     let more : List Told = of_op op p.later in
     let all : of_op op steps ≡ own ++ p.point ∷ more =
@@ -160,24 +247,36 @@ point_succeeds steps op c a p meets =
     ∙ ap (λ (l : List Told). own ++ l) (own_first op p.point p.later p.own) in
     let well : WentWell p.point = one_well own more p.point (subst (λ (l : List Told). AllByRecursion WentWell l) all meets.allowed) in
     decided_well c own more p.dir p.left p.point well.0 a well.1 p.walked
-    (subst (λ (l : List Told). FindsNoFile (way c) l) all meets.led) p.decides
+    (subst (λ (l : List Told). FindsNoFile (way c) l) all meets.led)
+    (subst (λ (l : List Told). LedToFile c l) all meets.to_file) p.decides
 
 -- ---- an op that ended
 
-explained_succeeds : (history : List Event) (op : OpId) (a : Answer) → Explains history op a
-    → (c : Command) × (command_of history op ≡ Some c) × (MeetsNoBar c (of_op op (tree_steps history)) → Succeeds a)
-explained_succeeds history op a x = (x.command, x.begun, λ meets. of x.because meets)
-  where
-    of : Point (tree_steps history) op x.command a ⊎ (LacksName x.command × (a ≡ answers.NoName))
-        → MeetsNoBar x.command (of_op op (tree_steps history)) → Succeeds a
-    of (inl p) meets = point_succeeds (tree_steps history) op x.command a p meets
-    of (inr lacks) meets = absurd (meets.named lacks.0)
+-- what lacked nothing was not refused for that, and a read's bytes are its success
+able_succeeds : (counts : Counts) (history : List Event) (op : OpId) (c : Command) (a : Answer) → ¬ LacksFile counts history op c
+    → files_because counts history op c a → Succeeds a
+able_succeeds counts history op (commands.Open p) a able why = absurd (able why.0)
+able_succeeds counts history op (commands.Blocks p) a able why = absurd (able why.0)
+able_succeeds counts history op (commands.Read p) a able (inl why) = absurd (able why.0)
+able_succeeds counts history op (commands.Read p) a able (inr why) = succeeds_as a (answers.Read why.0) why.1 tt
+able_succeeds counts history op (commands.Append p bytes) a able (inl why) = absurd (able (inl why.0))
+able_succeeds counts history op (commands.Append p bytes) a able (inr why) = absurd (able (inr why.0))
+able_succeeds counts history op c a able why = absurd why
 
-ended_succeeds : (history : List Event) (op : OpId) (a : Answer) → Explains history op a ⊎ HadNoRoom history op a
-    → was_refused history op ≡ false
-    → (c : Command) × (command_of history op ≡ Some c) × (MeetsNoBar c (of_op op (tree_steps history)) → Succeeds a)
-ended_succeeds history op a (inl x) begun = explained_succeeds history op a x
-ended_succeeds history op a (inr clear) begun = absurd (let k : false ≡ true = sym begun ∙ clear.0 in cc)
+module _ (counts : Counts) (history : List Event) (op : OpId) (a : Answer) where
+  -- what such a command must come to
+  abbrev Succeeded : Command → Type 0
+  Succeeded c = MeetsNoBar counts history op c (of_op op (tree_steps history)) → Succeeds a
+
+  because_succeeds : (c : Command) → because counts history op c a → Succeeded c
+  because_succeeds c (inl (inl p)) meets = point_succeeds counts history (tree_steps history) op c a p meets
+  because_succeeds c (inl (inr lacks)) meets = absurd (meets.named lacks.0)
+  because_succeeds c (inr why) meets = able_succeeds counts history op c a meets.able why
+
+  ended_succeeds : Explains counts history op a ⊎ HadNoRoom history op a → was_refused history op ≡ false
+      → (c : Command) × (command_of history op ≡ Some c) × Succeeded c
+  ended_succeeds (inl x) begun = (x.command, x.begun, because_succeeds x.command x.because)
+  ended_succeeds (inr clear) begun = absurd (let k : false ≡ true = sym begun ∙ clear.0 in cc)
 
 -- ---- an op that failed
 
@@ -202,9 +301,9 @@ lacks_room counts before s op (answers.HistoryFull p) lack full = inr full.0
 lacks_room counts before s op _ lack full = absurd lack
 
 pub is_complete : (counts : Counts) (history : List Event) → IsWorldRun programs counts history → KeepsLimits programs counts history
-    → Headline history → IsComplete history
+    → Headline counts history → IsComplete counts history
 is_complete counts history run limits headline = record {
-  succeeds = λ place op a at begun. ended_succeeds (take place history) op a (headline.answers place op a at) begun;
+  succeeds = λ place op a at begun. ended_succeeds counts (take place history) op a (headline.answers place op a at) begun;
   fails = λ place op a at.
       let m : WorldState Program = moment programs counts (take place history) in
       let may : May programs m (Own op (Failed a)) = may_at programs (opening counts) history place (Own op (Failed a)) run at in
