@@ -1,5 +1,5 @@
 -- A file by its path's last name, and the answer that a file's refusal makes.
-use Rattle.std.specs.Prelude.{Option, Some, None, []}
+use Rattle.std.specs.Prelude.{Option, Some, None}
 use Rattle.tect_ids.specs.declared.ids.FileId.{FileId}
 use Rattle.tect_ids.specs.declared.ids.Node.{Node}
 use Rattle.tect_ids.specs.declared.ids.Node.TheVariants as nodes
@@ -7,11 +7,16 @@ use Rattle.tect_ids.specs.declared.ids.Place.{Place}
 use Rattle.tect_ids.specs.declared.key.Key.{Key}
 use Rattle.tect_ids.specs.declared.answer.Answer.{Answer}
 use Rattle.tect_ids.specs.declared.answer.Answer.TheVariants as answers
+use Rattle.tect_ids.specs.declared.answer.Answer.TheVariants.{Odd}
+use Rattle.tect_ids.specs.declared.values.Refusal.{Refusal}
+use Rattle.tect_ids.specs.declared.values.Refusal.TheVariants as refusals
+use Rattle.tect_ids.specs.Refusals.{token_changed}
+use Rattle.store_rules.specs.declared.files.FileReply.TheVariants as files
 use Rattle.store_rules.specs.declared.names.NameReq.TheVariants as names
 use Rattle.store_rules.specs.declared.any.AnyReq.{AnyReq}
 use Rattle.store_rules.specs.declared.any.AnyReq.TheVariants as any
 use Rattle.store_rules.specs.declared.any.AnyReply.{AnyReply}
-use Rattle.store_rules.specs.Names.{key_in}
+use Rattle.store_rules.specs.declared.any.AnyReply.TheVariants.{File}
 use Rattle.program_parts.specs.declared.next.Next.{Next}
 use Rattle.program_parts.specs.declared.next.Next.TheVariants.{Goes, Comes}
 use Rattle.program_parts.specs.Refused.{refusal}
@@ -26,9 +31,14 @@ found_file place k x next None = Comes (refusal place k x)
 found_file place k x next (Some (nodes.Dir d)) = Comes answers.IsDir
 found_file place k x next (Some (nodes.File f)) = Goes (next f)
 
--- The request concerned the file itself. Of a file as a whole the name does not matter.
-abbrev pub file_key : FileId → Key
-file_key f = key_in record { 0 = f.0 } []
+-- what the refusal of a request for the file itself makes; it is refused for nothing else
+abbrev pub file_answer : Place → FileId → Refusal → Answer
+file_answer place f refusals.NoFile = answers.NoFile
+file_answer place f refusals.Sealed = answers.Sealed
+file_answer place f refusals.Full = answers.Full f.0
+file_answer place f (refusals.TokenChanged now) = token_changed now
+file_answer place f why = Odd place
 
 abbrev pub file_refusal : Place → FileId → AnyReply → Answer
-file_refusal place f x = refusal place (file_key f) x
+file_refusal place f (File (files.Refused why)) = file_answer place f why
+file_refusal place f x = Odd place

@@ -55,3 +55,16 @@ impl<T> Gathered<T> {
         self.items
     }
 }
+
+impl Gathered<u8> {
+    /// Adds these bytes at the end, all in one.
+    pub fn extend(&mut self, bytes: &[u8]) -> Result<(), NoMemory>
+        ensures ok { OnOk result (self.new ≡ self.old ++ bytes.now) }
+        ensures err { OnErr result (self.new ≡ self.old) }
+    {
+        match self.items.extend_from_slice(bytes) {
+            Ok(()) => Ok(()),
+            Err(_) => Err(NoMemory),
+        }
+    }
+}

@@ -10,6 +10,6 @@ mod states;
 
 pub use gathered::Gathered;
 pub use putting::{Putting, Sealing};
-pub use reading::{Fetching, Reading};
+pub use reading::{Fetching, Reading, placed_chunks};
 pub use spread::Spread;
 pub use states::{Append, Appending, Blocks, Open, Read};

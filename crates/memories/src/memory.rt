@@ -16,6 +16,7 @@ use tect_ids::{Counts, NoMemory, OpId, Token};
 /// are, and the files that it opened.
 #[derive(Drop)]
 pub struct Memory {
+    alloc: Global,
     actor: u32,
     serial: u32,
     counts: Counts,
@@ -45,11 +46,17 @@ impl Memory {
         ensures { IfOk result (λ memory. memory ≡ record { actor = actor; counts = counts; memory = opening_memory }) }
     {
         Ok(Memory {
+            alloc,
             actor,
             serial: 1,
             counts,
             opened: OpenedFiles::new(alloc),
         })
+    }
+
+    /// The allocator of what the actor keeps.
+    pub fn alloc(&self) -> Global {
+        self.alloc
     }
 
     /// The actor's own number. It takes no memory.
