@@ -72,7 +72,7 @@ files_why counts h op c a = because counts h op c a ⊎ (is_odd a ≡ true)
 pub record CameFor (of : List (List ℕ) → Command) (h : List Event) (op : OpId) (c : Command) (k : Key) (p : List (List ℕ)) : Type 0 where
   pub is : c ≡ of p
   pub walked : Walked root (way c) (of_op op (tree_steps h)) k.dir []
-  pub last : k.name ≡ last_name p
+  pub last : last_name p ≡ k.name
 
 -- the command is such a one of that path, and found the file where its walk led
 pub record FoundFile (of : List (List ℕ) → Command) (h : List Event) (op : OpId) (c : Command) (f : FileId) (p : List (List ℕ)) : Type 0 where
