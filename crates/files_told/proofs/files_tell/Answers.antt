@@ -4,14 +4,14 @@ use Rattle.files_told.proofs.Open.{open_tells}
 use Rattle.files_told.proofs.Read.{read_tells}
 use Rattle.files_told.proofs.files_tell.Goals as goal
 
-pub opens : goal.opens
-opens c = open_tells
+pub returns-clause-opens : goal.returns-clause-opens
+returns-clause-opens c = open_tells
 
-pub appends : goal.appends
-appends c = append_tells
+pub returns-clause-appends : goal.returns-clause-appends
+returns-clause-appends c = append_tells
 
-pub lists : goal.lists
-lists c = blocks_tell
+pub returns-clause-lists : goal.returns-clause-lists
+returns-clause-lists c = blocks_tell
 
-pub reads : goal.reads
-reads c = read_tells
+pub returns-clause-reads : goal.returns-clause-reads
+returns-clause-reads c = read_tells
