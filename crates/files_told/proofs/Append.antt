@@ -1,5 +1,6 @@
 -- appending: a block is made of the command's bytes, and its attach decides
-use Rattle.std.proofs.Common.{◌≡◌, ℕ, ◌+◌, Bool, true, false, List, [], ◌∷◌, ◌++◌, length, Option, Some, None, refl, ap, ◌∙◌, arith, inl, inr}
+use Rattle.std.proofs.Common.{◌≡◌, ℕ, ◌+◌, Bool, true, false, List, [], ◌∷◌, ◌++◌}
+use Rattle.std.proofs.Common.{length, Option, Some, None, refl, ap, ◌∙◌, arith, inl, inr}
 use Rattle.std.specs.List.{slice_get}
 use Rattle.tect_ids.specs.declared.ids.BlkId.{BlkId}
 use Rattle.tect_ids.specs.declared.ids.Counts.{Counts}
@@ -199,7 +200,7 @@ module _ (counts : Counts) where
         ((seen.fresh).made refl) record {
           appends = still_appends h e op c bytes a;
           made = block_made_so h op c how b f (own_hold op) rows bytes ((seen.fresh).made refl)
-              (seen.unmade b (itself h op c how b f (own_hold op) rows bytes)) a;
+              ((seen.fresh).unmade b (itself h op c how b f (own_hold op) rows bytes)) a;
           hold = refl;
         };
     stays = λ h e op c other a. still_appends h e op c bytes a;

@@ -34,13 +34,15 @@ use Rattle.fall_laws.specs.Parts.{next_left}
 use Rattle.telling_laws.specs.Parts.{NextTells}
 use Rattle.telling_laws.proofs.Contents.{said_more}
 use Rattle.telling_laws.proofs.Histories.{itself}
-use Rattle.files_told.specs.FilesTelling.{CameFor, Appends, OpenBefore, BlocksBefore, ReadBefore, append_deciding, append_telling, append_left}
+use Rattle.files_told.specs.FilesTelling.{CameFor, Appends, OpenBefore, BlocksBefore}
+use Rattle.files_told.specs.FilesTelling.{ReadBefore, append_deciding, append_telling, append_left}
 use Rattle.files_told.specs.FilesTelling.{files_why, others}
 
 -- ---- behind a walk
 
 module _ (h : List Event) (op : OpId) (p : List (List ℕ)) (d : DirId) where
-  pub open_comes : Walked root (but_last p) (of_op op (tree_steps h)) d [] → OpenBefore h op (commands.Open p) (open_starts p (last_name p) d)
+  pub open_comes : Walked root (but_last p) (of_op op (tree_steps h)) d []
+      → OpenBefore h op (commands.Open p) (open_starts p (last_name p) d)
   open_comes walked = record { is = refl; walked = walked; last = refl }
 
   pub blocks_comes : Walked root (but_last p) (of_op op (tree_steps h)) d []
@@ -92,7 +94,8 @@ module _ (counts : Counts) (h : List Event) (op : OpId) (p : List (List ℕ)) (b
   appends new = record {
     path = p;
     is = refl;
-    said = said_more h (Own op (Began c)) op ∙ ap (λ (o : Option (List ℕ)). or_later o (said_by (Own op (Began c)) op)) (nothing_said h op new)
+    said = said_more h (Own op (Began c)) op ∙ ap (λ (o : Option (List ℕ)). or_later o (said_by (Own op (Began c)) op))
+        (nothing_said h op new)
         ∙ said_now;
   }
     where

@@ -1,5 +1,6 @@
 -- each part of commands on the contents of files takes few transactions
-use Rattle.std.proofs.Common.{◌≡◌, ℕ, zero, suc, ◌+◌, ◌-◌, ◌<◌, ◌≤◌, Bool, true, false, is_some, Option, Some, None, List, [], ◌∷◌, length, map}
+use Rattle.std.proofs.Common.{◌≡◌, ℕ, zero, suc, ◌+◌, ◌-◌, ◌<◌, ◌≤◌, Bool, true}
+use Rattle.std.proofs.Common.{false, is_some, Option, Some, None, List, [], ◌∷◌, length, map}
 use Rattle.std.proofs.Common.{◌++◌, refl, sym, ap, ◌∙◌, arith}
 use Rattle.std.proofs.lemmas.List.{length-map}
 use Rattle.std.proofs.lemmas.Option.{slice_get_within}
@@ -21,7 +22,8 @@ use Rattle.store_rules.specs.declared.any.AnyReq.{AnyReq}
 use Rattle.store_rules.specs.declared.any.AnyReply.{AnyReply}
 use Rattle.store_rules.specs.Holds.{RowGrant}
 use Rattle.store_rules.specs.Places.{request_place}
-use Rattle.store_rules.specs.Views.{as_found, as_block_list, as_location, as_bytes, as_attached, is_made, is_stored, is_block_sealed, is_opened}
+use Rattle.store_rules.specs.Views.{as_found, as_block_list, as_location, as_bytes}
+use Rattle.store_rules.specs.Views.{as_attached, is_made, is_stored, is_block_sealed, is_opened}
 use Rattle.tect_calls.specs.MadeBlocks.{NewBlock, chunk_of, chunks_of}
 use Rattle.tect_calls.specs.Readings.{given_if, new_block}
 use Rattle.program_forms.specs.Memories.{Memory}
@@ -46,7 +48,8 @@ use Rattle.fall_laws.specs.Counting.{is_look}
 use Rattle.fall_laws.specs.Bounding.{Many, AtMost, none}
 use Rattle.fall_laws.specs.Parts.{PartBounding, PartFalls, Takes, plus, next_left}
 use Rattle.fall_laws.proofs.PartsFall.{FallsIn, part_falls, waits_fall}
-use Rattle.files_told.specs.FilesTelling.{others, behind, open_left, append_left, blocks_left, read_left, listed_more, located_more, read_grows}
+use Rattle.files_told.specs.FilesTelling.{others, behind, open_left, append_left}
+use Rattle.files_told.specs.FilesTelling.{blocks_left, read_left, listed_more, located_more, read_grows}
 use Rattle.files_told.specs.FilesTelling.{open_bounding, append_bounding, blocks_bounding, read_bounding}
 
 -- ---- beside what is asked
@@ -75,7 +78,8 @@ found_leaves left n place k x next l (Some (nodes.File f)) = l f
 
 -- ---- opening, and listing
 
-taken_leaves : (place : Place) (op : OpId) (f : FileId) (x : AnyReply) (b : Bool) → AtMost (next_left open_left (taken place op f x b)) (others 0)
+taken_leaves : (place : Place) (op : OpId) (f : FileId) (x : AnyReply) (b : Bool)
+    → AtMost (next_left open_left (taken place op f x b)) (others 0)
 taken_leaves place op f x true = nothing 0
 taken_leaves place op f x false = nothing 0
 
@@ -124,7 +128,8 @@ put_next_leaves a made at (Some k) e =
     let within : at < length (chunks_of made) = slice_get_within (chunks_of made) at k e in
     fewer (length (chunks_of made) - (at + 1) + 4) (length (chunks_of made) - at + 3) (omega (arith, within))
 
-put_on_leaves : (a : Appending) (made : NewBlock) (at : ℕ) → AtMost (append_left (put_on a made at)) (others (length (chunks_of made) - at + 3))
+put_on_leaves : (a : Appending) (made : NewBlock) (at : ℕ)
+    → AtMost (append_left (put_on a made at)) (others (length (chunks_of made) - at + 3))
 put_on_leaves a made at = put_next_leaves a made at (slice_get (chunks_of made) at) refl
 
 -- a block has as many rows as copies
@@ -176,7 +181,8 @@ append_at (appending.Make f token bytes p) = waits_fall append append_left (appe
       let l : AtMost (next_left append_left (append.hears c m op (appending.Make f token bytes p)
       (append.asks c m op (appending.Make f token bytes p)) x)) (others (p.copies + 3)) =
       made_leaves (request_place c (append_asks op number (appending.Make f token bytes p))) token bytes p.copies
-      record { blk = b; rows = new_rows p op number } record { blk = b; hold = own_hold op; file = f } (is_made x) (chunks_many b p op number) in
+      record { blk = b; rows = new_rows p op number } record { blk = b; hold = own_hold op; file = f } (is_made x)
+      (chunks_many b p op number) in
       record { looks = omega (arith, l.looks); others = omega (arith, l.others) };
 }
 append_at (appending.Put a p) = waits_fall append append_left (appending.Put a p) record {
@@ -260,7 +266,8 @@ got_leaves place r t (Some bytes) =
 
 -- a state where it looks nothing up
 reads_fall : (s : Read)
-    → ((c : Counts) (m : Memory) (op : OpId) (x : AnyReply) → Takes (read_asks s) (next_left read_left (read.hears c m op s (read_asks s) x))
+    → ((c : Counts) (m : Memory) (op : OpId) (x : AnyReply)
+    → Takes (read_asks s) (next_left read_left (read.hears c m op s (read_asks s) x))
     (plus (read_left s) (read_grows c (read_asks s) x))) → FallsIn read read_bounding s
 reads_fall s hears = record {
   turns = λ c m op. record { looks = omega arith; others = omega arith };
@@ -270,7 +277,8 @@ reads_fall s hears = record {
 read_at : (s : Read) → FallsIn read read_bounding s
 read_at (reading.Find k) = reads_fall (reading.Find k) (λ c m op x.
     let l : AtMost (next_left read_left (read.hears c m op (reading.Find k) (read_asks (reading.Find k)) x)) (others 1) =
-    found_leaves read_left 1 (request_place c (read_asks (reading.Find k))) k x (λ f. reading.List f) (λ f. fewer 1 1 (omega arith)) (as_found x) in
+    found_leaves read_left 1 (request_place c (read_asks (reading.Find k))) k x (λ f. reading.List f) (λ f. fewer 1 1 (omega arith))
+    (as_found x) in
     record { looks = omega (arith, l.looks); others = omega (arith, l.others) })
 read_at (reading.List f) = reads_fall (reading.List f) (λ c m op x.
     let l : AtMost (next_left read_left (read.hears c m op (reading.List f) (read_asks (reading.List f)) x)) (others

@@ -97,12 +97,12 @@ module _ (counts : Counts) (of : List (List ℕ) → Command) (looks : LooksForF
   -- commands that go on so with the file
   module _ {S : Type 0} (D : Deciding S Answer) (Before : List Event → OpId → Command → S → Type 0) (next : FileId → S)
       (goes : (f : FileId) → FoundFile of more op c f p → Tells D record { Before = Before; because = files_why counts } more op c (next f))
-      where
-        pub found_tells : (o : Option Node) → as_found x ≡ o
-            → NextTells D record { Before = Before; because = files_why counts } more op c (found_file place k x next o)
-        found_tells None e =
-            let no : RefusesSo place k x = look_none (stored_after opening_store h) place k e in
-            ends (refusal place k x) (no_file_no k (refusal place k x) (says x) no.0 no.1)
-        found_tells (Some (Dir d)) e =
-            ends answers.IsDir (no_file_dir k d (says x) (look_some (stored_after opening_store h) place k (Dir d) e))
-        found_tells (Some (File f)) e = goes f (file_found f (look_some (stored_after opening_store h) place k (File f) e))
+    where
+      pub found_tells : (o : Option Node) → as_found x ≡ o
+          → NextTells D record { Before = Before; because = files_why counts } more op c (found_file place k x next o)
+      found_tells None e =
+          let no : RefusesSo place k x = look_none (stored_after opening_store h) place k e in
+          ends (refusal place k x) (no_file_no k (refusal place k x) (says x) no.0 no.1)
+      found_tells (Some (Dir d)) e =
+          ends answers.IsDir (no_file_dir k d (says x) (look_some (stored_after opening_store h) place k (Dir d) e))
+      found_tells (Some (File f)) e = goes f (file_found f (look_some (stored_after opening_store h) place k (File f) e))

@@ -83,7 +83,8 @@ module _ (counts : Counts) where
       → files_why counts h op c (answers.Read r.bytes)
   read_ended h op c r was e =
       let all : bytes_of h r.parts ≡ r.bytes = sym (was.so_far ∙ ap (λ (l : Items RowPart). bytes_of h l) (take_ended r.parts r.at e)) in
-      let point : ReadPoint (tree_steps h) op was.path r.bytes = subst (λ (b : Items ℕ). ReadPoint (tree_steps h) op was.path b) all was.point in
+      let point : ReadPoint (tree_steps h) op was.path r.bytes =
+      subst (λ (b : Items ℕ). ReadPoint (tree_steps h) op was.path b) all was.point in
       inl (inr (rw was.is (inr (r.bytes, refl, point))))
 
   located_tells : (h : Items Event) (op : OpId) (c : Command) (r : Reading) → Reads h op c r → (o : Option RowPart)
@@ -187,19 +188,21 @@ module _ (counts : Counts) where
 
   -- ---- a chunk is asked for
 
-  fetched_tells : (h : Items Event) (op : OpId) (c : Command) (place : Place) (r : Reading) (b : BlkId) (chunks : Items ChunkKey) (tried : ℕ)
-      → Reads h op c r → IsReadNow r b → AreChunks chunks b → (o : Option ChunkKey) → slice_get chunks tried ≡ o
+  fetched_tells : (h : Items Event) (op : OpId) (c : Command) (place : Place) (r : Reading) (b : BlkId) (chunks : Items ChunkKey)
+      (tried : ℕ) → Reads h op c r → IsReadNow r b → AreChunks chunks b → (o : Option ChunkKey) → slice_get chunks tried ≡ o
       → NextTells read_deciding (read_telling counts) h op c (fetched place r chunks tried o)
   fetched_tells h op c place r b chunks tried was now all None e = inr refl
   fetched_tells h op c place r b chunks tried was now all (Some k) e =
-      let same : b ≡ k.blk = sym (all tried k e) in
-      (was, record {
-        now = subst (λ (d : BlkId). IsReadNow r d) same now;
-        all = subst (λ (d : BlkId). AreChunks chunks d) same all;
-      })
+      let same : b ≡ k.blk = sym (all tried k e) in (
+        was,
+        record {
+          now = subst (λ (d : BlkId). IsReadNow r d) same now;
+          all = subst (λ (d : BlkId). AreChunks chunks d) same all;
+        },
+      )
 
-  fetch_on_tells : (h : Items Event) (op : OpId) (c : Command) (place : Place) (r : Reading) (b : BlkId) (chunks : Items ChunkKey) (tried : ℕ)
-      → Reads h op c r → IsReadNow r b → AreChunks chunks b
+  fetch_on_tells : (h : Items Event) (op : OpId) (c : Command) (place : Place) (r : Reading) (b : BlkId) (chunks : Items ChunkKey)
+      (tried : ℕ) → Reads h op c r → IsReadNow r b → AreChunks chunks b
       → NextTells read_deciding (read_telling counts) h op c (fetch_on place r chunks tried)
   fetch_on_tells h op c place r b chunks tried was now all =
       fetched_tells h op c place r b chunks tried was now all (slice_get chunks tried) refl

@@ -75,7 +75,8 @@ pub record CameFor (of : List (List ℕ) → Command) (h : List Event) (op : OpI
   pub last : last_name p ≡ k.name
 
 -- the command is such a one of that path, and found the file where its walk led
-pub record FoundFile (of : List (List ℕ) → Command) (h : List Event) (op : OpId) (c : Command) (f : FileId) (p : List (List ℕ)) : Type 0 where
+pub record FoundFile (of : List (List ℕ) → Command) (h : List Event) (op : OpId) (c : Command) (f : FileId) (p : List (List ℕ))
+    : Type 0 where
   pub is : c ≡ of p
   pub dir : DirId
   pub walked : Walked root (way c) (of_op op (tree_steps h)) dir []
