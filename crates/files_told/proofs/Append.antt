@@ -48,13 +48,12 @@ use Rattle.claim_words.specs.TreeSteps.{Told, says}
 use Rattle.telling_laws.specs.Parts.{NextTells, PartTells}
 use Rattle.telling_laws.specs.Telling.{Tells}
 use Rattle.telling_laws.proofs.Contents.{content_stays, maker_more, said_more}
-use Rattle.telling_laws.proofs.Replies.{RefusesSo}
 use Rattle.telling_laws.proofs.Steps.{reply_at, act_at, Allows, WalkedTo}
 use Rattle.telling_laws.proofs.PartsTell.{TellsIn, part_tells, waits_tell}
 use Rattle.files_told.specs.FilesTelling.{Appends, AppendsBlock, append_deciding, append_telling, files_why}
 use Rattle.files_told.proofs.Finding.{decided_now}
 use Rattle.files_told.proofs.Lasting.{why_lasts}
-use Rattle.files_told.proofs.Replies.{attaches_no, attaches_yes, attach_some, attach_none, put_not_lost}
+use Rattle.files_told.proofs.Replies.{RefusesFile, attaches_no, attaches_yes, attach_some, attach_none, put_not_lost}
 
 -- ---- a command without a way is at the root
 
@@ -178,7 +177,7 @@ module _ (counts : Counts) where
       attached_tells : (o : Option ℕ) → as_attached x ≡ o
           → NextTells append_deciding (append_telling counts) more op c (attached place a x o)
       attached_tells None e =
-          let no : RefusesSo place (file_key file) x =
+          let no : RefusesFile place file x =
           attach_none (stored_after opening_store h) place file a.token b (length a.bytes) (a.hold).hold e in
           ends (file_refusal place file x) (attaches_no (file_key file) (file_refusal place file x) b (says x) no.0 no.1)
       attached_tells (Some i) e =

@@ -27,13 +27,12 @@ use Rattle.world_runs.specs.OwnRuns.{stored_after}
 use Rattle.claim_words.specs.Points.{file_key, ListsBlocks}
 use Rattle.claim_words.specs.TreeSteps.{says}
 use Rattle.telling_laws.specs.Parts.{NextTells, PartTells}
-use Rattle.telling_laws.proofs.Replies.{RefusesSo}
 use Rattle.telling_laws.proofs.Steps.{reply_at, act_at, Allows}
 use Rattle.telling_laws.proofs.PartsTell.{TellsIn, part_tells, waits_tell}
 use Rattle.files_told.specs.FilesTelling.{FoundFile, BlocksBefore, blocks_deciding, blocks_telling, files_why}
 use Rattle.files_told.proofs.Finding.{decided_now, still_came, still_found, found_tells}
 use Rattle.files_told.proofs.Lasting.{why_lasts}
-use Rattle.files_told.proofs.Replies.{ListsFile, lists_no, lists_yes, list_some, list_none}
+use Rattle.files_told.proofs.Replies.{RefusesFile, ListsFile, lists_no, lists_yes, list_some, list_none}
 
 module _ (counts : Counts) where
   -- ---- the blocks are listed
@@ -56,7 +55,7 @@ module _ (counts : Counts) where
     listed_tells : (o : Option (Items RowPart)) → as_block_list x ≡ o
         → NextTells blocks_deciding (blocks_telling counts) more op c (listed place f x o)
     listed_tells None e =
-        let no : RefusesSo place (file_key f) x = list_none (stored_after opening_store h) place f e in
+        let no : RefusesFile place f x = list_none (stored_after opening_store h) place f e in
         ends (file_refusal place f x) (lists_no (file_key f) (file_refusal place f x) (says x) no.0 no.1)
     listed_tells (Some parts) e =
         let so : ListsFile (stored_after opening_store h) f parts = list_some (stored_after opening_store h) f parts e in

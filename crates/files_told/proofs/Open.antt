@@ -28,13 +28,12 @@ use Rattle.claim_words.specs.Opened.{opened_at, opens_of}
 use Rattle.claim_words.specs.Points.{done_answer, file_key}
 use Rattle.claim_words.specs.TreeSteps.{says}
 use Rattle.telling_laws.specs.Parts.{NextTells, PartTells}
-use Rattle.telling_laws.proofs.Replies.{RefusesSo}
 use Rattle.telling_laws.proofs.Steps.{reply_at, act_at, Allows}
 use Rattle.telling_laws.proofs.PartsTell.{TellsIn, part_tells, waits_tell}
 use Rattle.files_told.specs.FilesTelling.{FoundFile, OpenBefore, open_deciding, open_telling, files_why}
 use Rattle.files_told.proofs.Finding.{decided_now, still_came, still_found, found_tells}
 use Rattle.files_told.proofs.Lasting.{why_lasts}
-use Rattle.files_told.proofs.Replies.{done_no, opens_yes, take_yes, take_no}
+use Rattle.files_told.proofs.Replies.{RefusesFile, done_no, opens_yes, take_yes, take_no}
 
 -- of the reply its actor keeps just the file that was opened
 keeps_opened : (op : OpId) (c : Command) (f : FileId) (path : List (List ℕ)) (x : AnyReply) → c ≡ commands.Open path
@@ -66,7 +65,7 @@ module _ (counts : Counts) where
         ends (answers.Opened f op) (opens_yes (file_key f) (answers.Opened f op) (says x)
         (take_yes (stored_after opening_store h) place f op e))
     taken_tells false e =
-        let no : RefusesSo place (file_key f) x = take_no (stored_after opening_store h) place f op e in
+        let no : RefusesFile place f x = take_no (stored_after opening_store h) place f op e in
         ends (file_refusal place f x) (done_no (file_key f) (file_refusal place f x) (answers.Opened f op) (says x) no.0 no.1)
 
   -- ---- the laws

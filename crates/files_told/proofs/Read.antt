@@ -53,7 +53,6 @@ use Rattle.telling_laws.specs.Telling.{IsSeen, tree_of}
 use Rattle.telling_laws.specs.View.{shown_file}
 use Rattle.telling_laws.proofs.Contents.{content_stays, known_stays}
 use Rattle.telling_laws.proofs.Histories.{steps_more, tree_after-append}
-use Rattle.telling_laws.proofs.Replies.{RefusesSo}
 use Rattle.telling_laws.proofs.Steps.{reply_at, act_at, Allows, over_then, saw_then, saw_now}
 use Rattle.telling_laws.proofs.PartsTell.{TellsIn, part_tells, waits_tell}
 use Rattle.telling_laws.proofs.ValuesSeen.{get-map_values}
@@ -63,7 +62,7 @@ use Rattle.files_told.proofs.Finding.{decided_now, still_came, still_found, foun
 use Rattle.files_told.proofs.Lasting.{why_lasts, read_point_lasts}
 use Rattle.files_told.proofs.Parts.{AllPartsKnown, take_ended, bytes_same, first_bytes_same, bytes_more, rows_known, shown_bytes, reads_all}
 use Rattle.files_told.proofs.Parts.{map_of_block}
-use Rattle.files_told.proofs.Replies.{ListsFile, refusal_no, list_some, list_none, got_stands}
+use Rattle.files_told.proofs.Replies.{RefusesFile, ListsFile, refusal_no, list_some, list_none, got_stands}
 
 -- after any event more
 still_reads : (h : Items Event) (e : Event) (op : OpId) (c : Command) (r : Reading) → Reads h op c r → Reads (h ++ e ∷ []) op c r
@@ -181,7 +180,7 @@ module _ (counts : Counts) where
     begins_tells : (place : Place) → IsSeen h q → Allows h event → (o : Option (Items RowPart)) → as_block_list x ≡ o
         → NextTells read_deciding (read_telling counts) more op c (begins_reading place f x o)
     begins_tells place seen run None e =
-        let no : RefusesSo place (file_key f) x = list_none store place f e in
+        let no : RefusesFile place f x = list_none store place f e in
         list_refused (file_refusal place f x) run (refusal_no (file_key f) (file_refusal place f x) (says x) no.0 no.1)
     begins_tells place seen run (Some parts) e =
         read_on_tells more op c record { parts = parts; at = 0; bytes = [] } (reads seen parts (list_some store f parts e))

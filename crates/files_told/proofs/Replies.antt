@@ -31,9 +31,15 @@ use Rattle.tree_model.specs.declared.step.StepValue.TheVariants as shown
 use Rattle.tree_model.specs.declared.step.TreeReply.{TreeReply}
 use Rattle.tree_model.specs.declared.step.TreeReply.TheVariants.{Ok, Refused}
 use Rattle.file_rules.specs.Append.{is_lost}
+use Rattle.file_rules.specs.Finds.{file_refusal}
 use Rattle.claim_words.specs.Points.{done_answer, file_key, Attaches, FindsNoFile, IsRefusal, ListsBlocks}
 use Rattle.claim_words.specs.TreeSteps.{says}
-use Rattle.telling_laws.proofs.Replies.{why_of, RefusesSo}
+use Rattle.telling_laws.proofs.Replies.{why_of}
+
+-- the reply to a request for the file itself is a refusal, and makes the answer that the tree's refusal makes
+abbrev pub RefusesFile : Place → FileId → AnyReply → Type 0
+RefusesFile place f x =
+    (says x ≡ Refused (why_of (says x))) × (file_refusal place f x ≡ refusal_answer (file_key f) (why_of (says x)))
 
 -- ---- what a reply decides
 
@@ -80,7 +86,7 @@ module _ (s : Store) (place : Place) where
   take_yes f t e = grind arith
 
   pub take_no : (f : FileId) (t : OpId) → is_opened (store_reply s (any.File (files.TakeToken f t))) ≡ false
-      → RefusesSo place (file_key f) (store_reply s (any.File (files.TakeToken f t)))
+      → RefusesFile place f (store_reply s (any.File (files.TakeToken f t)))
   take_no f t e = (grind arith, grind arith)
 
   pub attach_some : (f : FileId) (t : OpId) (b : BlkId) (n : ℕ) (h : Hold) (i : ℕ)
@@ -90,11 +96,11 @@ module _ (s : Store) (place : Place) where
 
   pub attach_none : (f : FileId) (t : OpId) (b : BlkId) (n : ℕ) (h : Hold)
       → as_attached (store_reply s (any.File (files.Attach f t b n h))) ≡ None
-      → RefusesSo place (file_key f) (store_reply s (any.File (files.Attach f t b n h)))
+      → RefusesFile place f (store_reply s (any.File (files.Attach f t b n h)))
   attach_none f t b n h e = (grind arith, grind arith)
 
   pub list_none : (f : FileId) → as_block_list (store_reply s (any.File (files.ListBlocks f))) ≡ None
-      → RefusesSo place (file_key f) (store_reply s (any.File (files.ListBlocks f)))
+      → RefusesFile place f (store_reply s (any.File (files.ListBlocks f)))
   list_none f e = (grind arith, grind arith)
 
 -- the rows that are listed are those of the file that stands
