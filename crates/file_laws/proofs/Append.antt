@@ -127,8 +127,8 @@ module _ (w : World) (op : OpId) (m : Memory) (r : Remembers w op.actor m) (a : 
       free = λ i c after is. free_yet i c is;
     }
 
-made_knows : (v : World) (op : OpId) (n : Memory) (place : Place) (token : OpId) (bytes : List ℕ) (b : BlkId) (f : FileId) (rows : List NewRow)
-    (is : Bool) → is ≡ true
+made_knows : (v : World) (op : OpId) (n : Memory) (place : Place) (token : OpId) (bytes : List ℕ) (b : BlkId) (f : FileId)
+    (rows : List NewRow) (is : Bool) → is ≡ true
     → HasPut v op record { token = token; bytes = bytes; hold = record { blk = b; hold = own_hold op; file = f } }
     record { blk = b; rows = rows } 0
     → NextKnows append_known
@@ -169,7 +169,8 @@ make_waits f token bytes p = record {
 -- ---- a chunk is put
 
 -- it is stored, since no chunk stands there
-put_stored : (s : Store) (c : ChunkKey) (bytes : List ℕ) → get s.chunks c ≡ None → is_stored (store_reply s (any.Disk (disks.Put c bytes))) ≡ true
+put_stored : (s : Store) (c : ChunkKey) (bytes : List ℕ) → get s.chunks c ≡ None
+    → is_stored (store_reply s (any.Disk (disks.Put c bytes))) ≡ true
 put_stored s c bytes none = rw none refl
 
 module _ (w : World) (op : OpId) (a : Appending) (p : Putting) (k : PutKnows w op a p) where
@@ -222,7 +223,8 @@ put_waits a p = record {
   looks = λ c m op. refl;
   undecided = refl;
   meets = λ c w op m r actor k.
-      plain w op m _ refl (put_needs w op a p k) (put_own op m p.chunk a.bytes (chunk_own w op a p.made (k.puts).block p.at p.chunk k.next));
+      plain w op m _ refl (put_needs w op a p k)
+      (put_own op m p.chunk a.bytes (chunk_own w op a p.made (k.puts).block p.at p.chunk k.next));
   stays = λ by w v op m l apart k. record { puts = puts_stay by w v op l apart a p.made p.at k.puts; next = k.next };
   goes_on = λ c w op m n r actor k kept serial.
       let q : AnyReq = any.Disk (disks.Put p.chunk a.bytes) in

@@ -6,3 +6,4 @@ pub mod Chunks
 pub mod RowHolds
 pub mod Append
 pub mod Read
+pub mod Begins

@@ -115,8 +115,10 @@ module _ (v : World) (op : OpId) (m : Memory) where
 
   fetching_knows : (place : Place) (r : Reading) (b : BlkId) (o : Option Location) → ReadsSealed v op r → is_sealed v b ≡ true
       → BlockTaught v b o
-      → NextKnows read_known (settled op None (next_decided read_deciding (begins_fetching place r b o)) v) op m (begins_fetching place r b o)
-  fetching_knows place r b None k is none = absurd (let f : false ≡ true = sym (ap (λ (o : Option Block). is_some (sealed_length o)) none) ∙ is in cc)
+      → NextKnows read_known (settled op None (next_decided read_deciding (begins_fetching place r b o)) v) op m
+      (begins_fetching place r b o)
+  fetching_knows place r b None k is none =
+      absurd (let f : false ≡ true = sym (ap (λ (o : Option Block). is_some (sealed_length o)) none) ∙ is in cc)
   fetching_knows place r b (Some x) k is taught =
       first_knows place r b x.rows k taught.some (taught.stored (is_whole x b x.sealed refl taught is))
 
@@ -124,7 +126,8 @@ module _ (v : World) (op : OpId) (m : Memory) where
   got_knows : (place : Place) (r : Reading) (t : Fetching) (o : Option (Items ℕ)) → ReadsSealed v op r
       → is_some (get v.store.chunks t.chunk) ≡ true → GotTaught v t.chunk o
       → NextKnows read_known (settled op None (next_decided read_deciding (got place r t o)) v) op m (got place r t o)
-  got_knows place r t None k is none = absurd (let f : false ≡ true = sym (ap (λ (o : Option (Items ℕ)). is_some o) none) ∙ is in cc)
+  got_knows place r t None k is none =
+      absurd (let f : false ≡ true = sym (ap (λ (o : Option (Items ℕ)). is_some o) none) ∙ is in cc)
   got_knows place r t (Some bytes) k is taught =
       read_on_knows record { parts = r.parts; at = r.at + 1; bytes = r.bytes ++ bytes } record { new = k.new; parts = k.parts }
 

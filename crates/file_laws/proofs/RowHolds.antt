@@ -54,7 +54,8 @@ module _ (op : OpId) (m : Memory) where
   other_block x b mine other = grind (arith, block_keys)
 
   pub new_block_own : (c : Class) (n : ℕ) (f : FileId) (rs : List NewRow) → ((t : Tag) → is_some (disk_at rs t) ≡ true → t.op ≡ op)
-      → Within (touched_by (any.Block (blocks.MakeBlock record { 0 = object_number op.actor m.serial } c n f (own_hold op) rs))) (by_op op m)
+      → Within (touched_by (any.Block (blocks.MakeBlock record { 0 = object_number op.actor m.serial } c n f (own_hold op) rs)))
+      (by_op op m)
   new_block_own c n f rs own = record {
     hold = λ h o. refl;
     made = λ n o. refl;

@@ -1,6 +1,6 @@
 -- the rows that a block is made with: one for each copy, on different disks, with different tags of the op
-use Rattle.std.proofs.Common.{◌≡◌, ℕ, zero, suc, ◌+◌, ◌*◌, ◌/◌, ◌%◌, ◌<◌, ◌≤◌, length, Bool, true, false, if◌then◌else◌, is_some, Some, None}
-use Rattle.std.proofs.Common.{refl, ap, arith}
+use Rattle.std.proofs.Common.{◌≡◌, ℕ, zero, suc, ◌+◌, ◌*◌, ◌/◌, ◌%◌, ◌<◌, ◌≤◌, length, Bool, true, false, if◌then◌else◌}
+use Rattle.std.proofs.Common.{is_some, Some, None, refl, ap, arith}
 use Rattle.std.proofs.lemmas.Nat.{div-add-mod', mul-le, row_fits}
 use Rattle.tect_ids.specs.declared.ids.OpId.{OpId}
 use Rattle.tect_ids.specs.declared.ids.Tag.{Tag}
