@@ -2,43 +2,58 @@
 use Rattle.std.proofs.Common.{◌≡◌, ℕ, ◌≤◌, nat_lt, List, Bool, true, false, if◌then◌else◌, Option, Some, None, refl, arith}
 use Rattle.std.specs.FinMap.{get}
 use Rattle.tect_ids.specs.declared.ids.Counts.{Counts}
+use Rattle.tect_ids.specs.declared.ids.DirId.{DirId}
 use Rattle.tect_ids.specs.declared.ids.OpId.{OpId}
 use Rattle.tect_ids.specs.declared.answer.Answer.TheVariants as answers
+use Rattle.tect_ids.specs.declared.command.Command.{Command}
+use Rattle.program_forms.specs.Appends.{command_bytes}
 use Rattle.program_forms.specs.Memories.{Memory, OpenedFile}
 use Rattle.program_parts.specs.declared.next.Next.TheVariants.{Goes, Comes}
 use Rattle.file_rules.specs.declared.states.Append.TheVariants.{Make}
 use Rattle.file_rules.specs.Placing.{copies_of, spread_of}
 use Rattle.file_rules.specs.Open.{open_starts}
-use Rattle.file_rules.specs.Append.{append_begins}
+use Rattle.file_rules.specs.Append as appends
 use Rattle.file_rules.specs.Blocks.{blocks_starts}
 use Rattle.file_rules.specs.Read.{read_starts}
 use Rattle.store_pasts.specs.Worlds.{World}
-use Rattle.program_laws.specs.Known.{IsNewOp, Remembers}
+use Rattle.program_laws.specs.Known.{IsNewOp, HasSaid, Remembers}
 use Rattle.part_laws.specs.Parts.{NextKnows}
-use Rattle.part_laws.specs.Walks.{BeginsLaws}
-use Rattle.file_laws.specs.Begins.{AppendBegins}
+use Rattle.part_laws.specs.Walks.{OnItsWay, BeginsLaws}
 use Rattle.file_laws.specs.Known.{open_known, open_deciding, append_known, blocks_known, blocks_deciding, read_known, read_deciding}
 
 -- ---- after a walk
 
-pub open_begins : (path : List (List ℕ)) → BeginsLaws (open_starts path) open_deciding open_known
-open_begins path = record {
+pub open_begins : (w : World) (op : OpId) (m : Memory) (path : List (List ℕ)) (n : List ℕ) (d : DirId) → OnItsWay w op m d
+    → open_known.Knows w op m (open_starts path n d)
+open_begins w op m path n d k = k.new
+
+pub blocks_begins : (w : World) (op : OpId) (m : Memory) (n : List ℕ) (d : DirId) → OnItsWay w op m d
+    → blocks_known.Knows w op m (blocks_starts n d)
+blocks_begins w op m n d k = k.new
+
+pub read_begins : (w : World) (op : OpId) (m : Memory) (n : List ℕ) (d : DirId) → OnItsWay w op m d
+    → read_known.Knows w op m (read_starts n d)
+read_begins w op m n d k = k.new
+
+-- undecided
+pub open_begins_laws : (path : List (List ℕ)) → BeginsLaws (open_starts path) open_deciding open_known
+open_begins_laws path = record {
   undecided = λ n d. refl;
-  knows = λ w op m n d k. k.new;
+  knows = λ w op m n d k. open_begins w op m path n d k;
   plain = λ w a e. e;
 }
 
-pub blocks_begins : BeginsLaws blocks_starts blocks_deciding blocks_known
-blocks_begins = record {
+pub blocks_begins_laws : BeginsLaws blocks_starts blocks_deciding blocks_known
+blocks_begins_laws = record {
   undecided = λ n d. refl;
-  knows = λ w op m n d k. k.new;
+  knows = blocks_begins;
   plain = λ w a e. e;
 }
 
-pub read_begins : BeginsLaws read_starts read_deciding read_known
-read_begins = record {
+pub read_begins_laws : BeginsLaws read_starts read_deciding read_known
+read_begins_laws = record {
   undecided = λ n d. refl;
-  knows = λ w op m n d k. k.new;
+  knows = read_begins;
   plain = λ w a e. e;
 }
 
@@ -68,11 +83,13 @@ module _ (c : Counts) (w : World) (op : OpId) (m : Memory) (bytes : List ℕ) (n
   }
 
   opened_begins : (path : List (List ℕ)) (o : Option OpenedFile) → get m.opened path ≡ o
-      → NextKnows append_known w op m (append_begins c bytes o)
+      → NextKnows append_known w op m (appends.append_begins c bytes o)
   opened_begins path None is = refl
   opened_begins path (Some o) is = made_begins path o is (nat_lt c.disks (copies_of c)) refl
 
 -- an append begins where its op has said what its command appends
-pub append_knows : AppendBegins
-append_knows c w op m k path bytes is new said r left =
-    opened_begins c w op m bytes new (said bytes is) r left path (get m.opened path) refl
+pub append_begins : (c : Counts) (w : World) (op : OpId) (m : Memory) (k : Command) (p : List (List ℕ)) (bytes : List ℕ)
+    → command_bytes k ≡ Some bytes → IsNewOp w op → HasSaid w op k → Remembers w op.actor m → m.serial ≤ op.number
+    → NextKnows append_known w op m (appends.append_starts c m p bytes)
+append_begins c w op m k p bytes is new said r left =
+    opened_begins c w op m bytes new (said bytes is) r left p (get m.opened p) refl

@@ -23,8 +23,8 @@ pub fn contents_are_lawful()
     ensures read { PartLaws read read_deciding read_known }
 {}
 
-/// An open, a list of blocks and a read begin with what a walk knows, undecided. An append begins with what it has to know, where its op has
-/// said the bytes and its actor's memory is true: the file that is open was made.
+/// An open, a list of blocks and a read begin with what a walk knows, undecided. An append begins with what it has to know, where its op
+/// has said the bytes and its actor's memory is true: the file that is open was made.
 pub fn contents_begin_lawfully()
     ensures opening { (path : List (List ℕ)) → BeginsLaws (open_starts path) open_deciding open_known }
     ensures append { AppendBegins }
