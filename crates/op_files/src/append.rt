@@ -8,9 +8,10 @@ ghost use Rattle.store_rules.specs.Places.{request_place};
 ghost use Rattle.store_rules.specs.Views.{is_made, is_stored, is_block_sealed, as_attached};
 ghost use Rattle.tect_calls.specs.Readings.{given_if, new_block};
 ghost use Rattle.memories.specs.Knowing.{number_for};
-ghost use Rattle.file_rules.specs.declared.states.Append.TheVariants.{Put, Attach};
+ghost use Rattle.file_rules.specs.declared.states.Append.TheVariants.{Put};
 ghost use Rattle.file_rules.specs.Append.{append_starts, append_asks, block_made, gives_up, is_lost, put, sealed, attached, append_hears};
 ghost use Rattle.file_rules.specs.Placing.{new_rows};
+ghost use Rattle.op_files.specs.OneBlock.{IsOfOneBlock};
 ghost use Rattle.op_files.specs.Shards.{blk_shard};
 
 use crate::places::{place_of_blk, place_of_disk, place_of_file};
@@ -71,8 +72,9 @@ pub fn start(memory: &Memory, path: &PathKey, bytes: Bytes) -> Next<Append, Answ
     }
 }
 
-/// Its request, as that op.
+/// Its request, as that op. The hold is at the block that was made: so it is at the start, and stays so at each reply.
 pub fn ask(append: &Append, memory: &Memory, op: OpId) -> Result<Asked, NoMemory>
+    requires { IsOfOneBlock append.now }
     ensures { IfOk result (λ asked. asked ≡ append_asks op (number_for memory.now op) append.now) }
 {
     match append {
@@ -118,15 +120,13 @@ fn ask_make(
     ))
 }
 
-// The attach of the block. It is the one that is held: there is none where these differ.
+// The attach of the block, which is the one that is held.
 fn ask_attach(appending: &Appending, sealed: &BlockSealed) -> Result<Asked, NoMemory>
+    requires { appending.now.hold.blk ≡ sealed.now }
     ensures { IfOk result (λ asked. asked ≡ any.File (files.Attach appending.now.hold.file appending.now.token sealed.now
         (length appending.now.bytes) appending.now.hold.hold)) }
 {
     let hold = &appending.hold;
-    if hold.blk() != sealed.blk() {
-        return Err(NoMemory);
-    }
     Ok(file_attach(
         hold.file(),
         appending.token,
@@ -173,9 +173,9 @@ pub fn hear(
             let place = place_of_blk(memory, sealing.made().blk());
             Ok(hear_seal(appending, sealing, place, reply))
         }
-        Append::Attach { appending, sealed } => {
+        Append::Attach { appending, .. } => {
             let place = place_of_file(memory, appending.hold.file());
-            hear_attach(appending, sealed, place, reply)
+            Ok(hear_attach(appending, place, reply))
         }
         Append::Release { answer, .. } => Ok(Next::Comes { result: answer }),
     }
@@ -282,25 +282,19 @@ fn hear_seal(
     }
 }
 
-fn hear_attach(
-    appending: Appending,
-    sealed: BlockSealed,
-    place: Place,
-    reply: &AnyReply,
-) -> Result<Next<Append, Answer>, Append>
-    ensures ok { IfOk result (λ next. next ≡ attached place appending reply.now (as_attached reply.now)) }
-    ensures err { IfErr result (λ same. same ≡ Attach appending sealed) }
+fn hear_attach(appending: Appending, place: Place, reply: &AnyReply) -> Next<Append, Answer>
+    ensures { result ≡ attached place appending reply.now (as_attached reply.now) }
 {
     match tect_calls::attached(reply) {
-        Some(index) => Ok(Next::Comes {
+        Some(index) => Next::Comes {
             result: Answer::Appended {
                 blk: appending.hold.blk(),
                 index,
             },
-        }),
-        None => match file_refused(place, appending.hold.file(), reply) {
-            Ok(answer) => Ok(give_up(appending.hold, answer)),
-            Err(NoMemory) => Err(Append::Attach { appending, sealed }),
         },
+        None => {
+            let answer = file_refused(place, appending.hold.file(), reply);
+            give_up(appending.hold, answer)
+        }
     }
 }

@@ -5,10 +5,10 @@ ghost use Rattle.file_rules.specs.declared.states.Blocks.TheVariants.{List as Li
 ghost use Rattle.file_rules.specs.Blocks.{blocks_starts, blocks_asks, listed, blocks_hears};
 
 use crate::places::{place_of_dir, place_of_file};
-use crate::refusals::{file_refused, refused};
+use crate::refusals::file_refused;
 use file_rules::Blocks;
 use memories::Memory;
-use program_parts::Next;
+use program_parts::{Next, refused};
 use store_rules::AnyReply;
 use tect_calls::{Asked, file_list_blocks, name_look};
 use tect_ids::{Answer, DirId, FileId, Key, Name, NoMemory, Node, Place};
@@ -57,7 +57,7 @@ fn hear_list(file: FileId, place: Place, reply: &AnyReply) -> Result<Next<Blocks
     ensures { IfOk result (λ next. next ≡ listed place file reply.now (as_block_list reply.now)) }
 {
     let answer = match reply.as_block_list() {
-        None => file_refused(place, file, reply)?,
+        None => file_refused(place, file, reply),
         Some(rows) => Answer::Blocks {
             rows: rows.clone()?,
         },

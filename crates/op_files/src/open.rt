@@ -7,10 +7,10 @@ ghost use Rattle.file_rules.specs.declared.states.Open.TheVariants.{Take};
 ghost use Rattle.file_rules.specs.Open.{open_starts, open_asks, taken, open_hears, open_learns};
 
 use crate::places::{place_of_dir, place_of_file};
-use crate::refusals::{file_refused, refused};
+use crate::refusals::file_refused;
 use file_rules::Open;
 use memories::{Memory, PathKey};
-use program_parts::Next;
+use program_parts::{Next, refused};
 use store_rules::AnyReply;
 use tect_calls::{Asked, file_take_token, name_look};
 use tect_ids::{Answer, DirId, FileId, Key, Name, NoMemory, Node, OpId, Place};
@@ -79,7 +79,7 @@ fn hear_take(
     ensures unchanged { OnErr result (memory.new ≡ memory.old) }
 {
     match tect_calls::opened(file, reply) {
-        None => file_refused(place, file, reply),
+        None => Ok(file_refused(place, file, reply)),
         Some(made) => {
             let path = PathKey::new(path.path().clone()?);
             memory.keep_opened(path, made, op)?;

@@ -6,10 +6,10 @@ ghost use Rattle.file_rules.specs.Read.{read_starts, read_asks, begins_reading, 
 ghost use Rattle.file_rules.specs.Read as rules;
 
 use crate::places::{place_of_blk, place_of_dir, place_of_disk, place_of_file};
-use crate::refusals::{file_refused, refused};
+use crate::refusals::file_refused;
 use file_rules::{Fetching, Gathered, Read, Reading, placed_chunks};
 use memories::Memory;
-use program_parts::Next;
+use program_parts::{Next, refused};
 use std::alloc::Global;
 use store_rules::AnyReply;
 use tect_calls::{Asked, block_get_block, disk_get, file_list_blocks, name_look};
@@ -73,7 +73,7 @@ fn hear_list(
 {
     match reply.as_block_list() {
         None => Ok(Next::Comes {
-            result: file_refused(place, file, reply)?,
+            result: file_refused(place, file, reply),
         }),
         Some(parts) => Ok(Reading::begin(alloc, parts.clone()?)),
     }
