@@ -1,17 +1,9 @@
 -- appending: a block is made of the command's bytes, and its attach decides
 use Rattle.std.proofs.Common.{◌≡◌, ℕ, ◌+◌, Bool, true, false, List, [], ◌∷◌, ◌++◌}
-<<<<<<< HEAD
-use Rattle.std.proofs.Common.{length, Option, Some, None, refl, ap, ◌∙◌, arith, inl, inr}
-use Rattle.std.specs.List.{slice_get}
-use Rattle.tect_ids.specs.declared.ids.BlkId.{BlkId}
-use Rattle.tect_ids.specs.declared.ids.Counts.{Counts}
-use Rattle.tect_ids.specs.declared.ids.DirId.{DirId}
-=======
 use Rattle.std.proofs.Common.{length, Option, Some, None, refl, ap, ◌∙◌, arith, inr}
 use Rattle.std.specs.List.{slice_get}
 use Rattle.tect_ids.specs.declared.ids.BlkId.{BlkId}
 use Rattle.tect_ids.specs.declared.ids.Counts.{Counts}
->>>>>>> origin/main
 use Rattle.tect_ids.specs.declared.ids.FileId.{FileId}
 use Rattle.tect_ids.specs.declared.ids.Hold.{Hold}
 use Rattle.tect_ids.specs.declared.ids.OpId.{OpId}
@@ -20,10 +12,6 @@ use Rattle.tect_ids.specs.declared.key.ChunkKey.{ChunkKey}
 use Rattle.tect_ids.specs.declared.values.Class.TheVariants.{Copies}
 use Rattle.tect_ids.specs.declared.values.NewRow.{NewRow}
 use Rattle.tect_ids.specs.declared.command.Command.{Command}
-<<<<<<< HEAD
-use Rattle.tect_ids.specs.declared.command.Command.TheVariants as commands
-=======
->>>>>>> origin/main
 use Rattle.tect_ids.specs.declared.answer.Answer.{Answer}
 use Rattle.tect_ids.specs.declared.answer.Answer.TheVariants as answers
 use Rattle.tect_ids.specs.Keys.{blk_eq}
@@ -38,11 +26,7 @@ use Rattle.store_rules.specs.declared.any.AnyReply.{AnyReply}
 use Rattle.store_rules.specs.Holds.{RowGrant}
 use Rattle.store_rules.specs.Places.{request_place}
 use Rattle.store_rules.specs.Store.{opening_store}
-<<<<<<< HEAD
-use Rattle.store_rules.specs.Views.{is_made, is_stored, is_block_sealed, as_attached}
-=======
 use Rattle.store_rules.specs.Views.{is_made, as_attached}
->>>>>>> origin/main
 use Rattle.tree_model.specs.declared.step.TreeStep.TheVariants as step
 use Rattle.tect_calls.specs.MadeBlocks.{NewBlock, chunks_of}
 use Rattle.tect_calls.specs.Readings.{given_if, new_block}
@@ -52,22 +36,13 @@ use Rattle.file_rules.specs.declared.states.Append.TheVariants.{Make, Put, Seal,
 use Rattle.file_rules.specs.declared.states.Appending.{Appending}
 use Rattle.file_rules.specs.Append.{append, put_next, put_on, block_made, put, sealed, attached}
 use Rattle.file_rules.specs.Finds.{file_refusal}
-<<<<<<< HEAD
-use Rattle.file_rules.specs.Placing.{Spread, new_rows}
-=======
 use Rattle.file_rules.specs.Placing.{new_rows}
->>>>>>> origin/main
 use Rattle.file_rules.specs.Stages.{Putting}
 use Rattle.world_runs.specs.declared.event.Event.{Event}
 use Rattle.world_runs.specs.OwnRuns.{stored_after}
 use Rattle.claim_words.specs.Commands.{or_later, maker_by, maker_of, said_by, bytes_by, content_of, content_in, or_nothing}
-<<<<<<< HEAD
-use Rattle.claim_words.specs.Points.{way, Walked, Attaches, file_key}
-use Rattle.claim_words.specs.TreeSteps.{Told, says}
-=======
 use Rattle.claim_words.specs.Points.{of_op, Walked, Attaches, file_key}
 use Rattle.claim_words.specs.TreeSteps.{Told, says, tree_steps}
->>>>>>> origin/main
 use Rattle.telling_laws.specs.Parts.{NextTells, PartTells}
 use Rattle.telling_laws.specs.Telling.{Tells}
 use Rattle.telling_laws.proofs.Contents.{content_stays, maker_more, said_more}
@@ -189,11 +164,7 @@ module _ (counts : Counts) where
     content = ap or_nothing t.made
 
     at_root : WalkedTo h op c root []
-<<<<<<< HEAD
-    at_root = rw (t.appends).is (no_way _)
-=======
     at_root = rw (t.appends).is (no_way (of_op op (tree_steps h)))
->>>>>>> origin/main
 
     module _ (run : Allows h (act_at h op attach how)) where
       ends : (answer : Answer) → Attaches (file_key file) b (says x) answer → files_why counts more op c answer

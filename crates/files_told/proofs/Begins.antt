@@ -1,9 +1,5 @@
 -- how each command on the contents of files begins: behind its walk, or at once
-<<<<<<< HEAD
-use Rattle.std.proofs.Common.{◌≡◌, ℕ, ◌+◌, ◌<◌, Bool, true, false, if◌then◌else◌, nat_lt, Option, Some, None, List, [], ◌∷◌, ◌++◌, length}
-=======
 use Rattle.std.proofs.Common.{◌≡◌, ℕ, ◌+◌, ◌<◌, Bool, true, false, if◌then◌else◌, nat_lt, Option, Some, None, List, [], ◌∷◌, ◌++◌}
->>>>>>> origin/main
 use Rattle.std.proofs.Common.{refl, sym, ap, ◌∙◌, arith, inl, inr}
 use Rattle.std.specs.FinMap.{get}
 use Rattle.tect_ids.specs.declared.ids.Counts.{Counts}
@@ -29,10 +25,6 @@ use Rattle.world_runs.specs.declared.event.Event.{Event}
 use Rattle.world_runs.specs.declared.event.Event.TheVariants.{Own, Dumped}
 use Rattle.world_runs.specs.declared.event.Happening.TheVariants.{Began, NotBegun, Acted, Ended, Stopped, Failed}
 use Rattle.claim_words.specs.Commands.{or_later, begun_by, command_of, said_by, said_in}
-<<<<<<< HEAD
-use Rattle.claim_words.specs.FilesBecause.{WasNotOpen}
-=======
->>>>>>> origin/main
 use Rattle.claim_words.specs.Opened.{opened_in}
 use Rattle.claim_words.specs.Points.{of_op, Walked}
 use Rattle.claim_words.specs.TreeSteps.{tree_steps}
@@ -41,15 +33,9 @@ use Rattle.fall_laws.specs.Parts.{next_left}
 use Rattle.telling_laws.specs.Parts.{NextTells}
 use Rattle.telling_laws.proofs.Contents.{said_more}
 use Rattle.telling_laws.proofs.Histories.{itself}
-<<<<<<< HEAD
-use Rattle.files_told.specs.FilesTelling.{CameFor, Appends, OpenBefore, BlocksBefore}
-use Rattle.files_told.specs.FilesTelling.{ReadBefore, append_deciding, append_telling, append_left}
-use Rattle.files_told.specs.FilesTelling.{files_why, others}
-=======
 use Rattle.files_told.specs.FilesTelling.{Appends, OpenBefore, BlocksBefore}
 use Rattle.files_told.specs.FilesTelling.{ReadBefore, append_deciding, append_telling, append_left}
 use Rattle.files_told.specs.FilesTelling.{others}
->>>>>>> origin/main
 
 -- ---- behind a walk
 
@@ -115,13 +101,8 @@ module _ (counts : Counts) (h : List Event) (op : OpId) (p : List (List ℕ)) (b
       said_now : said_by (Own op (Began c)) op ≡ Some bytes
       said_now = rw (itself op) refl
 
-<<<<<<< HEAD
-  few_disks : (b : Bool) → nat_lt counts.disks (copies_of counts) ≡ b → b ≡ true → counts.disks < copies_of counts
-  few_disks b e yes = grind (arith, e, yes)
-=======
   few_disks : nat_lt counts.disks (copies_of counts) ≡ true → counts.disks < copies_of counts
   few_disks less = grind (arith, less)
->>>>>>> origin/main
 
   begins_tells : command_of h op ≡ None → (o : Option OpenedFile) → get (opened_in h op.actor) p ≡ o
       → NextTells append_deciding (append_telling counts) then_begun op c (append_begins counts bytes o)
@@ -134,11 +115,7 @@ module _ (counts : Counts) (h : List Event) (op : OpId) (p : List (List ℕ)) (b
       spread_tells : (b : Bool) → nat_lt counts.disks (copies_of counts) ≡ b
           → NextTells append_deciding (append_telling counts) then_begun op c
           (if b then Comes few else Goes (appending.Make o.file o.token bytes (spread_of counts)))
-<<<<<<< HEAD
-      spread_tells true is = inl (inr (inr (few_disks true is refl, refl)))
-=======
       spread_tells true is = inl (inr (inr (few_disks is, refl)))
->>>>>>> origin/main
       spread_tells false is = appends new
 
   pub append_tells_as_it_begins : (m : Memory) → command_of h op ≡ None → m.opened ≡ opened_in h op.actor

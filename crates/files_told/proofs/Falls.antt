@@ -1,12 +1,7 @@
 -- each part of commands on the contents of files takes few transactions
 use Rattle.std.proofs.Common.{◌≡◌, ℕ, zero, suc, ◌+◌, ◌-◌, ◌<◌, ◌≤◌, Bool, true}
-<<<<<<< HEAD
-use Rattle.std.proofs.Common.{false, is_some, Option, Some, None, List, [], ◌∷◌, length, map}
-use Rattle.std.proofs.Common.{◌++◌, refl, sym, ap, ◌∙◌, arith}
-=======
 use Rattle.std.proofs.Common.{false, Option, Some, None, List, [], length}
 use Rattle.std.proofs.Common.{◌++◌, refl, ap, ◌∙◌, arith}
->>>>>>> origin/main
 use Rattle.std.proofs.lemmas.List.{length-map}
 use Rattle.std.proofs.lemmas.Option.{slice_get_within}
 use Rattle.std.specs.List.{slice_get, filter}
@@ -20,10 +15,6 @@ use Rattle.tect_ids.specs.declared.ids.Place.{Place}
 use Rattle.tect_ids.specs.declared.key.ChunkKey.{ChunkKey}
 use Rattle.tect_ids.specs.declared.key.Key.{Key}
 use Rattle.tect_ids.specs.declared.values.Location.{Location}
-<<<<<<< HEAD
-use Rattle.tect_ids.specs.declared.values.NewRow.{NewRow}
-=======
->>>>>>> origin/main
 use Rattle.tect_ids.specs.declared.values.RowPart.{RowPart}
 use Rattle.tect_ids.specs.Numbers.{object_number, own_hold}
 use Rattle.store_rules.specs.declared.any.AnyReq.{AnyReq}
@@ -33,14 +24,8 @@ use Rattle.store_rules.specs.Places.{request_place}
 use Rattle.store_rules.specs.Views.{as_found, as_block_list, as_location, as_bytes}
 use Rattle.store_rules.specs.Views.{as_attached, is_made, is_stored, is_block_sealed, is_opened}
 use Rattle.tect_calls.specs.MadeBlocks.{NewBlock, chunk_of, chunks_of}
-<<<<<<< HEAD
-use Rattle.tect_calls.specs.Readings.{given_if, new_block}
-use Rattle.program_forms.specs.Memories.{Memory}
-use Rattle.program_parts.specs.declared.next.Next.TheVariants.{Goes, Comes}
-=======
 use Rattle.tect_calls.specs.Readings.{given_if}
 use Rattle.program_forms.specs.Memories.{Memory}
->>>>>>> origin/main
 use Rattle.file_rules.specs.declared.states.Append.{Append}
 use Rattle.file_rules.specs.declared.states.Append.TheVariants as appending
 use Rattle.file_rules.specs.declared.states.Appending.{Appending}
@@ -59,11 +44,7 @@ use Rattle.file_rules.specs.Read.{read, read_asks, located, read_on, begins_read
 use Rattle.file_rules.specs.Stages.{Putting, Reading, Fetching}
 use Rattle.fall_laws.specs.Counting.{is_look}
 use Rattle.fall_laws.specs.Bounding.{Many, AtMost, none}
-<<<<<<< HEAD
-use Rattle.fall_laws.specs.Parts.{PartBounding, PartFalls, Takes, plus, next_left}
-=======
 use Rattle.fall_laws.specs.Parts.{PartFalls, Takes, plus, next_left}
->>>>>>> origin/main
 use Rattle.fall_laws.proofs.PartsFall.{FallsIn, part_falls, waits_fall}
 use Rattle.files_told.specs.FilesTelling.{others, behind, open_left, append_left}
 use Rattle.files_told.specs.FilesTelling.{blocks_left, read_left, listed_more, located_more, read_grows}

@@ -32,11 +32,7 @@ use Rattle.claim_words.specs.Commands.{content_in}
 use Rattle.claim_words.specs.Points.{of_op, FindsNoFile, Decides}
 use Rattle.claim_words.specs.TreeSteps.{Told, tree_step, says, tree_steps}
 use Rattle.telling_laws.specs.Parts.{NextTells}
-<<<<<<< HEAD
-use Rattle.telling_laws.specs.Telling.{Telling, Tells}
-=======
 use Rattle.telling_laws.specs.Telling.{Tells}
->>>>>>> origin/main
 use Rattle.telling_laws.proofs.Replies.{RefusesSo, look_some, look_none}
 use Rattle.telling_laws.proofs.Steps.{reply_at, act_at, Allows, WalkedTo, over_then, saw_then, saw_now, decides_now}
 use Rattle.files_told.specs.FilesTelling.{CameFor, FoundFile, files_why}

@@ -1,17 +1,9 @@
 -- the blocks of a listing, and their bytes: those of the first ones, one more, and all; and that they stay
-<<<<<<< HEAD
-use Rattle.std.proofs.Common.{◌≡◌, ℕ, zero, suc, ◌+◌, true, false, Option, Some}
-use Rattle.std.proofs.Common.{None, is_some, List, [], ◌∷◌, ◌++◌, map, take, length, nat_lt}
-use Rattle.std.proofs.Common.{refl, sym, ap, subst, ◌∙◌, arith}
-use Rattle.std.proofs.lemmas.Grind.{flat_map-append}
-use Rattle.std.proofs.lemmas.List.{append-nil, length-map}
-=======
 use Rattle.std.proofs.Common.{◌≡◌, ℕ, zero, suc, ◌+◌, true, false, Some}
 use Rattle.std.proofs.Common.{None, is_some, List, [], ◌∷◌, ◌++◌, map, take, length, nat_lt}
 use Rattle.std.proofs.Common.{refl, sym, ap, subst, ◌∙◌, arith}
 use Rattle.std.proofs.lemmas.Grind.{flat_map-append}
 use Rattle.std.proofs.lemmas.List.{append-nil}
->>>>>>> origin/main
 use Rattle.std.proofs.Math.Seq.{take-length}
 use Rattle.std.specs.FinMap.{get}
 use Rattle.std.specs.List.{slice_get, flat_map}

@@ -1,9 +1,5 @@
 -- reading: the look, or the listing, decides where it is refused, and else the tree says the bytes that were read at the listing
-<<<<<<< HEAD
-use Rattle.std.proofs.Common.{◌≡◌, ℕ, ◌+◌, true, List as Items, [], ◌∷◌, ◌++◌, length, take, map, Option, Some, None, is_some}
-=======
 use Rattle.std.proofs.Common.{◌≡◌, ℕ, ◌+◌, List as Items, [], ◌∷◌, ◌++◌, length, Option, Some, None}
->>>>>>> origin/main
 use Rattle.std.proofs.Common.{refl, sym, ap, subst, ◌∙◌, inl, inr}
 use Rattle.std.proofs.lemmas.List.{append-nil, length-map}
 use Rattle.std.specs.FinMap.{get}
@@ -35,10 +31,6 @@ use Rattle.store_rules.specs.Names.{key_in}
 use Rattle.store_rules.specs.Places.{request_place}
 use Rattle.store_rules.specs.Store.{Store, opening_store}
 use Rattle.store_rules.specs.Views.{as_block_list, as_location, as_bytes}
-<<<<<<< HEAD
-use Rattle.tree_model.specs.declared.step.TreeFile.{TreeFile}
-=======
->>>>>>> origin/main
 use Rattle.tree_model.specs.declared.step.TreeStep.TheVariants as step
 use Rattle.tree_model.specs.declared.step.StepValue.TheVariants as shown
 use Rattle.tree_model.specs.declared.step.TreeReply.TheVariants.{Ok}
@@ -58,11 +50,7 @@ use Rattle.claim_words.specs.TreeSteps.{says, told_of, tree_steps, tree_after}
 use Rattle.telling_laws.specs.Parts.{NextTells, PartTells}
 use Rattle.telling_laws.specs.Telling.{IsSeen, tree_of}
 use Rattle.telling_laws.specs.View.{shown_file}
-<<<<<<< HEAD
-use Rattle.telling_laws.proofs.Contents.{content_stays, known_stays}
-=======
 use Rattle.telling_laws.proofs.Contents.{known_stays}
->>>>>>> origin/main
 use Rattle.telling_laws.proofs.Histories.{steps_more, tree_after-append}
 use Rattle.telling_laws.proofs.Steps.{reply_at, act_at, Allows, over_then, saw_then, saw_now}
 use Rattle.telling_laws.proofs.PartsTell.{TellsIn, part_tells, waits_tell}
@@ -286,11 +274,7 @@ module _ (counts : Counts) where
     hears = λ h op c m how seen before run.
         let q : AnyReq = any.Block (blocks.GetBlock b) in
         begins_fetching_tells (h ++ act_at h op q how ∷ []) op c (request_place counts q) r b
-<<<<<<< HEAD
-        (still_reads h (act_at h op q how) op c r before.0) before.1 _;
-=======
         (still_reads h (act_at h op q how) op c r before.0) before.1 (as_location (reply_at h q));
->>>>>>> origin/main
     stays = λ h e op c other before. (still_reads h e op c r before.0, before.1);
     learns = λ h op c m x before. refl;
   }

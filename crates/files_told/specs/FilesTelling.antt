@@ -1,10 +1,6 @@
 -- What the history tells of each command on the contents of files before its answer is decided, and what explains the answer; and how many
 -- transactions such a command takes behind its walk.
-<<<<<<< HEAD
-use Rattle.std.specs.Prelude.{◌≡◌, ℕ, ◌+◌, ◌-◌, true, Option, Some, None, is_some, List, take, length, ◌⊎◌}
-=======
 use Rattle.std.specs.Prelude.{◌≡◌, ℕ, ◌+◌, ◌-◌, true, Option, Some, None, is_some, List, [], take, length, ◌⊎◌}
->>>>>>> origin/main
 use Rattle.std.specs.List.{slice_get, filter, flat_map}
 use Rattle.tect_ids.specs.declared.ids.BlkId.{BlkId}
 use Rattle.tect_ids.specs.declared.ids.Counts.{Counts}
@@ -39,11 +35,7 @@ use Rattle.file_rules.specs.Append.{append_decided}
 use Rattle.file_rules.specs.Blocks.{blocks_decided}
 use Rattle.file_rules.specs.Open.{open_decided}
 use Rattle.file_rules.specs.Read.{read_decided}
-<<<<<<< HEAD
-use Rattle.file_rules.specs.Stages.{Putting, Reading, Fetching}
-=======
 use Rattle.file_rules.specs.Stages.{Reading, Fetching}
->>>>>>> origin/main
 use Rattle.world_runs.specs.declared.event.Event.{Event}
 use Rattle.claim_words.specs.Because.{because}
 use Rattle.claim_words.specs.Commands.{said_in, content_of, content_in}
