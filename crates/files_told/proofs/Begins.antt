@@ -34,7 +34,8 @@ use Rattle.telling_laws.specs.Parts.{NextTells}
 use Rattle.telling_laws.proofs.Contents.{said_more}
 use Rattle.telling_laws.proofs.Histories.{itself}
 use Rattle.files_told.specs.FilesTelling.{Appends, OpenBefore, BlocksBefore}
-use Rattle.files_told.specs.FilesTelling.{ReadBefore, append_deciding, append_telling, append_left}
+use Rattle.file_laws.specs.Known.{append_deciding}
+use Rattle.files_told.specs.FilesTelling.{ReadBefore, append_telling, append_left}
 use Rattle.files_told.specs.FilesTelling.{others}
 
 -- ---- behind a walk

@@ -10,7 +10,7 @@ ghost use Rattle.file_rules.specs.Open.{opening};
 ghost use Rattle.file_rules.specs.Read.{read};
 ghost use Rattle.telling_laws.specs.Parts.{PartTells};
 ghost use Rattle.fall_laws.specs.Parts.{PartFalls};
-ghost use Rattle.files_told.specs.FilesTelling.{open_deciding, append_deciding, blocks_deciding, read_deciding};
+ghost use Rattle.file_laws.specs.Known.{open_deciding, append_deciding, blocks_deciding, read_deciding};
 ghost use Rattle.files_told.specs.FilesTelling.{open_telling, append_telling, blocks_telling, read_telling};
 ghost use Rattle.files_told.specs.FilesTelling.{open_bounding, append_bounding, blocks_bounding, read_bounding};
 
