@@ -1,0 +1,2 @@
+pub mod FilesTelling
+pub mod FilesBegin
