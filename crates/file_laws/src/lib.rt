@@ -1,4 +1,4 @@
-//! The commands on the contents of files keep the laws of parts. Nothing here is called: the function's contract is what they keep.
+//! The commands on the contents of files keep the laws of parts. Nothing here is called: the contracts of the functions are what they keep.
 #![tactic(auto)]
 
 ghost use Rattle.std.specs.Prelude.{ℕ, List};

@@ -48,7 +48,8 @@ use Rattle.telling_laws.specs.Telling.{Tells}
 use Rattle.telling_laws.proofs.Contents.{content_stays, maker_more, said_more}
 use Rattle.telling_laws.proofs.Steps.{reply_at, act_at, Allows, WalkedTo}
 use Rattle.telling_laws.proofs.PartsTell.{TellsIn, part_tells, waits_tell}
-use Rattle.files_told.specs.FilesTelling.{Appends, AppendsBlock, append_deciding, append_telling, files_why}
+use Rattle.file_laws.specs.Known.{append_deciding}
+use Rattle.files_told.specs.FilesTelling.{Appends, AppendsBlock, append_telling, files_why}
 use Rattle.files_told.proofs.Finding.{decided_now}
 use Rattle.files_told.proofs.Lasting.{why_lasts}
 use Rattle.files_told.proofs.Replies.{RefusesFile, attaches_no, attaches_yes, attach_some, attach_none, put_not_lost}

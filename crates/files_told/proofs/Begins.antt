@@ -10,8 +10,7 @@ use Rattle.tect_ids.specs.declared.command.Command.TheVariants as commands
 use Rattle.tect_ids.specs.declared.answer.Answer.{Answer}
 use Rattle.tect_ids.specs.declared.answer.Answer.TheVariants as answers
 use Rattle.tect_ids.specs.Keys.{op_eq}
-use Rattle.tect_ids.specs.Numbers.{root}
-use Rattle.tect_ids.specs.Paths.{but_last, last_name}
+use Rattle.tect_ids.specs.Paths.{last_name}
 use Rattle.program_forms.specs.Appends.{command_bytes}
 use Rattle.program_forms.specs.Memories.{Memory, OpenedFile}
 use Rattle.program_parts.specs.declared.next.Next.TheVariants.{Goes, Comes}
@@ -26,29 +25,29 @@ use Rattle.world_runs.specs.declared.event.Event.TheVariants.{Own, Dumped}
 use Rattle.world_runs.specs.declared.event.Happening.TheVariants.{Began, NotBegun, Acted, Ended, Stopped, Failed}
 use Rattle.claim_words.specs.Commands.{or_later, begun_by, command_of, said_by, said_in}
 use Rattle.claim_words.specs.Opened.{opened_in}
-use Rattle.claim_words.specs.Points.{of_op, Walked}
-use Rattle.claim_words.specs.TreeSteps.{tree_steps}
 use Rattle.fall_laws.specs.Bounding.{AtMost}
 use Rattle.fall_laws.specs.Parts.{next_left}
 use Rattle.telling_laws.specs.Parts.{NextTells}
 use Rattle.telling_laws.proofs.Contents.{said_more}
 use Rattle.telling_laws.proofs.Histories.{itself}
+use Rattle.files_told.specs.FilesBegin.{CameAlong, FilesBegin}
 use Rattle.files_told.specs.FilesTelling.{Appends, OpenBefore, BlocksBefore}
-use Rattle.files_told.specs.FilesTelling.{ReadBefore, append_deciding, append_telling, append_left}
+use Rattle.file_laws.specs.Known.{append_deciding}
+use Rattle.files_told.specs.FilesTelling.{ReadBefore, append_telling, append_left}
 use Rattle.files_told.specs.FilesTelling.{others}
 
 -- ---- behind a walk
 
 module _ (h : List Event) (op : OpId) (p : List (List ℕ)) (d : DirId) where
-  pub open_comes : Walked root (but_last p) (of_op op (tree_steps h)) d []
+  pub open_comes : CameAlong h op p d
       → OpenBefore h op (commands.Open p) (open_starts p (last_name p) d)
   open_comes walked = record { is = refl; walked = walked; last = refl }
 
-  pub blocks_comes : Walked root (but_last p) (of_op op (tree_steps h)) d []
+  pub blocks_comes : CameAlong h op p d
       → BlocksBefore h op (commands.Blocks p) (blocks_starts (last_name p) d)
   blocks_comes walked = (p, record { is = refl; walked = walked; last = refl })
 
-  pub read_comes : Walked root (but_last p) (of_op op (tree_steps h)) d [] → ReadBefore h op (commands.Read p) (read_starts (last_name p) d)
+  pub read_comes : CameAlong h op p d → ReadBefore h op (commands.Read p) (read_starts (last_name p) d)
   read_comes walked = (p, record { is = refl; walked = walked; last = refl })
 
 -- ---- an append, which has no walk
@@ -137,3 +136,14 @@ begun_leaves counts bytes (Some o) = by (nat_lt counts.disks (copies_of counts))
 pub append_leaves_as_it_begins : (counts : Counts) (m : Memory) (p : List (List ℕ)) (bytes : List ℕ)
     → AtMost (next_left append_left (append_starts counts m p bytes)) (others (copies_of counts + 4))
 append_leaves_as_it_begins counts m p bytes = begun_leaves counts bytes (get m.opened p)
+
+-- ---- all of them
+
+pub files_begin_so : (counts : Counts) → FilesBegin counts
+files_begin_so counts = record {
+  opens = open_comes;
+  lists = blocks_comes;
+  reads = read_comes;
+  appends = λ h op p bytes m new opened. append_tells_as_it_begins counts h op p bytes m new opened;
+  few = append_leaves_as_it_begins counts;
+}

@@ -29,7 +29,8 @@ use Rattle.claim_words.specs.TreeSteps.{says}
 use Rattle.telling_laws.specs.Parts.{NextTells, PartTells}
 use Rattle.telling_laws.proofs.Steps.{reply_at, act_at, Allows}
 use Rattle.telling_laws.proofs.PartsTell.{TellsIn, part_tells, waits_tell}
-use Rattle.files_told.specs.FilesTelling.{FoundFile, BlocksBefore, blocks_deciding, blocks_telling, files_why}
+use Rattle.file_laws.specs.Known.{blocks_deciding}
+use Rattle.files_told.specs.FilesTelling.{FoundFile, BlocksBefore, blocks_telling, files_why}
 use Rattle.files_told.proofs.Finding.{decided_now, still_came, still_found, found_tells}
 use Rattle.files_told.proofs.Lasting.{why_lasts}
 use Rattle.files_told.proofs.Replies.{RefusesFile, ListsFile, lists_no, lists_yes, list_some, list_none}

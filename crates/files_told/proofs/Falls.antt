@@ -53,17 +53,18 @@ use Rattle.files_told.specs.FilesTelling.{open_bounding, append_bounding, blocks
 -- ---- beside what is asked
 
 -- after a look
-by_look : (q : AnyReq) (after : Many) (n : ℕ) → is_look q ≡ true → AtMost after (others n) → Takes q after record { looks = 1; others = n }
+pub by_look : (q : AnyReq) (after : Many) (n : ℕ) → is_look q ≡ true → AtMost after (others n)
+    → Takes q after record { looks = 1; others = n }
 by_look q after n is l = record { looks = rw is (omega (arith, l.looks)); others = rw is (omega (arith, l.others)) }
 
 -- after another transaction
-by_other : (q : AnyReq) (after : Many) (n : ℕ) → is_look q ≡ false → AtMost after (others n) → Takes q after (others (n + 1))
+pub by_other : (q : AnyReq) (after : Many) (n : ℕ) → is_look q ≡ false → AtMost after (others n) → Takes q after (others (n + 1))
 by_other q after n is l = record { looks = rw is (omega (arith, l.looks)); others = rw is (omega (arith, l.others)) }
 
-nothing : (n : ℕ) → AtMost none (others n)
+pub nothing : (n : ℕ) → AtMost none (others n)
 nothing n = record { looks = omega arith; others = omega arith }
 
-fewer : (k n : ℕ) → k ≤ n → AtMost (others k) (others n)
+pub fewer : (k n : ℕ) → k ≤ n → AtMost (others k) (others n)
 fewer k n l = record { looks = omega arith; others = omega (arith, l) }
 
 -- a file that is found leaves that

@@ -55,7 +55,7 @@ files_last counts h es op (commands.Append p bytes) a (inl f) = inl (not_open_la
 files_last counts h es op (commands.Append p bytes) a (inr f) = inr f
 files_last counts h es op c a f = absurd f
 
-because_lasts : (counts : Counts) (h es : List Event) (op : OpId) (c : Command) (a : Answer) → because counts h op c a
+pub because_lasts : (counts : Counts) (h es : List Event) (op : OpId) (c : Command) (a : Answer) → because counts h op c a
     → because counts (h ++ es) op c a
 because_lasts counts h es op c a (inl (inl p)) =
     inl (inl (rw (steps_grow h es) (point_stays (tree_steps h) (steps_after h es) op c a p)))

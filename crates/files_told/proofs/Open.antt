@@ -30,7 +30,8 @@ use Rattle.claim_words.specs.TreeSteps.{says}
 use Rattle.telling_laws.specs.Parts.{NextTells, PartTells}
 use Rattle.telling_laws.proofs.Steps.{reply_at, act_at, Allows}
 use Rattle.telling_laws.proofs.PartsTell.{TellsIn, part_tells, waits_tell}
-use Rattle.files_told.specs.FilesTelling.{FoundFile, OpenBefore, open_deciding, open_telling, files_why}
+use Rattle.file_laws.specs.Known.{open_deciding}
+use Rattle.files_told.specs.FilesTelling.{FoundFile, OpenBefore, open_telling, files_why}
 use Rattle.files_told.proofs.Finding.{decided_now, still_came, still_found, found_tells}
 use Rattle.files_told.proofs.Lasting.{why_lasts}
 use Rattle.files_told.proofs.Replies.{RefusesFile, done_no, opens_yes, take_yes, take_no}

@@ -56,7 +56,8 @@ use Rattle.telling_laws.proofs.Steps.{reply_at, act_at, Allows, over_then, saw_t
 use Rattle.telling_laws.proofs.PartsTell.{TellsIn, part_tells, waits_tell}
 use Rattle.telling_laws.proofs.ValuesSeen.{get-map_values}
 use Rattle.files_told.specs.FilesTelling.{FoundFile, Reads, IsReadNow, AreChunks, Fetches, ReadBefore, bytes_of}
-use Rattle.files_told.specs.FilesTelling.{read_deciding, read_telling, files_why}
+use Rattle.file_laws.specs.Known.{read_deciding}
+use Rattle.files_told.specs.FilesTelling.{read_telling, files_why}
 use Rattle.files_told.proofs.Finding.{decided_now, still_came, still_found, found_tells}
 use Rattle.files_told.proofs.Lasting.{why_lasts, read_point_lasts}
 use Rattle.files_told.proofs.Parts.{AllPartsKnown, take_ended, bytes_same, first_bytes_same, bytes_more, rows_known, shown_bytes, reads_all}

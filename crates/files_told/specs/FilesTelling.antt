@@ -21,7 +21,7 @@ use Rattle.store_rules.specs.declared.any.AnyReq.{AnyReq}
 use Rattle.store_rules.specs.declared.any.AnyReply.{AnyReply}
 use Rattle.store_rules.specs.Views.{as_block_list, as_location}
 use Rattle.tect_calls.specs.MadeBlocks.{chunks_of}
-use Rattle.program_laws.specs.Known.{Deciding, is_odd}
+use Rattle.program_laws.specs.Known.{is_odd}
 use Rattle.file_rules.specs.declared.states.Appending.{Appending}
 use Rattle.file_rules.specs.declared.states.Append.{Append}
 use Rattle.file_rules.specs.declared.states.Append.TheVariants as appending
@@ -31,10 +31,6 @@ use Rattle.file_rules.specs.declared.states.Open.{Open}
 use Rattle.file_rules.specs.declared.states.Open.TheVariants as opening
 use Rattle.file_rules.specs.declared.states.Read.{Read}
 use Rattle.file_rules.specs.declared.states.Read.TheVariants as reading
-use Rattle.file_rules.specs.Append.{append_decided}
-use Rattle.file_rules.specs.Blocks.{blocks_decided}
-use Rattle.file_rules.specs.Open.{open_decided}
-use Rattle.file_rules.specs.Read.{read_decided}
 use Rattle.file_rules.specs.Stages.{Reading, Fetching}
 use Rattle.world_runs.specs.declared.event.Event.{Event}
 use Rattle.claim_words.specs.Because.{because}
@@ -45,20 +41,6 @@ use Rattle.claim_words.specs.TreeSteps.{tree_steps}
 use Rattle.fall_laws.specs.Bounding.{Many, none}
 use Rattle.fall_laws.specs.Parts.{PartBounding, never_grows}
 use Rattle.telling_laws.specs.Telling.{Telling}
-
--- ---- when the answers are decided
-
-abbrev pub open_deciding : Deciding Open Answer
-open_deciding = record { decided = open_decided }
-
-abbrev pub append_deciding : Deciding Append Answer
-append_deciding = record { decided = append_decided }
-
-abbrev pub blocks_deciding : Deciding Blocks Answer
-blocks_deciding = record { decided = blocks_decided }
-
-abbrev pub read_deciding : Deciding Read Answer
-read_deciding = record { decided = read_decided }
 
 -- ---- what explains an answer
 

@@ -1,1 +1,2 @@
 pub mod FilesTelling
+pub mod FilesBegin

@@ -10,8 +10,9 @@ ghost use Rattle.file_rules.specs.Open.{opening};
 ghost use Rattle.file_rules.specs.Read.{read};
 ghost use Rattle.telling_laws.specs.Parts.{PartTells};
 ghost use Rattle.fall_laws.specs.Parts.{PartFalls};
-ghost use Rattle.files_told.specs.FilesTelling.{open_deciding, append_deciding, blocks_deciding, read_deciding};
+ghost use Rattle.file_laws.specs.Known.{open_deciding, append_deciding, blocks_deciding, read_deciding};
 ghost use Rattle.files_told.specs.FilesTelling.{open_telling, append_telling, blocks_telling, read_telling};
+ghost use Rattle.files_told.specs.FilesBegin.{FilesBegin};
 ghost use Rattle.files_told.specs.FilesTelling.{open_bounding, append_bounding, blocks_bounding, read_bounding};
 
 /// Before a command's answer is decided, the history tells what it found, made and read; where the answer is decided, the history explains
@@ -30,4 +31,10 @@ pub fn files_fall()
     ensures appends { PartFalls append append_bounding }
     ensures lists { PartFalls blocks blocks_bounding }
     ensures reads { PartFalls read read_bounding }
+{}
+
+/// A command that its walk brought to the directory of its path's last name begins with what is told before its look. An append begins with
+/// what it says, or its answer is explained: the file is not open, or there are too few disks for all copies.
+pub fn files_begin()
+    ensures { (counts : Counts) → FilesBegin counts }
 {}

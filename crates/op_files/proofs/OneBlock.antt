@@ -48,8 +48,9 @@ module _ (place : Place) (op : OpId) (number : ℕ) (x : AnyReply) where
       → GoesOnSo (block_made place token bytes (given_if (new_block record { 0 = number } f (own_hold op) rows) b))
   make_so f token bytes rows false = tt
   make_so f token bytes rows true =
-      put_so record { token = token; bytes = bytes; hold = record { blk = record { 0 = number }; hold = own_hold op; file = f } }
-      record { blk = record { 0 = number }; rows = rows } 0 refl (slice_get (chunks_of record { blk = record { 0 = number }; rows = rows }) 0)
+      let made : NewBlock = record { blk = record { 0 = number }; rows = rows } in
+      put_so record { token = token; bytes = bytes; hold = record { blk = record { 0 = number }; hold = own_hold op; file = f } } made 0 refl
+      (slice_get (chunks_of made) 0)
 
   not_stored_so : (a : Appending) (c : ChunkKey) (b : Bool) → GoesOnSo (not_stored place a c b)
   not_stored_so a c true = tt

@@ -120,7 +120,8 @@ module _ (place : Place) (x : AnyReply) where
   plain_begins f None = plain_file_refused place f x
   plain_begins f (Some parts) = plain_read_on record { parts = parts; at = 0; bytes = [] }
 
-  plain_fetched : (r : Reading) (chunks : List ChunkKey) (tried : ℕ) (o : Option ChunkKey) → IsPlainNext IsPlainRead (fetched place r chunks tried o)
+  plain_fetched : (r : Reading) (chunks : List ChunkKey) (tried : ℕ) (o : Option ChunkKey)
+      → IsPlainNext IsPlainRead (fetched place r chunks tried o)
   plain_fetched r chunks tried None = λ l. l
   plain_fetched r chunks tried (Some c) = tt
 
@@ -147,7 +148,8 @@ module _ (place : Place) (x : AnyReply) where
   plain_put_next a made at None = tt
   plain_put_next a made at (Some c) = tt
 
-  plain_made : (token : OpId) (bytes : List ℕ) (o : Option (NewBlock × RowGrant)) → IsPlainNext IsPlainAppend (block_made place token bytes o)
+  plain_made : (token : OpId) (bytes : List ℕ) (o : Option (NewBlock × RowGrant))
+      → IsPlainNext IsPlainAppend (block_made place token bytes o)
   plain_made token bytes None = λ l. l
   plain_made token bytes (Some p) =
       plain_put_next record { token = token; bytes = bytes; hold = p.1 } p.0 0 (slice_get (chunks_of p.0) 0)

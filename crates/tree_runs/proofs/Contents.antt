@@ -177,29 +177,37 @@ own_hold_of : (w : World) (op : OpId) (m : Memory) (b : BlkId) (c : Class) (n : 
 own_hold_of w op m b c n f h rs meets = grind (arith, keys, op_eq_cases h.op op, meets.own.row_hold h)
 
 born_so : (w : World) (op : OpId) (m : Memory) (q : AnyReq) → Meets w op m q → BornSo w.store w.ghost op q
-born_so w op m (any.Name (names.CheckDir d)) meets = born_none _ _ op _ (λ b. refl) (λ b. refl)
-born_so w op m (any.Name (names.Look k)) meets = born_none _ _ op _ (λ b. refl) (λ b. refl)
-born_so w op m (any.Name (names.List d)) meets = born_none _ _ op _ (λ b. refl) (λ b. refl)
-born_so w op m (any.Name (names.MakeDir d p h k)) meets = born_none _ _ op _ (λ b. refl) (λ b. refl)
-born_so w op m (any.Name (names.Bind k n h o)) meets = born_none _ _ op _ (λ b. refl) (λ b. refl)
-born_so w op m (any.Name (names.Swap d from to n h)) meets = born_none _ _ op _ (λ b. refl) (λ b. refl)
-born_so w op m (any.Name (names.Unbind k t)) meets = born_none _ _ op _ (λ b. refl) (λ b. refl)
-born_so w op m (any.Name (names.Grant d h k)) meets = born_none _ _ op _ (λ b. refl) (λ b. refl)
-born_so w op m (any.Name (names.Release d h)) meets = born_none _ _ op _ (λ b. refl) (λ b. refl)
-born_so w op m (any.File (files.MakeFile f h k t)) meets = born_none _ _ op _ (λ b. refl) (λ b. refl)
-born_so w op m (any.File (files.Grant f h k)) meets = born_none _ _ op _ (λ b. refl) (λ b. refl)
-born_so w op m (any.File (files.Release f h)) meets = born_none _ _ op _ (λ b. refl) (λ b. refl)
-born_so w op m (any.File (files.TakeToken f t)) meets = born_none _ _ op _ (λ b. refl) (λ b. refl)
-born_so w op m (any.File (files.Attach f t b n h)) meets = born_none _ _ op _ (λ b. refl) (λ b. refl)
-born_so w op m (any.File (files.ListBlocks f)) meets = born_none _ _ op _ (λ b. refl) (λ b. refl)
+born_so w op m (any.Name (names.CheckDir d)) meets = born_none w.store w.ghost op (any.Name (names.CheckDir d)) (λ b. refl) (λ b. refl)
+born_so w op m (any.Name (names.Look k)) meets = born_none w.store w.ghost op (any.Name (names.Look k)) (λ b. refl) (λ b. refl)
+born_so w op m (any.Name (names.List d)) meets = born_none w.store w.ghost op (any.Name (names.List d)) (λ b. refl) (λ b. refl)
+born_so w op m (any.Name (names.MakeDir d p h k)) meets =
+    born_none w.store w.ghost op (any.Name (names.MakeDir d p h k)) (λ b. refl) (λ b. refl)
+born_so w op m (any.Name (names.Bind k n h o)) meets = born_none w.store w.ghost op (any.Name (names.Bind k n h o)) (λ b. refl) (λ b. refl)
+born_so w op m (any.Name (names.Swap d from to n h)) meets =
+    born_none w.store w.ghost op (any.Name (names.Swap d from to n h)) (λ b. refl) (λ b. refl)
+born_so w op m (any.Name (names.Unbind k t)) meets = born_none w.store w.ghost op (any.Name (names.Unbind k t)) (λ b. refl) (λ b. refl)
+born_so w op m (any.Name (names.Grant d h k)) meets = born_none w.store w.ghost op (any.Name (names.Grant d h k)) (λ b. refl) (λ b. refl)
+born_so w op m (any.Name (names.Release d h)) meets = born_none w.store w.ghost op (any.Name (names.Release d h)) (λ b. refl) (λ b. refl)
+born_so w op m (any.File (files.MakeFile f h k t)) meets =
+    born_none w.store w.ghost op (any.File (files.MakeFile f h k t)) (λ b. refl) (λ b. refl)
+born_so w op m (any.File (files.Grant f h k)) meets = born_none w.store w.ghost op (any.File (files.Grant f h k)) (λ b. refl) (λ b. refl)
+born_so w op m (any.File (files.Release f h)) meets = born_none w.store w.ghost op (any.File (files.Release f h)) (λ b. refl) (λ b. refl)
+born_so w op m (any.File (files.TakeToken f t)) meets =
+    born_none w.store w.ghost op (any.File (files.TakeToken f t)) (λ b. refl) (λ b. refl)
+born_so w op m (any.File (files.Attach f t b n h)) meets =
+    born_none w.store w.ghost op (any.File (files.Attach f t b n h)) (λ b. refl) (λ b. refl)
+born_so w op m (any.File (files.ListBlocks f)) meets = born_none w.store w.ghost op (any.File (files.ListBlocks f)) (λ b. refl) (λ b. refl)
 born_so w op m (any.Block (blocks.MakeBlock b c n f h rs)) meets =
     born_new w.store w.ghost op b c n f h rs (own_hold_of w op m b c n f h rs meets) (meets.needs).unborn
-born_so w op m (any.Block (blocks.SealBlock b)) meets = born_none _ _ op _ (λ k. refl) (λ k. refl)
-born_so w op m (any.Block (blocks.GetBlock b)) meets = born_none _ _ op _ (λ k. refl) (λ k. refl)
-born_so w op m (any.Block (blocks.Grant b h f)) meets = born_none _ _ op _ (λ k. refl) (λ k. refl)
-born_so w op m (any.Block (blocks.Release b h)) meets = born_none _ _ op _ (λ k. refl) (λ k. refl)
-born_so w op m (any.Disk (disks.Put c bytes)) meets = born_none _ _ op _ (λ k. refl) (λ k. refl)
-born_so w op m (any.Disk (disks.Get c)) meets = born_none _ _ op _ (λ k. refl) (λ k. refl)
+born_so w op m (any.Block (blocks.SealBlock b)) meets =
+    born_none w.store w.ghost op (any.Block (blocks.SealBlock b)) (λ k. refl) (λ k. refl)
+born_so w op m (any.Block (blocks.GetBlock b)) meets = born_none w.store w.ghost op (any.Block (blocks.GetBlock b)) (λ k. refl) (λ k. refl)
+born_so w op m (any.Block (blocks.Grant b h f)) meets =
+    born_none w.store w.ghost op (any.Block (blocks.Grant b h f)) (λ k. refl) (λ k. refl)
+born_so w op m (any.Block (blocks.Release b h)) meets =
+    born_none w.store w.ghost op (any.Block (blocks.Release b h)) (λ k. refl) (λ k. refl)
+born_so w op m (any.Disk (disks.Put c bytes)) meets = born_none w.store w.ghost op (any.Disk (disks.Put c bytes)) (λ k. refl) (λ k. refl)
+born_so w op m (any.Disk (disks.Get c)) meets = born_none w.store w.ghost op (any.Disk (disks.Get c)) (λ k. refl) (λ k. refl)
 
 pub told_acted : {R : Type 0} (w : World) (h : List Event) (op : OpId) (m : Memory) (q : AnyReq) (how : Heard) (was now : Option R)
     → Meets w op m q → PastTold w.ghost h
