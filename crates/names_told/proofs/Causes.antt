@@ -30,20 +30,23 @@ use Rattle.names_told.proofs.Commands.{OfItsCommands, of_command}
 
 read_lasts : (t u : List Told) (op : OpId) (p : List (List ℕ)) (a : Answer) → IsRead t op p a → IsRead (t ++ u) op p a
 read_lasts t u op p a r =
-    let k : ReadPoint t op p r.0 = r.2 in
-    (r.0, r.1, record {
-      before = k.before;
-      later = k.later ++ u;
-      there = ap (λ l. l ++ u) k.there ∙ append_assoc k.before k.later u;
-      dir = k.dir;
-      walked = k.walked;
-      file = k.file;
-      found = k.found;
-      sealed = k.sealed;
-      rows = k.rows;
-      listed = k.listed;
-      by_tree = k.by_tree;
-    })
+    let k : ReadPoint t op p r.0 = r.2 in (
+      r.0,
+      r.1,
+      record {
+        before = k.before;
+        later = k.later ++ u;
+        there = ap (λ l. l ++ u) k.there ∙ append_assoc k.before k.later u;
+        dir = k.dir;
+        walked = k.walked;
+        file = k.file;
+        found = k.found;
+        sealed = k.sealed;
+        rows = k.rows;
+        listed = k.listed;
+        by_tree = k.by_tree;
+      },
+    )
 
 not_open_lasts : (h es : List Event) (op : OpId) (c : Command) (p : List (List ℕ)) → WasNotOpen h op c p → WasNotOpen (h ++ es) op c p
 not_open_lasts h es op c p w = record {
