@@ -17,7 +17,6 @@ use Rattle.store_rules.specs.Views.{is_made, is_stored, is_block_sealed, as_atta
 use Rattle.tect_calls.specs.MadeBlocks.{NewBlock, chunks_of}
 use Rattle.tect_calls.specs.Readings.{given_if, new_block}
 use Rattle.program_forms.specs.Memories.{Memory, OpenedFile}
-use Rattle.program_parts.specs.declared.next.Next.{Next}
 use Rattle.program_parts.specs.declared.next.Next.TheVariants.{Goes, Comes}
 use Rattle.file_rules.specs.declared.states.Append.{Append}
 use Rattle.file_rules.specs.declared.states.Append.TheVariants.{Make, Put, Seal, Attach, Release}

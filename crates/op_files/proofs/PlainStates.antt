@@ -30,7 +30,6 @@ use Rattle.tect_calls.specs.MadeBlocks.{NewBlock, chunks_of}
 use Rattle.tect_calls.specs.Readings.{given_if, new_block}
 use Rattle.program_forms.specs.Lacks.{IsLack}
 use Rattle.program_forms.specs.Memories.{Memory, OpenedFile}
-use Rattle.program_parts.specs.declared.next.Next.{Next}
 use Rattle.program_parts.specs.declared.next.Next.TheVariants.{Goes, Comes}
 use Rattle.program_parts.specs.Refused.{refusal}
 use Rattle.file_rules.specs.declared.states.Open.{Open}
@@ -42,7 +41,7 @@ use Rattle.file_rules.specs.declared.states.Blocks.{Blocks}
 use Rattle.file_rules.specs.declared.states.Blocks.TheVariants as listing
 use Rattle.file_rules.specs.declared.states.Read.{Read}
 use Rattle.file_rules.specs.declared.states.Read.TheVariants as reading
-use Rattle.file_rules.specs.Append.{append_begins, append_starts, put_next, put_on, block_made, is_lost, not_stored, put, sealed, attached, append_hears}
+use Rattle.file_rules.specs.Append.{append_begins, append_starts, put_next, block_made, is_lost, not_stored, put, sealed, attached, append_hears}
 use Rattle.file_rules.specs.Blocks.{listed, blocks_hears}
 use Rattle.file_rules.specs.Finds.{found_file, file_answer, file_refusal}
 use Rattle.file_rules.specs.Open.{taken, open_hears}

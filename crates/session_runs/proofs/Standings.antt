@@ -49,7 +49,7 @@ module _ (counts : Counts) (m : Memory) (op : OpId) where
 
   none_kept : (h : Heard) (ls : List Learnt) → ls ≡ [] → kept_of h ls ≡ []
   none_kept hearing.Whole ls e = e
-  none_kept hearing.Unkept ls e = refl
+  none_kept hearing.Unkept ls e = ap (λ (l : List Learnt). kept_of hearing.Unkept l) e
   none_kept hearing.Left ls e = refl
 
   module _ (p : Program) where

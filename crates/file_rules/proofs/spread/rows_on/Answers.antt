@@ -1,4 +1,4 @@
-use Rattle.std.proofs.Common.{sym, ap, ◌∙◌, arith}
+use Rattle.std.proofs.Common.{arith}
 use Rattle.file_rules.proofs.Placed.{rows_none, rows_more}
 use Rattle.file_rules.proofs.spread.rows_on.Goals as goal
 
