@@ -8,3 +8,4 @@ pub mod NamesBecause
 pub mod FilesBecause
 pub mod Because
 pub mod Headline
+pub mod Attached

@@ -1,2 +1,4 @@
+pub mod Begins
 pub mod RunsFall
+pub mod Stays
 pub mod PartsFall

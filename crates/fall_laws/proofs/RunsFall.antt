@@ -21,11 +21,12 @@ use Rattle.world_runs.specs.declared.event.Happening.{Happening}
 use Rattle.world_runs.specs.declared.event.Happening.TheVariants.{Began, NotBegun, Acted, Ended, Stopped, Failed}
 use Rattle.world_runs.specs.Actors.{Actor, Running, OwnMay, own_after, standing_heard, went_on, ended}
 use Rattle.world_runs.specs.Moments.{WorldState, opening, May, after, RunFrom, IsWorldRun}
-use Rattle.whole_runs.proofs.Actors.{changed, changed_there, after_counts}
+use Rattle.whole_runs.proofs.Actors.{changed, after_counts}
 use Rattle.claim_words.specs.Headline.{begun_by, or_later, command_of}
 use Rattle.fall_laws.specs.Counting.{is_look, is_no_look, takes, taken}
 use Rattle.fall_laws.specs.Bounding.{Bounding, one_if, FallLaws, standing_grows, running_grows, act_grows, event_grows}
 use Rattle.fall_laws.specs.Bounding.{history_grows, RunsAreShort}
+use Rattle.fall_laws.proofs.Begins.{begins_now}
 use Rattle.whole_runs.proofs.Standings.{runs_at, Asking, asks_of, Saying, says_of, numbers_grow}
 
 -- one event more
@@ -145,28 +146,6 @@ module _ (S : Type 0) (P : Programs S) (test : AnyReq → Bool) (left : S → �
 
     -- ---- an op begins at most once
 
-    begins_now : (m : WorldState S) (e : Event) (op : OpId) (c : Command) → May P m e → begun_by e op ≡ Some c
-        → ((m.actors op.actor).number < op.number) × (op.number ≤ ((after P m e).actors op.actor).number)
-    begins_now m (Own o (Began d)) op c may is = by (op_eq o op) refl is
-      where
-        by : (b : Bool) → op_eq o op ≡ b → (if b then Some d else None) ≡ Some c
-            → ((m.actors op.actor).number < op.number) × (op.number ≤ ((after P m (Own o (Began d))).actors op.actor).number)
-        by true e k =
-            let same : o ≡ op = grind (arith, op_eq_cases o op) in
-            subst (λ (z : OpId). ((m.actors z.actor).number < z.number)
-            × (z.number ≤ ((after P m (Own o (Began d))).actors z.actor).number)) same (
-              omega (arith, ((may.0).0).next),
-              changed_there (λ (z : Actor S). o.number ≤ z.number) m.actors o.actor
-                  (own_after P m.counts (m.actors o.actor) o (Began d)) (omega arith),
-            )
-        by false e k = absurd (let z : None ≡ Some c = k in cc)
-    begins_now m (Own o (NotBegun d)) op c may is = absurd (let z : None ≡ Some c = is in cc)
-    begins_now m (Own o (Acted q x h)) op c may is = absurd (let z : None ≡ Some c = is in cc)
-    begins_now m (Own o (Ended a)) op c may is = absurd (let z : None ≡ Some c = is in cc)
-    begins_now m (Own o Stopped) op c may is = absurd (let z : None ≡ Some c = is in cc)
-    begins_now m (Own o (Failed a)) op c may is = absurd (let z : None ≡ Some c = is in cc)
-    begins_now m Dumped op c may is = absurd (let z : None ≡ Some c = is in cc)
-
     no_more : (es : List Event) (m : WorldState S) (op : OpId) → RunFrom P m es → op.number ≤ (m.actors op.actor).number
         → allowed m op es ≡ 0
     no_more [] m op run old = refl
@@ -178,7 +157,7 @@ module _ (S : Type 0) (P : Programs S) (test : AnyReq → Bool) (left : S → �
         by : (o : Option Command) → begun_by e op ≡ o → allowed (after P m e) op es ≡ 0
             → allowed_by m.counts (m.actors op.actor).memory o + allowed (after P m e) op es ≡ 0
         by None is rest = omega (arith, rest)
-        by (Some c) is rest = absurd (omega (arith, old, (begins_now m e op c run.0 is).0))
+        by (Some c) is rest = absurd (omega (arith, old, (begins_now P m e op c run.0 is).0))
 
     -- no more is allowed than its command has as it begins, whatever its actor knows then
     abbrev IsMost : Counts → Option Command → ℕ → Type 0
@@ -195,7 +174,7 @@ module _ (S : Type 0) (P : Programs S) (test : AnyReq → Bool) (left : S → �
         by None is most rest =
             omega (arith, rest (subst (λ (k : Counts). IsMost k (command_of es op) n) (sym (after_counts P m e)) most))
         by (Some c) is most rest =
-            omega (arith, no_more es (after P m e) op run.1 (begins_now m e op c run.0 is).1, most (m.actors op.actor).memory c refl)
+            omega (arith, no_more es (after P m e) op run.1 (begins_now P m e op c run.0 is).1, most (m.actors op.actor).memory c refl)
 
     -- so it takes at most that
     op_takes : (counts : Counts) (es : List Event) → IsWorldRun P counts es → (op : OpId) (n : ℕ) → IsMost counts (command_of es op) n

@@ -1,4 +1,4 @@
--- What each operation on names knows in its states, and when its answer is decided.
+-- What each operation knows in its states, and when its answer is decided; those on the contents of files have a crate of their own.
 use Rattle.std.specs.Prelude.{◌≡◌, ◌≢◌, true, false, None, is_some}
 use Rattle.tect_ids.specs.declared.ids.DirId.{DirId}
 use Rattle.tect_ids.specs.declared.ids.Hold.{Hold}
@@ -29,6 +29,7 @@ use Rattle.program_laws.specs.Known.{Deciding, Known, IsNewOp, is_odd}
 use Rattle.part_laws.specs.Parts.{next_known, next_deciding}
 use Rattle.part_laws.specs.Walks.{OnItsWay, walk_known, walk_deciding}
 use Rattle.part_laws.specs.Releases.{ReleaseKnows}
+use Rattle.file_laws.specs.Known.{open_known, append_known, blocks_known, read_known}
 
 -- the hold is the op's own, and its only one; it was granted for that entry, and is not bound yet
 pub record HasOwnHold (w : World) (op : OpId) (h : Hold) (n : Node) (k : Key) : Type 0 where
@@ -76,6 +77,10 @@ OperationKnows w op m (states.List s) = IsNewOp w op
 OperationKnows w op m (states.Make s) = MakeKnows w op m s
 OperationKnows w op m (states.Delete s) = DeleteKnows w op m s
 OperationKnows w op m (states.Rename s) = RenameKnows w op m s
+OperationKnows w op m (states.Open s) = open_known.Knows w op m s
+OperationKnows w op m (states.Append s) = append_known.Knows w op m s
+OperationKnows w op m (states.Blocks s) = blocks_known.Knows w op m s
+OperationKnows w op m (states.Read s) = read_known.Knows w op m s
 
 abbrev pub operation_known : Known OperationState Answer
 operation_known = record { Knows = OperationKnows; Ends = λ w a. is_odd a ≡ false }

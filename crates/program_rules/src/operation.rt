@@ -1,4 +1,6 @@
 use crate::states::{Delete, List, Look, Make, NewNode, Rename};
+use file_rules::{Append, Blocks, Open, Read};
+use memories::PathKey;
 use tect_ids::Name;
 
 /// What a command does in the directory to which its path leads.
@@ -10,9 +12,13 @@ pub enum Operation {
     Make { kind: NewNode, name: Name },
     Delete { name: Name },
     Rename { from: Name, to: Name },
+    /// The file is kept by the whole path.
+    Open { path: PathKey, name: Name },
+    Blocks { name: Name },
+    Read { name: Name },
 }
 
-/// An operation that runs, in one of its states. Each has its rules in a file of `specs`.
+/// An operation that runs, in one of its states. Each has its rules in a file of `specs`, here or in `file_rules`.
 #[derive(Drop)]
 pub enum OperationState {
     Look(Look),
@@ -20,4 +26,8 @@ pub enum OperationState {
     Make(Make),
     Delete(Delete),
     Rename(Rename),
+    Open(Open),
+    Append(Append),
+    Blocks(Blocks),
+    Read(Read),
 }
