@@ -1,30 +1,39 @@
 -- each running command can go on to its end, at whatever moment of a run
-use Rattle.std.proofs.Common.{◌≡◌, ◌≤◌, ◌+◌, ℕ, zero, suc, ◌⊎◌, inl, inr, true, false, ◌||◌, is_some, Option, Some, None, List, [], ◌∷◌}
-use Rattle.std.proofs.Common.{◌++◌, refl, sym, ap, subst, ◌∙◌, arith, take}
+use Rattle.std.proofs.Common.{◌≡◌, ◌≤◌, ◌+◌, ℕ, zero, suc, Option, Some, List, [], ◌∷◌, ◌++◌, refl, ap, subst, ◌∙◌, arith, take}
 use Rattle.tect_ids.specs.declared.ids.OpId.{OpId}
 use Rattle.tect_ids.specs.declared.answer.Answer.{Answer}
 use Rattle.store_rules.specs.declared.any.AnyReq.{AnyReq}
+use Rattle.store_rules.specs.declared.any.AnyReply.{AnyReply}
 use Rattle.store_rules.specs.Store.{store_reply}
-use Rattle.program_forms.specs.declared.heard.Heard.TheVariants.{Whole}
 use Rattle.program_forms.specs.declared.standing.Standing.{Standing}
+use Rattle.program_forms.specs.declared.standing.Standing.TheVariants.{Goes, Left, NoRoom}
+use Rattle.program_forms.specs.Lacks.{no_room}
+use Rattle.program_forms.specs.Memories.{Memory}
+use Rattle.program_forms.specs.Kinds.{Does, asked_by}
+use Rattle.program_parts.specs.declared.next.Next.TheVariants as next
+use Rattle.program_parts.specs.declared.walking.Walking.{Walking}
+use Rattle.program_rules.specs.declared.operation.Operation.{Operation}
+use Rattle.program_rules.specs.declared.operation.OperationState.{OperationState}
 use Rattle.program_rules.specs.Served.{Program, programs}
 use Rattle.world_runs.specs.declared.event.Event.{Event}
 use Rattle.world_runs.specs.declared.event.Event.TheVariants.{Own}
-use Rattle.world_runs.specs.declared.event.Happening.TheVariants.{Acted, Ended}
-use Rattle.world_runs.specs.Actors.{Running}
+use Rattle.world_runs.specs.declared.event.Happening.TheVariants.{Ended}
+use Rattle.world_runs.specs.Actors.{Actor, Running, program_ask, program_answer}
 use Rattle.world_runs.specs.Moments.{WorldState, RunFrom, after, running, asked, answered}
 use Rattle.world_runs.specs.Follows.{Acts, EndsAfter, AllFindMemory}
-use Rattle.script_runs.proofs.Running.{AllWell, RunsAs, running_does, running_is_of}
+use Rattle.script_runs.proofs.Running.{AllWell, RunsAs, running_is_of}
 use Rattle.script_runs.proofs.Histories.{find_memory-append}
 use Rattle.session_runs.specs.RunningOn.{AllHaveHeard}
 use Rattle.session_runs.specs.Well.{NoneFails}
 use Rattle.session_runs.proofs.Well.{none_fails-append, acts_go_well}
-use Rattle.session_runs.proofs.Hearing.{event_heard}
-use Rattle.session_runs.proofs.Steps.{Runs, left, GoesOn, op_runs, own_acts}
+use Rattle.session_runs.proofs.Standings.{command_part, next_same}
+use Rattle.session_runs.proofs.Halting.{Halts, halts}
+use Rattle.session_runs.proofs.CommandsHalt.{command_halts}
+use Rattle.session_runs.proofs.Steps.{Runs, acted, op_runs, runs_on}
 
--- the op's transaction, heard whole
-abbrev pub acted : WorldState Program → OpId → AnyReq → Event
-acted m op q = Own op (Acted q (store_reply m.store q) Whole)
+-- the states of a command
+abbrev State : Type 0
+State = Walking Operation OperationState
 
 -- the op's number is one that its actor came to
 pub runs_old : (m : WorldState Program) → AllWell m → (op : OpId) (r : Running Program) → running m op ≡ Some r → Runs m op r.at
@@ -60,43 +69,51 @@ act_then m op q asks e = record {
   run = ((asks, refl), e.run);
 }
 
--- it asks, or has its answer
-asks_or_says : (o : Option AnyReq) (x : Option Answer) → (is_some o || is_some x) ≡ true
-    → ((q : AnyReq) × (o ≡ Some q)) ⊎ ((a : Answer) × (x ≡ Some a))
-asks_or_says (Some q) x does = inl (q, refl)
-asks_or_says None (Some a) does = inr (a, refl)
-asks_or_says None None does = absurd (let k : false ≡ true = does in cc)
+module _ (m : WorldState Program) (op : OpId) where
+  -- its actor
+  abbrev s : Actor Program
+  s = m.actors op.actor
 
-does_next : (m : WorldState Program) → AllHaveHeard m → (op : OpId) (at : Standing Program) → Runs m op at
-    → ((q : AnyReq) × (asked programs m op ≡ Some q)) ⊎ ((a : Answer) × (answered programs m op ≡ Some a))
-does_next m heard op at r =
-    asks_or_says (asked programs m op) (answered programs m op)
-    (running_does programs m op record { op = op; at = at } (op_runs (m.actors op.actor).running op at r.is)
-    (λ left. heard op.actor op (r.is ∙ ap (λ (z : Standing Program). Some (let t : Running Program = record { op = op; at = z } in t))
-    left)))
+  -- it has its answer
+  says_end : (a : Answer) → Runs m op (Goes (next.Comes a)) → CanEnd m op
+  says_end a r = end_now m op a
+      (ap (λ (o : Option (Running Program)). program_answer programs m.counts s.memory o) (op_runs s.running op (Goes (next.Comes a)) r.is))
 
--- with so many transactions left, or fewer
-pub ends_within : (bound : ℕ) (m : WorldState Program) → AllHaveHeard m → (op : OpId) (at : Standing Program) → Runs m op at
-    → left at ≤ bound → CanEnd m op
-ends_within zero m heard op at r few =
-    elim (does_next m heard op at r) [
-      | inl ask ↦ absurd (omega (arith, (own_acts m op ask.0 (store_reply m.store ask.0) Whole (ask.1, refl) at r).falls, few))
-      | inr say ↦ end_now m op say.0 say.1
-    ]
-ends_within (suc bound) m heard op at r few =
-    elim (does_next m heard op at r) [
-      | inl ask ↦
-          let e : Event = acted m op ask.0 in
-          let on : GoesOn m e op at = own_acts m op ask.0 (store_reply m.store ask.0) Whole (ask.1, refl) at r in
-          act_then m op ask.0 ask.1
-          (ends_within bound (after programs m e) (event_heard m e (ask.1, refl) tt heard) op on.next on.runs
-          (omega (arith, on.falls, few)))
-      | inr say ↦ end_now m op say.0 say.1
-    ]
+  refused_end : Runs m op NoRoom → CanEnd m op
+  refused_end r = end_now m op no_room
+      (ap (λ (o : Option (Running Program)). program_answer programs m.counts s.memory o) (op_runs s.running op NoRoom r.is))
+
+  -- it has its answer, or stands in a state
+  next_ends : (n : Program) → ((t : State) → n ≡ next.Goes t → Runs m op (Goes (next.Goes t)) → CanEnd m op) → Runs m op (Goes n)
+      → CanEnd m op
+  next_ends (next.Goes t) goes r = goes t refl r
+  next_ends (next.Comes a) goes r = says_end a r
+
+  -- what it asks in a state
+  asks_there : (t : State) → Runs m op (Goes (next.Goes t))
+      → asked programs m op ≡ Some (command_part.asks m.counts s.memory op t)
+  asks_there t r =
+      ap (λ (o : Option (Running Program)). program_ask programs m.counts s.memory o) (op_runs s.running op (Goes (next.Goes t)) r.is)
+      ∙ ap (λ (d : Does Answer). asked_by d) (next_same m.counts s.memory op (next.Goes t))
+
+-- in a state that halts
+state_ends : (t : State) → Halts command_part t → (m : WorldState Program) (op : OpId) → Runs m op (Goes (next.Goes t)) → CanEnd m op
+state_ends t (halts own h) m op r =
+    let known : Memory = (m.actors op.actor).memory in
+    let q : AnyReq = command_part.asks m.counts known op own in
+    let x : AnyReply = store_reply m.store q in
+    act_then m op q (asks_there m op own r)
+    (next_ends (after programs m (acted m op q)) op (command_part.hears m.counts known op own q x)
+    (λ u e. state_ends u (h m.counts known op q x u e) (after programs m (acted m op q)) op) (runs_on m op (next.Goes own) q r))
+
+stands_end : (m : WorldState Program) → AllHaveHeard m → (op : OpId) (at : Standing Program) → Runs m op at → CanEnd m op
+stands_end m heard op (Goes p) r = next_ends m op p (λ t e. state_ends t (command_halts t) m op) r
+stands_end m heard op Left r = absurd (heard op.actor op r.is)
+stands_end m heard op NoRoom r = refused_end m op r
 
 pub running_ends : (m : WorldState Program) → AllWell m → AllHaveHeard m → (op : OpId) (r : Running Program) → running m op ≡ Some r
     → CanEnd m op
-running_ends m s heard op r is = ends_within (left r.at) m heard op r.at (runs_old m s op r is) (omega arith)
+running_ends m s heard op r is = stands_end m heard op r.at (runs_old m s op r is)
 
 -- the events to its end
 abbrev pub to_end : (m : WorldState Program) (op : OpId) → CanEnd m op → List Event

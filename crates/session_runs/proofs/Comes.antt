@@ -127,7 +127,8 @@ module _ (m : WorldState Program) (t : Tree) (op : OpId) (own : ℕ) (p : Progra
       ap (λ (r : Option (Running Program)). program_answer programs m.counts s.memory r) runs_now
       ∙ ap (λ (d : Does Answer). said_by d) does_now
 
-  module _ (q : AnyReq) (asks : does_at m op own p ≡ Asks q) (plain : AttachesNothing op q (store_reply m.store q)) where
+  module _ (q : AnyReq) (asks : does_at m op own p ≡ Asks q) (plain : AttachesNothing op q (store_reply m.store q))
+      (tells : programs.kind.learns op p q (store_reply m.store q) ≡ []) where
     -- what the store replies
     abbrev x : AnyReply
     x = store_reply m.store q
@@ -159,7 +160,7 @@ module _ (m : WorldState Program) (t : Tree) (op : OpId) (own : ℕ) (p : Progra
 
     goes_on_as : (h : Heard) → went_on programs m.counts s s.running q x h
         ≡ record s { memory = always s.memory q x; running = Some record { op = op; at = stands_after m.counts s.memory op p q x h } }
-    goes_on_as h = went_on_as m.counts s s.running op p q x h st.runs
+    goes_on_as h = went_on_as m.counts s s.running op p q x h st.runs tells
 
     -- what it was told
     told_now : told_of (st.tracks).history did ≡ step_of op q x
@@ -261,8 +262,8 @@ module _ (m : WorldState Program) (t : Tree) (op : OpId) (own : ℕ) (b : Answer
   release_goes f st =
       let q : AnyReq = release_ask f.node f.hold in
       let x : AnyReply = store_reply m.store q in
-      step_goes m t op own (releasing_first f b) st q refl (plain f.node f.hold) p 0
-      (end_goes _ _ op _ b p (next_stands m t op own (releasing_first f b) st q refl (plain f.node f.hold)) (no_step f.node f.hold ∙ tree)
+      step_goes m t op own (releasing_first f b) st q refl (plain f.node f.hold) refl p 0
+      (end_goes _ _ op _ b p (next_stands m t op own (releasing_first f b) st q refl (plain f.node f.hold) refl) (no_step f.node f.hold ∙ tree)
       (none_taken f.node f.hold ∙ serial) answer)
     where
       plain : (n : Node) (h : Hold) → AttachesNothing op (release_ask n h) (store_reply m.store (release_ask n h))

@@ -16,7 +16,7 @@ use Rattle.world_runs.specs.Moments.{WorldState, May, opening, after, after_all,
 use Rattle.world_runs.specs.Follows.{FindsMemory, AllFindMemory}
 use Rattle.whole_runs.proofs.Actors.{changed}
 use Rattle.whole_runs.proofs.Standings.{Asking, asks_of}
-use Rattle.session_runs.proofs.Standings.{command_part, went_on_as, ended_as}
+use Rattle.session_runs.proofs.Standings.{command_part, runs_on_as, ended_as}
 use Rattle.session_runs.specs.RunningOn.{HasHeard, AllHaveHeard}
 
 -- what stands otherwise has heard it
@@ -36,12 +36,13 @@ goes_heard p e = cc
 
 own_heard : (counts : Counts) (s : Actor Program) (op : OpId) (h : Happening) → OwnMay programs counts s op h → FindsMemory (Own op h)
     → HasHeard (own_after programs counts s op h).running
-own_heard counts s op (Began c) may finds = stands_heard op (Goes (started (begun c))) (goes_heard (started (begun c)))
+own_heard counts s op (Began c) may finds = stands_heard op (Goes (started counts s.memory (begun c)))
+    (goes_heard (started counts s.memory (begun c)))
 own_heard counts s op (NotBegun c) may finds = stands_heard op NoRoom (λ e. cc)
 own_heard counts s op (Acted q x hearing.Whole) may finds =
     let a : Asking Program programs counts s.memory s.running op q = asks_of Program programs counts s.memory s.running op q may in
     let next : Program = next_hears command_part counts s.memory op a.state q x in
-    subst (λ (t : Actor Program). HasHeard t.running) (sym (went_on_as counts s s.running op a.state q x hearing.Whole a.is))
+    subst HasHeard (sym (runs_on_as counts s s.running op a.state q x hearing.Whole a.is))
     (stands_heard op (Goes next) (goes_heard next))
 own_heard counts s op (Acted q x hearing.Unkept) may finds = absurd finds
 own_heard counts s op (Acted q x hearing.Left) may finds = absurd finds

@@ -1,5 +1,9 @@
 pub mod Well
 pub mod Standings
+pub mod Halting
+pub mod NamesHalt
+pub mod FilesHalt
+pub mod CommandsHalt
 pub mod Steps
 pub mod Hearing
 pub mod CanEnd

@@ -101,7 +101,7 @@ module _ (m : WorldState Program) (t : Tree) (op : OpId) (own : ℕ) (k : Key) (
   refused_said r why e = rw e refl
 
   look_said : says look_reply ≡ tree_reply t op (step.Look k)
-  look_said = step_said m t op own (looks (looking.Entry k)) st look_request refl (λ h. refl) (step.Look k) refl
+  look_said = step_said m t op own (looks (looking.Entry k)) st look_request refl (λ h. refl) refl (step.Look k) refl
 
   unread : (r : TreeReply) → tree_next t op (step.Look k) r ≡ t
   unread (Ok value) = refl
@@ -120,11 +120,11 @@ module _ (m : WorldState Program) (t : Tree) (op : OpId) (own : ℕ) (k : Key) (
   look_goes =
       let stands : StandsAt look_after t op own (look_next (looked (request_place m.counts look_request) k look_reply
       (as_found look_reply))) =
-      stands_as _ _ t op _ own _ _ (next_stands m t op own (looks (looking.Entry k)) st look_request refl (λ h. refl)) (unread (says look_reply))
+      stands_as _ _ t op _ own _ _ (next_stands m t op own (looks (looking.Entry k)) st look_request refl (λ h. refl) refl) (unread (says look_reply))
       (none_taken m.store own look_request ((role_laws look_request).untold m.store refl tt)) refl in
       subst (λ (u : Tree). Goes look_after u op (session.looked t op own k) 0 → Goes m t op (session.looked t op own k) 1)
       (unread (says look_reply))
-      (step_goes m t op own (looks (looking.Entry k)) st look_request refl (λ h. refl) (session.looked t op own k) 0)
+      (step_goes m t op own (looks (looking.Entry k)) st look_request refl (λ h. refl) refl (session.looked t op own k) 0)
       (ends (request_place m.counts look_request) (as_found look_reply) refl stands)
 
 -- ---- a create
@@ -204,7 +204,7 @@ module _ (m : WorldState Program) (t : Tree) (op : OpId) (own : ℕ) (k : Key) (
   left = releases (get t.entries k) (tree_reply t op bind)
 
   bind_said : says y ≡ tree_reply t op bind
-  bind_said = step_said m t op own state st q refl (λ h. refl) bind refl
+  bind_said = step_said m t op own state st q refl (λ h. refl) refl bind refl
 
   bind_tree : tree_next t op bind (says y) ≡ u
   bind_tree = ap (tree_next t op bind) bind_said
@@ -237,10 +237,10 @@ module _ (m : WorldState Program) (t : Tree) (op : OpId) (own : ℕ) (k : Key) (
   bind_goes : Goes m t op p (left + 1)
   bind_goes =
       let stands : StandsAt mid u op own (make_next (bound (request_place m.counts q) k n (own_hold op) y (bound_freed (as_bound y)))) =
-      stands_as mid _ u op _ own _ _ (next_stands m t op own state st q refl (λ h. refl)) bind_tree
+      stands_as mid _ u op _ own _ _ (next_stands m t op own state st q refl (λ h. refl) refl) bind_tree
       (none_taken m.store own q ((role_laws q).untold m.store refl tt)) refl in
       subst (λ (v : Tree). Goes mid v op p left → Goes m t op p (left + 1)) bind_tree
-      (step_goes m t op own state st q refl (λ h. refl) p left)
+      (step_goes m t op own state st q refl (λ h. refl) refl p left)
       (bound_goes (request_place m.counts q) (as_bound y) refl stands)
 
 module _ (m : WorldState Program) (t : Tree) (op : OpId) (own : ℕ) (d : DirId) (n : List ℕ)
@@ -262,10 +262,10 @@ module _ (m : WorldState Program) (t : Tree) (op : OpId) (own : ℕ) (d : DirId)
   make = step.MakeFile file None
 
   made_now : is_made made_reply ≡ true
-  made_now = (kept_now m t op own (makes (making.New new.File d n)) st making_request refl (λ h. refl)).taught.0
+  made_now = (kept_now m t op own (makes (making.New new.File d n)) st making_request refl (λ h. refl) refl).taught.0
 
   make_said : says made_reply ≡ tree_reply t op make
-  make_said = step_said m t op own (makes (making.New new.File d n)) st making_request refl (λ h. refl) make refl
+  make_said = step_said m t op own (makes (making.New new.File d n)) st making_request refl (λ h. refl) refl make refl
 
   make_tree : tree_next t op make (says made_reply) ≡ stepped t op make
   make_tree = ap (tree_next t op make) make_said
@@ -278,10 +278,10 @@ module _ (m : WorldState Program) (t : Tree) (op : OpId) (own : ℕ) (d : DirId)
       let p : Played = session.created t op own k file in
       let left : ℕ = releases (get v.entries k) (tree_reply v op (step.Bind k (nodes.File file) over.File)) in
       let stands : StandsAt mid v op (own + 1) (makes (making.Bind new.File k (nodes.File file) (own_hold op))) =
-      stands_as mid _ v op _ (own + 1) _ _ (next_stands m t op own (makes (making.New new.File d n)) st making_request refl (λ h. refl)) make_tree
+      stands_as mid _ v op _ (own + 1) _ _ (next_stands m t op own (makes (making.New new.File d n)) st making_request refl (λ h. refl) refl) make_tree
       (rw made_now refl) (rw made_now refl) in
       let all : Goes m t op p (left + 1 + 1) =
       subst (λ (w : Tree). Goes mid w op p (left + 1) → Goes m t op p (left + 1 + 1)) make_tree
-      (step_goes m t op own (makes (making.New new.File d n)) st making_request refl (λ h. refl) p (left + 1))
+      (step_goes m t op own (makes (making.New new.File d n)) st making_request refl (λ h. refl) refl p (left + 1))
       (bind_goes mid v op (own + 1) k file stands) in
       subst (λ (i : ℕ). Goes m t op p i) (omega arith) all

@@ -67,7 +67,7 @@ module _ (m : WorldState Program) (s : AllWell m) (heard : AllHaveHeard m) (a : 
 
   -- it runs then
   abbrev first : Running Program
-  first = record { op = op; at = Goes (started (begin_of c)) }
+  first = record { op = op; at = Goes (started m.counts (m.actors a).memory (begin_of c)) }
 
   runs : running (after programs m began) op ≡ Some first
   runs = changed_there (λ st. program_of st.running op ≡ Some first) m.actors a (begun programs m.counts (m.actors a) op c)

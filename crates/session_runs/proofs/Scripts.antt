@@ -13,6 +13,7 @@ use Rattle.tect_ids.specs.Keys.{op_eq}
 use Rattle.tect_ids.proofs.KeyTests.{op_eq_cases, num_eq_cases}
 use Rattle.tect_ids.specs.Numbers.{root, object_number}
 use Rattle.store_rules.specs.Names.{key_in}
+use Rattle.program_forms.specs.Memories.{Memory}
 use Rattle.tree_model.specs.Tree.{Tree, opening_tree}
 use Rattle.world_runs.specs.declared.event.Event.{Event}
 use Rattle.program_rules.specs.Served.{Program, begun, started, programs}
@@ -65,15 +66,15 @@ acts_count op n (e ∷ es) acts =
 -- as the tree plays it
 command_goes : (m : WorldState Program) (t : Tree) (op : OpId) (c : Command) (own number : ℕ)
     → op ≡ record { actor = 1; number = number + 1 }
-    → IsPlayed c → StandsAt m t op own (started (begun c))
+    → IsPlayed c → (counts : Counts) (k : Memory) → StandsAt m t op own (started counts k (begun c))
     → Goes m t op (played t own number c) (played t own number c).transactions
-command_goes m t op (commands.Look (n ∷ [])) own number one is st =
+command_goes m t op (commands.Look (n ∷ [])) own number one is counts k st =
     subst (λ (o : OpId). Goes m t op (session.looked t o own (key_in root n)) 1) one (look_goes m t op own (key_in root n) st)
-command_goes m t op (commands.Create (n ∷ [])) own number one is st =
+command_goes m t op (commands.Create (n ∷ [])) own number one is counts k st =
     subst (λ (o : OpId). Goes m t op (session.created t o own (key_in root n) record { 0 = object_number o.actor own })
     (session.created t o own (key_in root n) record { 0 = object_number o.actor own }).transactions) one
     (create_goes m t op own root n st)
-command_goes m t op c own number one is st = absurd is
+command_goes m t op c own number one is counts k st = absurd is
 
 -- between two commands: what stood in the history so far has no transaction of a later op
 record Between (m : WorldState Program) (t : Tree) (before : List Event) (own number : ℕ) : Type 0 where
@@ -118,7 +119,7 @@ module _ (clients : List (List ℕ)) (m : WorldState Program) (t : Tree) (before
   same_actor : eqb op.actor op.actor ≡ true
   same_actor = grind (arith, num_eq_cases op.actor op.actor)
 
-  stands : StandsAt mid t op own (started (begun c))
+  stands : StandsAt mid t op own (started m.counts (m.actors op.actor).memory (begun c))
   stands = record {
     tracks = (event_tracked m t (Own op (Began c)) rests.tracks run.0).0;
     runs = rw same_actor refl;
@@ -126,7 +127,7 @@ module _ (clients : List (List ℕ)) (m : WorldState Program) (t : Tree) (before
   }
 
   comes : Comes mid t op front n a p p.transactions
-  comes = command_goes mid t op c own number op_now is stands front n a acts run.1
+  comes = command_goes mid t op c own number op_now is m.counts (m.actors op.actor).memory stands front n a acts run.1
 
   -- its line
   count_now : transactions (begun_before ++ front) op ≡ n

@@ -1,4 +1,4 @@
--- the commands on names look nothing up and keep nothing, so they stand as their parts do
+-- commands look nothing up, so they stand as their parts do; and where a reply tells nothing, their actors keep nothing
 use Rattle.std.proofs.Common.{◌≡◌, List, [], Option, Some, None, refl, ap, ◌∙◌}
 use Rattle.tect_ids.specs.declared.ids.Counts.{Counts}
 use Rattle.tect_ids.specs.declared.ids.OpId.{OpId}
@@ -36,16 +36,10 @@ module _ (counts : Counts) (m : Memory) (op : OpId) where
   turned_same (next.Goes (walks.There (states.Make s))) = refl
   turned_same (next.Goes (walks.There (states.Delete s))) = refl
   turned_same (next.Goes (walks.There (states.Rename s))) = refl
-
-  -- nor do they learn anything
-  learns_none : (p : Program) (q : AnyReq) (x : AnyReply) → programs.kind.learns op p q x ≡ []
-  learns_none (next.Comes a) q x = refl
-  learns_none (next.Goes (walks.Way d n ns o)) q x = refl
-  learns_none (next.Goes (walks.There (states.Look s))) q x = refl
-  learns_none (next.Goes (walks.There (states.List s))) q x = refl
-  learns_none (next.Goes (walks.There (states.Make s))) q x = refl
-  learns_none (next.Goes (walks.There (states.Delete s))) q x = refl
-  learns_none (next.Goes (walks.There (states.Rename s))) q x = refl
+  turned_same (next.Goes (walks.There (states.Open s))) = refl
+  turned_same (next.Goes (walks.There (states.Append s))) = refl
+  turned_same (next.Goes (walks.There (states.Blocks s))) = refl
+  turned_same (next.Goes (walks.There (states.Read s))) = refl
 
   none_kept : (h : Heard) (ls : List Learnt) → ls ≡ [] → kept_of h ls ≡ []
   none_kept hearing.Whole ls e = e
@@ -59,10 +53,11 @@ module _ (counts : Counts) (m : Memory) (op : OpId) where
     hears_same : (q : AnyReq) (x : AnyReply) → state_heard programs.kind counts m op p q x ≡ next_hears command_part counts m op p q x
     hears_same q x = ap (λ (t : Turned Program). next_hears command_part counts t.memory op t.state q x) (turned_same p)
 
-    memory_same : (q : AnyReq) (x : AnyReply) (h : Heard) → memory_heard programs.kind counts m op p q x h ≡ always m q x
-    memory_same q x h =
+    memory_same : (q : AnyReq) (x : AnyReply) (h : Heard) → programs.kind.learns op p q x ≡ []
+        → memory_heard programs.kind counts m op p q x h ≡ always m q x
+    memory_same q x h none =
         ap (λ (t : Turned Program). always (learnt (kept_of h (programs.kind.learns op t.state q x)) t.memory) q x) (turned_same p)
-        ∙ ap (λ (ls : List Learnt). always (learnt ls m) q x) (none_kept h (programs.kind.learns op p q x) (learns_none p q x))
+        ∙ ap (λ (ls : List Learnt). always (learnt ls m) q x) (none_kept h (programs.kind.learns op p q x) none)
 
     -- where it stands after a reply that it heard so
     abbrev pub stands_after : AnyReq → AnyReply → Heard → Standing Program
@@ -81,16 +76,24 @@ module _ (counts : Counts) (m : Memory) (op : OpId) where
   end_same Left = refl
   end_same NoRoom = refl
 
--- the actor after a reply
-pub went_on_as : (counts : Counts) (s : Actor Program) (o : Option (Running Program)) (op : OpId) (p : Program) (q : AnyReq) (x : AnyReply)
+-- what runs after a reply
+pub runs_on_as : (counts : Counts) (s : Actor Program) (o : Option (Running Program)) (op : OpId) (p : Program) (q : AnyReq) (x : AnyReply)
     (h : Heard) → o ≡ Some record { op = op; at = Goes p }
+    → (went_on programs counts s o q x h).running ≡ Some record { op = op; at = stands_after counts s.memory op p q x h }
+runs_on_as counts s o op p q x h e =
+    ap (λ (r : Option (Running Program)). (went_on programs counts s r q x h).running) e
+    ∙ ap (λ (t : Standing Program). Some (let r : Running Program = record { op = op; at = t } in r)) (stands_same counts s.memory op p q x h)
+
+-- the actor after a reply that tells nothing
+pub went_on_as : (counts : Counts) (s : Actor Program) (o : Option (Running Program)) (op : OpId) (p : Program) (q : AnyReq) (x : AnyReply)
+    (h : Heard) → o ≡ Some record { op = op; at = Goes p } → programs.kind.learns op p q x ≡ []
     → went_on programs counts s o q x h
     ≡ record s { memory = always s.memory q x; running = Some record { op = op; at = stands_after counts s.memory op p q x h } }
-went_on_as counts s o op p q x h e =
+went_on_as counts s o op p q x h e none =
     ap (λ (r : Option (Running Program)). went_on programs counts s r q x h) e
     ∙ ap (λ (m : Memory). record s
     { memory = m; running = Some record { op = op; at = standing_heard programs counts s.memory op (Goes p) q x h } })
-    (memory_same counts s.memory op p q x h)
+    (memory_same counts s.memory op p q x h none)
     ∙ ap (λ (t : Standing Program). record s { memory = always s.memory q x; running = Some record { op = op; at = t } })
     (stands_same counts s.memory op p q x h)
 
