@@ -9,3 +9,4 @@ pub mod FilesBecause
 pub mod Because
 pub mod Headline
 pub mod Attached
+pub mod Bounds

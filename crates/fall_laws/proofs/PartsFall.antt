@@ -69,6 +69,16 @@ waits_fall {S} {R} P left s L = record {
   hears = λ c m op x. more_left (P.asks c m op s) _ _ (L.hears c m op x);
 }
 
+-- what takes so many takes no more where replies add something
+pub grows_too : {S R : Type 0} {d : Doing S R} {left : S → Many} {was : Many} (grows : Counts → AnyReq → AnyReply → Many)
+    → FallsAt d (never_grows left) was (λ c m op. none)
+    → FallsAt d record { left = left; grown = λ c m op s. none; grows = grows } was (λ c m op. none)
+grows_too grows L = record {
+  turns = L.turns;
+  hears = λ c m op x.
+      let t = L.hears c m op x in record { looks = omega (arith, t.looks); others = omega (arith, t.others) };
+}
+
 -- ---- a part within another
 
 pub record IsWithin {S T : Type 0} (f : S → T) (B : PartBounding S) (U : PartBounding T) : Type 0 where

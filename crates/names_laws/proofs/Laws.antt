@@ -15,7 +15,7 @@ use Rattle.program_parts.specs.declared.walking.Walking.TheVariants.{There}
 use Rattle.program_parts.specs.Parts.{within}
 use Rattle.program_parts.specs.Walks.{walking}
 use Rattle.program_rules.specs.declared.operation.Operation.{Operation}
-use Rattle.program_rules.specs.declared.states.NewNode.TheVariants as new
+use Rattle.program_rules.specs.declared.states.NewNode.TheVariants as new_node
 use Rattle.program_rules.specs.declared.operation.Operation.TheVariants as operation
 use Rattle.program_rules.specs.declared.operation.OperationState.{OperationState}
 use Rattle.program_rules.specs.declared.operation.OperationState.TheVariants as states
@@ -86,8 +86,8 @@ module _ (c : Counts) (w : World) (op : OpId) (m : Memory) (k : Command) (rooted
   starts_knows : (b : Command) → b ≡ k → NextKnows walk_names w op m (started c m (begun b))
   starts_knows (commands.Look p) e = walks (but_last p) (operation.Look (last_of p))
   starts_knows (commands.List p) e = walks p operation.List
-  starts_knows (commands.Create p) e = walks_named p (last_of p) (λ n. operation.Make new.File n)
-  starts_knows (commands.Mkdir p) e = walks_named p (last_of p) (λ n. operation.Make new.Dir n)
+  starts_knows (commands.Create p) e = walks_named p (last_of p) (λ n. operation.Make new_node.File n)
+  starts_knows (commands.Mkdir p) e = walks_named p (last_of p) (λ n. operation.Make new_node.Dir n)
   starts_knows (commands.Delete p) e = walks_named p (last_of p) (λ n. operation.Delete n)
   starts_knows (commands.Rename p to) e = walks_renaming p (last_of p) (last_of to)
   starts_knows (commands.Open p) e = walks_for_file p (last_of p) (λ n. operation.Open p n)

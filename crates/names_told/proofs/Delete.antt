@@ -37,7 +37,8 @@ use Rattle.telling_laws.proofs.PartsTell.{TellsIn, IsWithin, part_tells, tells_i
 use Rattle.names_laws.proofs.Delete.{delete_deciding}
 use Rattle.names_told.specs.NamesTelling.{CameTo, DeleteBefore}
 use Rattle.names_told.proofs.Replies.{done_yes, done_no, ok_done, unbind_some, unbind_none}
-use Rattle.names_told.proofs.Causes.{because_lasts, releases_tell, still_came, decided_now}
+use Rattle.files_told.proofs.Lasting.{because_lasts}
+use Rattle.names_told.proofs.Causes.{releases_tell, still_came, decided_now}
 
 module _ (counts : Counts) where
   abbrev pub delete_telling : Telling Delete

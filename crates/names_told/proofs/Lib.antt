@@ -6,4 +6,5 @@ pub mod Make
 pub mod Delete
 pub mod Rename
 pub mod Operations
+pub mod Falls
 pub mod NamesTell

@@ -40,7 +40,8 @@ use Rattle.names_laws.proofs.Look.{reading_deciding}
 use Rattle.names_told.specs.NamesTelling.{CameTo, LookBefore}
 use Rattle.names_told.proofs.Replies.{RefusesDir, done_yes, done_no, finds_no, finds_node, lists_no, check_some, check_none}
 use Rattle.names_told.proofs.Replies.{list_some, list_none}
-use Rattle.names_told.proofs.Causes.{because_lasts, still_came, decided_now}
+use Rattle.files_told.proofs.Lasting.{because_lasts}
+use Rattle.names_told.proofs.Causes.{still_came, decided_now}
 
 module _ (counts : Counts) where
   abbrev pub look_telling : Telling Look

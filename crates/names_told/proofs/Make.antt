@@ -51,7 +51,8 @@ use Rattle.names_laws.proofs.Make.{make_deciding}
 use Rattle.names_told.specs.NamesTelling.{CameTo, IsOfKind, MakeBefore}
 use Rattle.names_told.proofs.Replies.{done_yes, done_no, ok_done, bind_some, bind_none}
 use Rattle.names_told.proofs.Commands.{OfItsCommands}
-use Rattle.names_told.proofs.Causes.{because_lasts, releases_tell, still_came, decided_now}
+use Rattle.files_told.proofs.Lasting.{because_lasts}
+use Rattle.names_told.proofs.Causes.{releases_tell, still_came, decided_now}
 
 module _ (counts : Counts) where
   abbrev pub make_telling : Telling Make

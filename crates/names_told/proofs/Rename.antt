@@ -54,7 +54,8 @@ use Rattle.names_laws.proofs.Rename.{rename_deciding}
 use Rattle.names_told.specs.NamesTelling.{CameTo, SawSource, RenameBefore}
 use Rattle.names_told.proofs.Replies.{done_yes, done_no, source_no, source_same, refusal_no, ok_done, swap_some, swap_none, grant_none}
 use Rattle.names_told.proofs.Commands.{OfItsCommands}
-use Rattle.names_told.proofs.Causes.{because_lasts, releases_tell, still_came, decided_now}
+use Rattle.files_told.proofs.Lasting.{because_lasts}
+use Rattle.names_told.proofs.Causes.{releases_tell, still_came, decided_now}
 
 module _ (counts : Counts) where
   abbrev pub rename_telling : Telling Rename

@@ -1,6 +1,6 @@
--- What the history tells of each operation on names before its answer is decided, and what explains the answer; and how many transactions a
--- command takes: a look for each name of its path, and at most four others.
-use Rattle.std.specs.Prelude.{◌≡◌, Some, None, List, [], ℕ}
+-- What the history tells of each operation before its answer is decided, and what explains the answer; and how many transactions a command
+-- takes: a look for each name of its path, and few others. Of the operations on the contents of files a crate of their own tells.
+use Rattle.std.specs.Prelude.{◌≡◌, Bool, true, false, Some, None, List, [], ℕ}
 use Rattle.tect_ids.specs.declared.ids.Counts.{Counts}
 use Rattle.tect_ids.specs.declared.ids.DirId.{DirId}
 use Rattle.tect_ids.specs.declared.ids.Node.{Node}
@@ -8,10 +8,17 @@ use Rattle.tect_ids.specs.declared.ids.OpId.{OpId}
 use Rattle.tect_ids.specs.declared.command.Command.{Command}
 use Rattle.tect_ids.specs.Numbers.{root}
 use Rattle.tect_ids.specs.declared.ids.Node.TheVariants as nodes
+use Rattle.store_rules.specs.declared.blocks.BlockReq.TheVariants as blocks
+use Rattle.store_rules.specs.declared.disks.DiskReq.TheVariants as disks
+use Rattle.store_rules.specs.declared.any.AnyReq.{AnyReq}
+use Rattle.store_rules.specs.declared.any.AnyReq.TheVariants as any
+use Rattle.store_rules.specs.declared.any.AnyReply.{AnyReply}
 use Rattle.store_rules.specs.Names.{key_in}
 use Rattle.tree_model.specs.declared.step.TreeReply.TheVariants.{Ok}
 use Rattle.tree_model.specs.declared.step.TreeStep.TheVariants as step
 use Rattle.tree_model.specs.declared.step.StepValue.TheVariants as shown
+use Rattle.file_rules.specs.declared.states.Read.{Read}
+use Rattle.file_rules.specs.declared.states.Read.TheVariants as reading
 use Rattle.program_rules.specs.declared.states.Look.{Look}
 use Rattle.program_rules.specs.declared.states.NewNode.{NewNode}
 use Rattle.program_rules.specs.declared.states.Make.{Make}
@@ -30,13 +37,15 @@ use Rattle.program_rules.specs.declared.states.Rename.TheVariants as renaming
 use Rattle.program_rules.specs.declared.operation.Operation.TheVariants as operation
 use Rattle.program_rules.specs.declared.operation.OperationState.TheVariants as states
 use Rattle.world_runs.specs.declared.event.Event.{Event}
+use Rattle.claim_words.specs.Bounds.{most_others}
 use Rattle.claim_words.specs.Points.{way, most_looks, of_op, Walked, Seen}
 use Rattle.claim_words.specs.TreeSteps.{tree_steps}
-use Rattle.claim_words.specs.Because.{because}
-use Rattle.fall_laws.specs.Bounding.{Many, Bounding}
-use Rattle.fall_laws.specs.Parts.{never_grows, next_bounding, walk_bounding, release_left}
+use Rattle.fall_laws.specs.Bounding.{Many, Bounding, none, one_if}
+use Rattle.fall_laws.specs.Parts.{next_bounding, walk_bounding, release_left}
 use Rattle.telling_laws.specs.Telling.{Telling}
 use Rattle.telling_laws.specs.Parts.{next_telling, walk_telling}
+use Rattle.files_told.specs.FilesTelling.{OpenBefore, AppendBefore, BlocksBefore, ReadBefore, files_why}
+use Rattle.files_told.specs.FilesTelling.{open_left, append_left, blocks_left, read_left, read_grows}
 
 -- the operation is the command's, behind the walk along its path
 abbrev pub Fits : Command → Operation → Type 0
@@ -85,9 +94,13 @@ OperationBefore h op c (states.List s) = CameTo h op c s.dir operation.List
 OperationBefore h op c (states.Make s) = MakeBefore h op c s
 OperationBefore h op c (states.Delete s) = DeleteBefore h op c s
 OperationBefore h op c (states.Rename s) = RenameBefore h op c s
+OperationBefore h op c (states.Open s) = OpenBefore h op c s
+OperationBefore h op c (states.Append s) = AppendBefore h op c s
+OperationBefore h op c (states.Blocks s) = BlocksBefore h op c s
+OperationBefore h op c (states.Read s) = ReadBefore h op c s
 
 abbrev pub operation_telling : Counts → Telling OperationState
-operation_telling counts = record { Before = OperationBefore; because = because counts }
+operation_telling counts = record { Before = OperationBefore; because = files_why counts }
 
 -- of a running command, which first walks
 abbrev pub names_telling : Counts → Telling Program
@@ -125,13 +138,24 @@ rename_left (renaming.Release r) = release_left r
 
 -- ---- all of them
 
+-- Of a read it is told in two ways: beside its readings of blocks and chunks, as many as there are; and by what its replies list.
+abbrev pub asked_left : Read → Many
+asked_left (reading.Find k) = record { looks = 1; others = 1 }
+asked_left (reading.List f) = others 1
+asked_left (reading.Locate r b) = none
+asked_left (reading.Fetch r t) = none
+
 -- at most how many are to come
-abbrev pub operation_left : OperationState → Many
-operation_left (states.Look s) = look_left s
-operation_left (states.List s) = list_left s
-operation_left (states.Make s) = make_left s
-operation_left (states.Delete s) = delete_left s
-operation_left (states.Rename s) = rename_left s
+abbrev pub operation_left : (Read → Many) → OperationState → Many
+operation_left of_read (states.Look s) = look_left s
+operation_left of_read (states.List s) = list_left s
+operation_left of_read (states.Make s) = make_left s
+operation_left of_read (states.Delete s) = delete_left s
+operation_left of_read (states.Rename s) = rename_left s
+operation_left of_read (states.Open s) = open_left s
+operation_left of_read (states.Append s) = append_left s
+operation_left of_read (states.Blocks s) = blocks_left s
+operation_left of_read (states.Read s) = of_read s
 
 -- the most that an operation takes
 abbrev pub most_of : Operation → Many
@@ -140,10 +164,31 @@ most_of operation.List = others 1
 most_of (operation.Make kind n) = others 3
 most_of (operation.Delete n) = others 2
 most_of (operation.Rename from to) = record { looks = 1; others = 4 }
+most_of (operation.Open path n) = record { looks = 1; others = 1 }
+most_of (operation.Blocks n) = record { looks = 1; others = 1 }
+most_of (operation.Read n) = record { looks = 1; others = 1 }
 
 -- ---- of a running command, which first walks
 
--- neither look-ups nor replies add anything
+-- whether the request asks where a block lies, or for a chunk
+abbrev pub reads_block : AnyReq → Bool
+reads_block (any.Block (blocks.GetBlock b)) = true
+reads_block (any.Disk (disks.Get c)) = true
+reads_block q = false
+
+-- these requests add themselves
+abbrev pub reading_adds : Counts → AnyReq → AnyReply → Many
+reading_adds counts q x = others (one_if (reads_block q))
+
+abbrev pub commands_bounding : (Read → Many) → (Counts → AnyReq → AnyReply → Many) → Bounding Program
+commands_bounding of_read grows = next_bounding
+    (walk_bounding most_of record { left = operation_left of_read; grown = λ c m op s. none; grows = grows })
+    (λ counts c. Some record { looks = most_looks c; others = most_others counts c })
+
+-- of all commands, where a reading of a block or a chunk adds itself
 abbrev pub names_bounding : Bounding Program
-names_bounding = next_bounding (walk_bounding most_of (never_grows operation_left))
-    (λ counts c. Some record { looks = most_looks c; others = 4 })
+names_bounding = commands_bounding asked_left reading_adds
+
+-- of all commands, where a listing of blocks, and of a block's rows, adds what it lists
+abbrev pub reading_bounding : Bounding Program
+reading_bounding = commands_bounding read_left read_grows

@@ -76,7 +76,6 @@ known_stays h e b some = some_stays h e b (content_of h b) refl some
 
 -- ---- the rows of files
 
-
 -- a row of a list with one more at its end
 last_row : (rs : List FileRow) (x : FileRow) (i : ℕ) (r : FileRow) → slice_get (rs ++ x ∷ []) i ≡ Some r
     → (slice_get rs i ≡ Some r) ⊎ (x ≡ r)

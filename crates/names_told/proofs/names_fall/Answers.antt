@@ -1,5 +1,5 @@
-use Rattle.names_told.proofs.Operations.{names_fall_so}
+use Rattle.names_told.proofs.Falls.{names_fall_so, reading_falls_so}
 use Rattle.names_told.proofs.names_fall.Goals as goal
 
 pub returns : goal.returns
-returns c = names_fall_so
+returns c = record { asked = names_fall_so; listed = reading_falls_so }
