@@ -1,9 +1,12 @@
-ghost use Rattle.std.specs.Prelude.{◌≡◌, IfOk, IfErr};
+ghost use Rattle.std.specs.Prelude.{◌≡◌, IfOk, IfErr, OnOk, OnErr};
 ghost use Rattle.tect_ids.specs.Numbers.{own_hold};
-ghost use Rattle.program_rules.specs.Operations.{begins_in, operation_asks, operation_hears};
+ghost use Rattle.program_forms.specs.Memories.{learnt};
+ghost use Rattle.program_rules.specs.Operations.{begins_in, operation_asks, operation_hears, operation_learns};
+ghost use Rattle.op_names.specs.OneBlock.{IsOfOneBlock};
 
 use crate::{delete, list, look, make, rename};
 use memories::Memory;
+use op_files::{append, blocks, open, read};
 use program_parts::Next;
 use program_rules::{Delete, List, Make, Operation, OperationState, Rename};
 use store_rules::AnyReply;
@@ -32,11 +35,17 @@ pub fn start(operation: Operation, dir: MadeDir) -> OperationState
             })
         }
         Operation::Rename { from, to } => OperationState::Rename(Rename::Find { dir, from, to }),
+        Operation::Open { path, name } => {
+            OperationState::Open(open::start(path, name, dir.dir()))
+        }
+        Operation::Blocks { name } => OperationState::Blocks(blocks::start(name, dir.dir())),
+        Operation::Read { name } => OperationState::Read(read::start(name, dir.dir())),
     }
 }
 
 /// Its request, as that op.
 pub fn ask(state: &OperationState, memory: &Memory, op: OpId) -> Result<Asked, NoMemory>
+    requires { IsOfOneBlock state.now }
     ensures { IfOk result (λ asked. asked ≡ operation_asks memory.now.counts memory.now.memory op state.now) }
 {
     match state {
@@ -45,19 +54,28 @@ pub fn ask(state: &OperationState, memory: &Memory, op: OpId) -> Result<Asked, N
         OperationState::Make(make) => make::ask(make, memory, op),
         OperationState::Delete(delete) => delete::ask(delete),
         OperationState::Rename(rename) => rename::ask(rename, op),
+        OperationState::Open(opening) => open::ask(opening, op),
+        OperationState::Append(append) => append::ask(append, memory, op),
+        OperationState::Blocks(blocks) => blocks::ask(blocks),
+        OperationState::Read(read) => read::ask(read),
     }
 }
 
-/// Where it goes on at the reply to its request. For want of memory it is given back.
+/// Where it goes on at the reply to its request, and what the actor learns of it is kept. For want of memory it is given back, and nothing
+/// is kept.
 pub fn hear(
     state: OperationState,
-    memory: &Memory,
+    memory: &mut Memory,
     op: OpId,
     reply: &AnyReply,
 ) -> Result<Next<OperationState, Answer>, OperationState>
-    ensures ok { IfOk result (λ next. next ≡ operation_hears memory.now.counts memory.now.memory op state
-        (operation_asks memory.now.counts memory.now.memory op state) reply.now) }
+    ensures ok { IfOk result (λ next. next ≡ operation_hears memory.old.counts memory.old.memory op state
+        (operation_asks memory.old.counts memory.old.memory op state) reply.now) }
+    ensures kept { OnOk result (memory.new ≡ record memory.old {
+      memory = learnt (operation_learns op state (operation_asks memory.old.counts memory.old.memory op state) reply.now) memory.old.memory;
+    }) }
     ensures err { IfErr result (λ same. same ≡ state) }
+    ensures unchanged { OnErr result (memory.new ≡ memory.old) }
 {
     match state {
         OperationState::Look(look) => Ok(within!(
@@ -80,5 +98,21 @@ pub fn hear(
             OperationState::Rename,
             rename::hear(rename, memory, op, reply)
         )),
+        OperationState::Open(opening) => match open::hear(opening, memory, op, reply) {
+            Ok(next) => Ok(within!(OperationState::Open, next)),
+            Err(opening) => Err(OperationState::Open(opening)),
+        },
+        OperationState::Append(append) => match append::hear(append, memory, op, reply) {
+            Ok(next) => Ok(within!(OperationState::Append, next)),
+            Err(append) => Err(OperationState::Append(append)),
+        },
+        OperationState::Blocks(blocks) => match blocks::hear(blocks, memory, reply) {
+            Ok(next) => Ok(within!(OperationState::Blocks, next)),
+            Err(blocks) => Err(OperationState::Blocks(blocks)),
+        },
+        OperationState::Read(read) => match read::hear(read, memory, reply) {
+            Ok(next) => Ok(within!(OperationState::Read, next)),
+            Err(read) => Err(OperationState::Read(read)),
+        },
     }
 }
