@@ -13,6 +13,16 @@ use store_rules::AnyReply;
 use tect_calls::{Asked, MadeDir};
 use tect_ids::{Answer, Hold, Key, NoMemory, OpId};
 
+// An operation in that state of it: where it goes on, or for want of memory as it was.
+macro_rules! heard {
+    ($state:ident, $heard:expr) => {
+        match $heard {
+            Ok(next) => Ok(within!(OperationState::$state, next)),
+            Err(same) => Err(OperationState::$state(same)),
+        }
+    };
+}
+
 /// The one hold of a command.
 pub fn hold_of(op: OpId) -> Hold
     ensures { result ≡ own_hold op }
@@ -82,10 +92,7 @@ pub fn hear(
             OperationState::Look,
             look::hear(look, memory, reply)
         )),
-        OperationState::List(list) => match list::hear(list, memory, reply) {
-            Ok(next) => Ok(within!(OperationState::List, next)),
-            Err(list) => Err(OperationState::List(list)),
-        },
+        OperationState::List(list) => heard!(List, list::hear(list, memory, reply)),
         OperationState::Make(make) => Ok(within!(
             OperationState::Make,
             make::hear(make, memory, op, reply)
@@ -98,21 +105,9 @@ pub fn hear(
             OperationState::Rename,
             rename::hear(rename, memory, op, reply)
         )),
-        OperationState::Open(opening) => match open::hear(opening, memory, op, reply) {
-            Ok(next) => Ok(within!(OperationState::Open, next)),
-            Err(opening) => Err(OperationState::Open(opening)),
-        },
-        OperationState::Append(append) => match append::hear(append, memory, op, reply) {
-            Ok(next) => Ok(within!(OperationState::Append, next)),
-            Err(append) => Err(OperationState::Append(append)),
-        },
-        OperationState::Blocks(blocks) => match blocks::hear(blocks, memory, reply) {
-            Ok(next) => Ok(within!(OperationState::Blocks, next)),
-            Err(blocks) => Err(OperationState::Blocks(blocks)),
-        },
-        OperationState::Read(read) => match read::hear(read, memory, reply) {
-            Ok(next) => Ok(within!(OperationState::Read, next)),
-            Err(read) => Err(OperationState::Read(read)),
-        },
+        OperationState::Open(opening) => heard!(Open, open::hear(opening, memory, op, reply)),
+        OperationState::Append(append) => heard!(Append, append::hear(append, memory, op, reply)),
+        OperationState::Blocks(blocks) => heard!(Blocks, blocks::hear(blocks, memory, reply)),
+        OperationState::Read(read) => heard!(Read, read::hear(read, memory, reply)),
     }
 }

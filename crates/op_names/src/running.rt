@@ -66,9 +66,11 @@ fn put(state: &mut Next<Going, Answer>, next: Next<Going, Answer>)
 // The serial is taken where the reply says that an object was made.
 fn count_made(memory: &mut Memory, reply: &AnyReply)
     requires { memory.old.memory.serial + 1 < 2 ^ 32 }
-    ensures { memory.new ≡ record memory.old { memory = record memory.old.memory {
-      serial = if is_made reply.now then memory.old.memory.serial + 1 else memory.old.memory.serial;
-    } } }
+    ensures { memory.new ≡ record memory.old {
+      memory = record memory.old.memory {
+        serial = if is_made reply.now then memory.old.memory.serial + 1 else memory.old.memory.serial;
+      };
+    } }
 {
     if reply.is_made() {
         memory.take_serial();

@@ -8,7 +8,7 @@ use Rattle.op_names.proofs.running.Running.go_on.Goals as goal
 
 pub invariant_of-self : goal.invariant_of-self
 invariant_of-self c =
-    let known = c.args.memory.old in
+    let known = c.args.memory.now in
     let was = c.self.inside.state in
     let went : c.put.new.state ≡ went_on known.counts known.memory c.args.op was c.args.reply.now =
     c.put.ensures ∙ c.in-Ok.ensures.ok
