@@ -12,6 +12,8 @@ import sys
 from tree_of_scripts import race, replay
 
 PROGRAM = os.path.join(os.path.dirname(os.path.abspath(__file__)), "..", "tect")
+# How a client goes on; one that stops is gone for the rest of the script, so that is rare.
+ENDS = 12 * ["step"] + 6 * ["run"] + ["stop"]
 
 
 def path(choose):
@@ -58,7 +60,7 @@ def script(choose):
             lines.append(f"{client} {'begin ' if began else ''}{command(choose, contents)}")
             states[client] = "busy" if began else "idle"
         else:
-            end = choose.choice(["step", "step", "step", "step", "run", "run", "stop"])
+            end = choose.choice(ENDS)
             lines.append(f"{client} {end}" + (f" {choose.randrange(1, 4)}" if end == "step" else ""))
             states[client] = {"step": "busy", "run": "idle", "stop": "gone"}[end]
     return "".join(line + "\n" for line in lines + ["dump"])
