@@ -48,6 +48,7 @@ def script(choose):
     counts = [choose.randrange(1, 5) for _ in range(5)]
     contents = choose.randrange(4)
     lines = ["store %d %d %d %d %d" % tuple(counts)]
+    lines += ["c1 create /a", "c1 create /b"][:contents]
     states = {f"c{i}": "idle" for i in range(1, choose.randrange(2, 5))}
     for _ in range(choose.randrange(1, 60)):
         live = [client for client in states if states[client] != "gone"]
