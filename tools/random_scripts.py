@@ -12,13 +12,29 @@ import sys
 from tree_of_scripts import race, replay
 
 PROGRAM = os.path.join(os.path.dirname(os.path.abspath(__file__)), "..", "tect")
+# How a client goes on; one that stops is gone for the rest of the script, so that is rare.
+ENDS = 12 * ["step"] + 6 * ["run"] + ["stop"]
 
 
 def path(choose):
     return "/" + "/".join(choose.choice("abc") for _ in range(choose.choice([1, 1, 1, 2, 2, 3, 0])))
 
 
-def command(choose):
+def file_path(choose):
+    """Mostly one of two names of the root, so that what a client appends to was often opened before."""
+    return path(choose) if choose.randrange(8) == 0 else f"/{choose.choice('ab')}"
+
+
+def contents_command(choose):
+    verb = choose.choice(["create", "open", "open", "append", "append", "append", "append", "blocks", "read", "read"])
+    content = f" {choose.randbytes(choose.choice([1, 2, 9])).hex()}" if verb == "append" else ""
+    return f"{verb} {file_path(choose)}{content}"
+
+
+def command(choose, contents):
+    """In so many of four cases one on the contents of files, and else one on names."""
+    if choose.randrange(4) < contents:
+        return contents_command(choose)
     verb = choose.choice(["look", "list", "create", "create", "mkdir", "delete", "rename", "rename"])
     if verb != "rename":
         return f"{verb} {path(choose)}"
@@ -29,8 +45,10 @@ def command(choose):
 
 def script(choose):
     """A script in turn: a client that began goes on by step, run or stop; one that stopped has no further line."""
-    counts = [choose.randrange(1, 5) for _ in range(3)]
-    lines = ["store %d %d %d 3 3" % tuple(counts)]
+    counts = [choose.randrange(1, 5) for _ in range(5)]
+    contents = choose.randrange(4)
+    lines = ["store %d %d %d %d %d" % tuple(counts)]
+    lines += ["c1 create /a", "c1 create /b"][:contents]
     states = {f"c{i}": "idle" for i in range(1, choose.randrange(2, 5))}
     for _ in range(choose.randrange(1, 60)):
         live = [client for client in states if states[client] != "gone"]
@@ -40,10 +58,10 @@ def script(choose):
         client = choose.choice(live)
         if states[client] == "idle":
             began = choose.randrange(2) == 0
-            lines.append(f"{client} {'begin ' if began else ''}{command(choose)}")
+            lines.append(f"{client} {'begin ' if began else ''}{command(choose, contents)}")
             states[client] = "busy" if began else "idle"
         else:
-            end = choose.choice(["step", "step", "step", "step", "run", "run", "stop"])
+            end = choose.choice(ENDS)
             lines.append(f"{client} {end}" + (f" {choose.randrange(1, 4)}" if end == "step" else ""))
             states[client] = {"step": "busy", "run": "idle", "stop": "gone"}[end]
     return "".join(line + "\n" for line in lines + ["dump"])

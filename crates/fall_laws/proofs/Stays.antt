@@ -26,11 +26,8 @@ use Rattle.claim_words.specs.Headline.{begun_by, or_later, command_of}
 use Rattle.fall_laws.specs.Bounding.{running_grows, act_grows, event_grows, history_grows}
 use Rattle.fall_laws.proofs.Begins.{begins_now, none_begins}
 
--- look-ups add nothing
-abbrev pub adds_nothing : {S : Type 0} → Counts → Memory → OpId → S → ℕ
-adds_nothing counts m op s = 0
-
-module _ (S : Type 0) (P : Programs S) (kind : S → Bool) (reply : Counts → AnyReq → AnyReply → ℕ)
+module _ (S : Type 0) (P : Programs S) (kind : S → Bool) (look : Counts → Memory → OpId → S → ℕ) (reply : Counts → AnyReq → AnyReply → ℕ)
+    (no_look : (counts : Counts) (m : Memory) (op : OpId) (s : S) → look counts m op s ≡ 0)
     (stays : (counts : Counts) (m : Memory) (op : OpId) (s : S) (q : AnyReq) (x : AnyReply) → next_does P.kind counts m op s ≡ Asks q
     → kind s ≡ true → kind (state_heard P.kind counts m op s q x) ≡ true)
     (none : (counts : Counts) (m : Memory) (op : OpId) (s : S) (q : AnyReq) (x : AnyReply) → next_does P.kind counts m op s ≡ Asks q
@@ -53,15 +50,15 @@ module _ (S : Type 0) (P : Programs S) (kind : S → Bool) (reply : Counts → A
     -- ---- what an event adds
 
     acted_adds : (counts : Counts) (s : Actor S) (o op : OpId) (q : AnyReq) (x : AnyReply) (h : Heard) → OwnMay P counts s o (Acted q x h)
-        → IsSo op s.running → op_eq o op ≡ true → act_grows adds_nothing reply counts s (Acted q x h) ≡ 0
+        → IsSo op s.running → op_eq o op ≡ true → act_grows look reply counts s (Acted q x h) ≡ 0
     acted_adds counts s o op q x h may so same =
         let a : Asking S P counts s.memory s.running o q = asks_of S P counts s.memory s.running o q may in
         let here : IsSo op (Some record { op = o; at = Goes a.state }) = rw a.is at so in
-        subst (λ (z : Option (Running S)). running_grows adds_nothing reply counts s.memory q x z ≡ 0) (sym a.is)
-        (omega (arith, none counts s.memory o a.state q x a.asks (here same)))
+        subst (λ (z : Option (Running S)). running_grows look reply counts s.memory q x z ≡ 0) (sym a.is)
+        (omega (arith, no_look counts s.memory o a.state, none counts s.memory o a.state q x a.asks (here same)))
 
     own_adds : (counts : Counts) (s : Actor S) (o op : OpId) (h : Happening) → OwnMay P counts s o h → IsSo op s.running
-        → op_eq o op ≡ true → act_grows adds_nothing reply counts s h ≡ 0
+        → op_eq o op ≡ true → act_grows look reply counts s h ≡ 0
     own_adds counts s o op (Acted q x h) may so same = acted_adds counts s o op q x h may so same
     own_adds counts s o op (Began c) may so same = refl
     own_adds counts s o op (NotBegun c) may so same = refl
@@ -70,11 +67,11 @@ module _ (S : Type 0) (P : Programs S) (kind : S → Bool) (reply : Counts → A
     own_adds counts s o op (Failed a) may so same = refl
 
     event_adds : (m : WorldState S) (e : Event) (op : OpId) → May P m e → IsSo op (m.actors op.actor).running
-        → event_grows adds_nothing reply m op e ≡ 0
+        → event_grows look reply m op e ≡ 0
     event_adds m Dumped op may so = refl
     event_adds m (Own o h) op may so = by (op_eq o op) refl
       where
-        by : (b : Bool) → op_eq o op ≡ b → (if b then act_grows adds_nothing reply m.counts (m.actors o.actor) h else 0) ≡ 0
+        by : (b : Bool) → op_eq o op ≡ b → (if b then act_grows look reply m.counts (m.actors o.actor) h else 0) ≡ 0
         by false e = refl
         by true e =
             let same : o ≡ op = grind (arith, op_eq_cases o op) in
@@ -135,7 +132,7 @@ module _ (S : Type 0) (P : Programs S) (kind : S → Bool) (reply : Counts → A
             absurd (let z : None ≡ Some d = sym no ∙ later in cc)
 
     run_adds : (es : List Event) (m : WorldState S) (op : OpId) → RunFrom P m es → BeginsSo m.counts (command_of es op)
-        → IsSo op (m.actors op.actor).running → history_grows P adds_nothing reply m op es ≡ 0
+        → IsSo op (m.actors op.actor).running → history_grows P look reply m op es ≡ 0
     run_adds [] m op run begins so = refl
     run_adds (e ∷ es) m op run begins so =
         let first : BeginsSo m.counts (begun_by e op) = first_begins m.counts (begun_by e op) (command_of es op) begins in
@@ -144,7 +141,13 @@ module _ (S : Type 0) (P : Programs S) (kind : S → Bool) (reply : Counts → A
 
     -- so of an op whose command begins in such a state
     pub nothing_added : (counts : Counts) (es : List Event) → IsWorldRun P counts es → (op : OpId) (c : Command) → command_of es op ≡ Some c
-        → ((m : Memory) → kind (P.starts counts m c) ≡ true) → history_grows P adds_nothing reply (opening counts) op es ≡ 0
+        → ((m : Memory) → kind (P.starts counts m c) ≡ true) → history_grows P look reply (opening counts) op es ≡ 0
     nothing_added counts es run op c is begins =
         run_adds es (opening counts) op run
         (λ m d e. let both : Some d ≡ Some c = sym e ∙ is in let same : d ≡ c = cc in rw same (begins m)) tt
+
+    -- and of one that began no command
+    pub idle_added : (counts : Counts) (es : List Event) → IsWorldRun P counts es → (op : OpId) → command_of es op ≡ None
+        → history_grows P look reply (opening counts) op es ≡ 0
+    idle_added counts es run op is =
+        run_adds es (opening counts) op run (λ m d e. absurd (let no : None ≡ Some d = sym is ∙ e in cc)) tt

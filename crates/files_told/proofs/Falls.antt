@@ -47,7 +47,8 @@ use Rattle.fall_laws.specs.Bounding.{Many, AtMost, none}
 use Rattle.fall_laws.specs.Parts.{PartFalls, Takes, plus, next_left}
 use Rattle.fall_laws.proofs.PartsFall.{FallsIn, part_falls, waits_fall}
 use Rattle.files_told.specs.FilesTelling.{others, behind, open_left, append_left}
-use Rattle.files_told.specs.FilesTelling.{blocks_left, read_left, listed_more, located_more, read_grows}
+use Rattle.claim_words.specs.Bounds.{listed_blocks, placed_rows}
+use Rattle.files_told.specs.FilesTelling.{blocks_left, read_left, read_grows}
 use Rattle.files_told.specs.FilesTelling.{open_bounding, append_bounding, blocks_bounding, read_bounding}
 
 -- ---- beside what is asked
@@ -226,7 +227,7 @@ read_on_leaves : (r : Reading) → AtMost (next_left read_left (read_on r)) (oth
 read_on_leaves r = located_leaves r (slice_get r.parts r.at) refl
 
 begins_leaves : (place : Place) (f : FileId) (x : AnyReply) (o : Option (List RowPart))
-    → AtMost (next_left read_left (begins_reading place f x o)) (others (listed_more o))
+    → AtMost (next_left read_left (begins_reading place f x o)) (others (listed_blocks o))
 begins_leaves place f x None = nothing 0
 begins_leaves place f x (Some parts) =
     let l : AtMost (next_left read_left (read_on record { parts = parts; at = 0; bytes = [] })) (others (length parts - 0)) =
@@ -246,10 +247,10 @@ fetch_on_leaves : (place : Place) (r : Reading) (chunks : List ChunkKey) (tried 
 fetch_on_leaves place r chunks tried = fetched_leaves place r chunks tried (slice_get chunks tried) refl
 
 begins_fetching_leaves : (place : Place) (r : Reading) (b : BlkId) (o : Option Location)
-    → AtMost (next_left read_left (begins_fetching place r b o)) (others (behind r.parts r.at + located_more o))
+    → AtMost (next_left read_left (begins_fetching place r b o)) (others (behind r.parts r.at + placed_rows o))
 begins_fetching_leaves place r b None = nothing (behind r.parts r.at + 0)
 begins_fetching_leaves place r b (Some l) =
-    let many : length (placed_chunks b l.rows) ≡ located_more (Some l) = length-map (filter (λ w. w.placed) l.rows) _ in
+    let many : length (placed_chunks b l.rows) ≡ placed_rows (Some l) = length-map (filter (λ w. w.placed) l.rows) _ in
     let k : AtMost (next_left read_left (fetch_on place r (placed_chunks b l.rows) 0))
     (others (behind r.parts r.at + (length (placed_chunks b l.rows) - 0))) =
     fetch_on_leaves place r (placed_chunks b l.rows) 0 in
@@ -281,12 +282,12 @@ read_at (reading.Find k) = reads_fall (reading.Find k) (λ c m op x.
     record { looks = omega (arith, l.looks); others = omega (arith, l.others) })
 read_at (reading.List f) = reads_fall (reading.List f) (λ c m op x.
     let l : AtMost (next_left read_left (read.hears c m op (reading.List f) (read_asks (reading.List f)) x)) (others
-    (listed_more (as_block_list x))) =
+    (listed_blocks (as_block_list x))) =
     begins_leaves (request_place c (read_asks (reading.List f))) f x (as_block_list x) in
     record { looks = omega (arith, l.looks); others = omega (arith, l.others) })
 read_at (reading.Locate r b) = reads_fall (reading.Locate r b) (λ c m op x.
     let l : AtMost (next_left read_left (read.hears c m op (reading.Locate r b) (read_asks (reading.Locate r b)) x)) (others
-    (behind r.parts r.at + located_more (as_location x))) =
+    (behind r.parts r.at + placed_rows (as_location x))) =
     begins_fetching_leaves (request_place c (read_asks (reading.Locate r b))) r b (as_location x) in
     record { looks = omega (arith, l.looks); others = omega (arith, l.others) })
 read_at (reading.Fetch r t) = reads_fall (reading.Fetch r t) (λ c m op x.

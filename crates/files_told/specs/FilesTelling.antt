@@ -10,7 +10,6 @@ use Rattle.tect_ids.specs.declared.ids.Node.TheVariants.{File}
 use Rattle.tect_ids.specs.declared.ids.OpId.{OpId}
 use Rattle.tect_ids.specs.declared.key.ChunkKey.{ChunkKey}
 use Rattle.tect_ids.specs.declared.key.Key.{Key}
-use Rattle.tect_ids.specs.declared.values.Location.{Location}
 use Rattle.tect_ids.specs.declared.values.RowPart.{RowPart}
 use Rattle.tect_ids.specs.declared.command.Command.{Command}
 use Rattle.tect_ids.specs.declared.command.Command.TheVariants as commands
@@ -19,7 +18,6 @@ use Rattle.tect_ids.specs.Numbers.{root}
 use Rattle.tect_ids.specs.Paths.{last_name}
 use Rattle.store_rules.specs.declared.any.AnyReq.{AnyReq}
 use Rattle.store_rules.specs.declared.any.AnyReply.{AnyReply}
-use Rattle.store_rules.specs.Views.{as_block_list, as_location}
 use Rattle.tect_calls.specs.MadeBlocks.{chunks_of}
 use Rattle.program_laws.specs.Known.{is_odd}
 use Rattle.file_rules.specs.declared.states.Appending.{Appending}
@@ -34,6 +32,7 @@ use Rattle.file_rules.specs.declared.states.Read.TheVariants as reading
 use Rattle.file_rules.specs.Stages.{Reading, Fetching}
 use Rattle.world_runs.specs.declared.event.Event.{Event}
 use Rattle.claim_words.specs.Because.{because}
+use Rattle.claim_words.specs.Bounds.{lists}
 use Rattle.claim_words.specs.Commands.{said_in, content_of, content_in}
 use Rattle.claim_words.specs.FilesBecause.{ReadPoint}
 use Rattle.claim_words.specs.Points.{way, of_op, Walked, FoundSource}
@@ -178,17 +177,9 @@ read_left (reading.List f) = others 1
 read_left (reading.Locate r b) = others (behind r.parts r.at + 1)
 read_left (reading.Fetch r t) = others (behind r.parts r.at + behind t.chunks t.tried + 1)
 
-abbrev pub listed_more : Option (List RowPart) → ℕ
-listed_more None = 0
-listed_more (Some parts) = length parts
-
-abbrev pub located_more : Option Location → ℕ
-located_more None = 0
-located_more (Some l) = length (filter (λ r. r.placed) l.rows)
-
 -- a listing adds that each of its blocks is located, and a location that the chunk of each placed row is got
 abbrev pub read_grows : Counts → AnyReq → AnyReply → Many
-read_grows counts q x = others (listed_more (as_block_list x) + located_more (as_location x))
+read_grows counts q x = others (lists x)
 
 abbrev pub open_bounding : PartBounding Open
 open_bounding = never_grows open_left

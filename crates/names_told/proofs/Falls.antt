@@ -403,3 +403,9 @@ names_fall_so = commands_fall asked_left reading_adds read_asked_at (λ n d. rec
 
 pub reading_falls_so : FallLaws programs reading_bounding
 reading_falls_so = commands_fall read_left read_grows (falls_in read_falls) (λ n d. record { looks = omega arith; others = omega arith })
+
+-- look-ups add nothing
+pub names_never_grow : (c : Counts) (m : Memory) (op : OpId) (p : Program) → names_bounding.grown c m op p ≡ none
+names_never_grow c m op (Comes a) = refl
+names_never_grow c m op (Goes (Way d n ns o)) = refl
+names_never_grow c m op (Goes (There s)) = refl

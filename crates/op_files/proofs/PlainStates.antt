@@ -64,7 +64,7 @@ plain_refusal k (Changed now) l = l
 plain_refusal k (TokenChanged None) l = l
 plain_refusal k (TokenChanged (Some now)) l = l
 
-plain_refused : (place : Place) (k : Key) (x : AnyReply) → ¬ IsLack (refusal place k x)
+pub plain_refused : (place : Place) (k : Key) (x : AnyReply) → ¬ IsLack (refusal place k x)
 plain_refused place k (any.Name (names.Refused why)) = plain_refusal k why
 plain_refused place k (any.File (files.Refused why)) = plain_refusal k why
 plain_refused place k _ = λ l. l

@@ -1,2 +1,3 @@
 pub mod LastNames
+pub mod OneBlock
 pub mod PlainStates

@@ -9,15 +9,12 @@ use Rattle.tect_ids.specs.declared.ids.OpId.{OpId}
 use Rattle.tect_ids.specs.declared.ids.Place.{Place}
 use Rattle.tect_ids.specs.declared.key.Key.{Key}
 use Rattle.tect_ids.specs.declared.values.Listed.{Listed}
-use Rattle.tect_ids.specs.declared.values.Refusal.{Refusal}
-use Rattle.tect_ids.specs.declared.values.Refusal.TheVariants.{NoDir, NoName, NoFile, Exists, IsDir, Sealed, Full, Changed, TokenChanged}
+use Rattle.tect_ids.specs.declared.values.Refusal.TheVariants.{NoDir}
 use Rattle.tect_ids.specs.declared.answer.Answer.{Answer}
 use Rattle.tect_ids.specs.declared.command.Command.{Command}
 use Rattle.tect_ids.specs.Keys.{name_eq}
 use Rattle.tect_ids.specs.Numbers.{root, object_number}
-use Rattle.tect_ids.specs.Refusals.{refusal_answer}
 use Rattle.store_rules.specs.declared.names.NameReply.TheVariants as names
-use Rattle.store_rules.specs.declared.files.FileReply.TheVariants as files
 use Rattle.store_rules.specs.declared.any.AnyReq.{AnyReq}
 use Rattle.store_rules.specs.declared.any.AnyReply.{AnyReply}
 use Rattle.store_rules.specs.declared.any.AnyReply.TheVariants as any
@@ -32,7 +29,7 @@ use Rattle.program_parts.specs.declared.next.Next.{Next}
 use Rattle.program_parts.specs.declared.next.Next.TheVariants.{Goes, Comes}
 use Rattle.program_parts.specs.declared.walking.Walking.TheVariants.{Way, There}
 use Rattle.program_parts.specs.Parts.{within}
-use Rattle.program_parts.specs.Refused.{refusal, dir_refusal}
+use Rattle.program_parts.specs.Refused.{dir_refusal}
 use Rattle.program_parts.specs.Releases.{then_release}
 use Rattle.program_parts.specs.Walks.{walk_on, walked, walk_asks}
 use Rattle.program_rules.specs.declared.states.Look.{Look}
@@ -54,28 +51,14 @@ use Rattle.program_rules.specs.Make.{bound, make_hears}
 use Rattle.program_rules.specs.Delete.{unbound, delete_hears}
 use Rattle.program_rules.specs.Rename.{to_grant, found_old, swapped, rename_hears}
 use Rattle.program_rules.specs.Operations.{begins_in, operations, operation_hears}
-use Rattle.program_rules.specs.Served.{Program, Begun, Walks, LacksName, begun, started}
+use Rattle.program_rules.specs.Served.{Program, Begun, Walks, Appends, LacksName, WantsFile, begun, started}
+use Rattle.file_rules.specs.Append.{append_starts}
+use Rattle.op_files.specs.Plain.{IsPlainNext, IsPlainOpen, IsPlainAppend, IsPlainBlocks, IsPlainRead}
+use Rattle.op_files.proofs.PlainStates.{plain_refused, plain_open, plain_append, plain_append_start, plain_blocks, plain_read}
 use Rattle.op_names.specs.Going.{went_on}
-use Rattle.op_names.specs.Plain.{IsPlainNext, IsPlainMake, IsPlainDelete, IsPlainRename, IsPlainOperation, IsPlainWalking, IsPlainState}
+use Rattle.op_names.specs.Plain.{IsPlainMake, IsPlainDelete, IsPlainRename, IsPlainOperation, IsPlainWalking, IsPlainState}
 
 -- ---- refusals
-
-plain_refusal : (k : Key) (why : Refusal) → ¬ IsLack (refusal_answer k why)
-plain_refusal k NoDir l = l
-plain_refusal k NoName l = l
-plain_refusal k NoFile l = l
-plain_refusal k Exists l = l
-plain_refusal k IsDir l = l
-plain_refusal k Sealed l = l
-plain_refusal k Full l = l
-plain_refusal k (Changed now) l = l
-plain_refusal k (TokenChanged None) l = l
-plain_refusal k (TokenChanged (Some now)) l = l
-
-plain_refused : (place : Place) (k : Key) (x : AnyReply) → ¬ IsLack (refusal place k x)
-plain_refused place k (any.Name (names.Refused why)) = plain_refusal k why
-plain_refused place k (any.File (files.Refused why)) = plain_refusal k why
-plain_refused place k _ = λ l. l
 
 plain_dir_refused : (place : Place) (x : AnyReply) → ¬ IsLack (dir_refusal place x)
 plain_dir_refused place (any.Name (names.Refused NoDir)) l = l
@@ -181,6 +164,15 @@ plain_operation c m op (states.Delete s) q x plain =
     plain_within states.Delete IsPlainDelete IsPlainOperation (λ t p. p) _ (plain_delete (request_place c q) x s plain)
 plain_operation c m op (states.Rename s) q x plain =
     plain_within states.Rename IsPlainRename IsPlainOperation (λ t p. p) _ (plain_rename (request_place c q) x op s plain)
+plain_operation c m op (states.Open s) q x plain =
+    plain_within states.Open IsPlainOpen IsPlainOperation (λ t p. tt) _ (plain_open (request_place c q) x op s)
+plain_operation c m op (states.Append s) q x plain =
+    plain_within states.Append IsPlainAppend IsPlainOperation (λ t p. p) _
+    (plain_append (request_place c q) x op (object_number op.actor m.serial) s plain)
+plain_operation c m op (states.Blocks s) q x plain =
+    plain_within states.Blocks IsPlainBlocks IsPlainOperation (λ t p. tt) _ (plain_blocks (request_place c q) x s)
+plain_operation c m op (states.Read s) q x plain =
+    plain_within states.Read IsPlainRead IsPlainOperation (λ t p. tt) _ (plain_read (request_place c q) x s)
 
 -- ---- walks
 
@@ -190,6 +182,9 @@ plain_begin operation.List d = tt
 plain_begin (operation.Make kind n) d = tt
 plain_begin (operation.Delete n) d = tt
 plain_begin (operation.Rename from to) d = tt
+plain_begin (operation.Open path n) d = tt
+plain_begin (operation.Blocks n) d = tt
+plain_begin (operation.Read n) d = tt
 
 plain_walk : (d : DirId) (ns : List (List ℕ)) (o : Operation) → IsPlainWalking (walk_on begins_in d ns o)
 plain_walk d [] o = plain_begin o d
@@ -210,9 +205,13 @@ plain_after c m op (Goes (There s)) x plain =
     (plain_operation c m op s (walk_asks {O = Operation} operations c m op (There s)) x plain)
 plain_after c m op (Comes a) x plain = plain
 
-plain_started : (b : Begun) → IsPlainState (started b)
-plain_started (Walks p o) = plain_walk root p o
-plain_started LacksName = λ l. l
+plain_started : (counts : Counts) (m : Memory) (b : Begun) → IsPlainState (started counts m b)
+plain_started counts m (Walks p o) = plain_walk root p o
+plain_started counts m (Appends p bytes) =
+    plain_within There IsPlainOperation IsPlainWalking (λ t p. p) _
+    (plain_within states.Append IsPlainAppend IsPlainOperation (λ t p. p) _ (plain_append_start counts m p bytes))
+plain_started counts m LacksName = λ l. l
+plain_started counts m WantsFile = λ l. l
 
-pub plain_start : (c : Command) → IsPlainState (started (begun c))
-plain_start c = plain_started (begun c)
+pub plain_start : (counts : Counts) (m : Memory) (c : Command) → IsPlainState (started counts m (begun c))
+plain_start counts m c = plain_started counts m (begun c)

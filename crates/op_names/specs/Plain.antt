@@ -1,8 +1,5 @@
 -- The answers that a running command carries are no want of memory or of room.
-use Rattle.tect_ids.specs.declared.answer.Answer.{Answer}
 use Rattle.program_forms.specs.Lacks.{IsLack}
-use Rattle.program_parts.specs.declared.next.Next.{Next}
-use Rattle.program_parts.specs.declared.next.Next.TheVariants.{Goes, Comes}
 use Rattle.program_parts.specs.declared.walking.Walking.{Walking}
 use Rattle.program_parts.specs.declared.walking.Walking.TheVariants.{Way, There}
 use Rattle.program_rules.specs.declared.states.Make.{Make}
@@ -15,11 +12,9 @@ use Rattle.program_rules.specs.declared.operation.Operation.{Operation}
 use Rattle.program_rules.specs.declared.operation.OperationState.{OperationState}
 use Rattle.program_rules.specs.declared.operation.OperationState.TheVariants.{Look, List}
 use Rattle.program_rules.specs.declared.operation.OperationState.TheVariants.{Make as Making, Delete as Deleting, Rename as Renaming}
+use Rattle.program_rules.specs.declared.operation.OperationState.TheVariants.{Open, Append, Blocks, Read}
 use Rattle.program_rules.specs.Served.{Program}
-
-abbrev pub IsPlainNext : {S : Type 0} → (S → Type 0) → Next S Answer → Type 0
-IsPlainNext IsPlain (Goes s) = IsPlain s
-IsPlainNext IsPlain (Comes a) = ¬ IsLack a
+use Rattle.op_files.specs.Plain.{IsPlainNext, IsPlainOpen, IsPlainAppend, IsPlainBlocks, IsPlainRead}
 
 abbrev pub IsPlainMake : Make → Type 0
 IsPlainMake (making.Release r) = ¬ IsLack r.answer
@@ -39,6 +34,10 @@ IsPlainOperation (List s) = Unit {0}
 IsPlainOperation (Making s) = IsPlainMake s
 IsPlainOperation (Deleting s) = IsPlainDelete s
 IsPlainOperation (Renaming s) = IsPlainRename s
+IsPlainOperation (Open s) = IsPlainOpen s
+IsPlainOperation (Append s) = IsPlainAppend s
+IsPlainOperation (Blocks s) = IsPlainBlocks s
+IsPlainOperation (Read s) = IsPlainRead s
 
 abbrev pub IsPlainWalking : Walking Operation OperationState → Type 0
 IsPlainWalking (Way d n ns o) = Unit {0}

@@ -8,10 +8,9 @@ ghost use Rattle.program_rules.specs.declared.states.Delete.TheVariants.{Release
 ghost use Rattle.program_rules.specs.Delete.{delete_asks, unbound, delete_hears};
 
 use crate::places::place_of_dir;
-use crate::refusals::refused;
 use crate::release;
 use memories::Memory;
-use program_parts::Next;
+use program_parts::{Next, refused};
 use program_rules::Delete;
 use store_rules::AnyReply;
 use tect_calls::{Asked, Freed, name_unbind};

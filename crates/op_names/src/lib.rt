@@ -1,5 +1,6 @@
-//! The commands on names as code: the requests that a command makes, one at a time, and how it goes on at each reply. The state of a
-//! running command holds the tokens that its next request needs, and each reply gives those that the request after it needs.
+//! All commands as code, each as a program: the walk along its path, the commands on names, and those on the contents of files, which
+//! `op_files` has. A command makes one request at a time and goes on at each reply. The state of a running command holds the tokens that
+//! its next request needs, and each reply gives those that the request after it needs.
 #![tactic(auto)]
 
 // A part within another: where it goes on, the other is in that state of it.
@@ -20,7 +21,6 @@ mod look;
 mod make;
 mod operations;
 mod places;
-mod refusals;
 mod release;
 mod rename;
 mod running;

@@ -6,9 +6,8 @@ ghost use Rattle.program_rules.specs.List.{listed};
 ghost use Rattle.op_names.specs.Shards.{dir_shard};
 
 use crate::places::place_of_dir;
-use crate::refusals::dir_refused;
 use memories::Memory;
-use program_parts::Next;
+use program_parts::{Next, dir_refused};
 use program_rules::List;
 use store_rules::{AnyReply, NameReply};
 use tect_calls::{Asked, name_list};

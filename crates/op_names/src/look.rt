@@ -4,9 +4,8 @@ ghost use Rattle.store_rules.specs.Views.{as_found, as_parent};
 ghost use Rattle.program_rules.specs.Look.{look_starts, look_asks, checked, looked, look_hears};
 
 use crate::places::place_of_dir;
-use crate::refusals::{dir_refused, refused};
 use memories::Memory;
-use program_parts::Next;
+use program_parts::{Next, dir_refused, refused};
 use program_rules::Look;
 use store_rules::{AnyReply, NameReply};
 use tect_calls::{Asked, name_check_dir, name_look};

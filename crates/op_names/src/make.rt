@@ -10,10 +10,9 @@ ghost use Rattle.program_rules.specs.Make.{over_of, node_of, new_ask, make_asks,
 
 use crate::operations::hold_of;
 use crate::places::{place_of_dir, place_of_node};
-use crate::refusals::refused;
 use crate::release;
 use memories::Memory;
-use program_parts::{Next, Releasing};
+use program_parts::{Next, Releasing, refused};
 use program_rules::{Make, NewNode};
 use store_rules::AnyReply;
 use tect_calls::{

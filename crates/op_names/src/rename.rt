@@ -14,10 +14,9 @@ ghost use Rattle.program_rules.specs.Rename.{grant_ask, rename_asks, to_grant, f
 
 use crate::operations::hold_of;
 use crate::places::{place_of_dir, place_of_node};
-use crate::refusals::refused;
 use crate::release;
 use memories::Memory;
-use program_parts::{Next, Releasing};
+use program_parts::{Next, Releasing, refused};
 use program_rules::{NamePair, Rename};
 use store_rules::AnyReply;
 use tect_calls::{

@@ -1,6 +1,9 @@
-ghost use Rattle.std.specs.Prelude.{◌≡◌, IfOk, IfErr, OnOk, OnErr};
+ghost use Rattle.std.specs.Prelude.{◌≡◌, ◌+◌, ◌^◌, ◌<◌, if◌then◌else◌, IfOk, IfErr, OnOk, OnErr};
 ghost use Rattle.program_calls.specs.Hearing.{IsPlain, GoesOn};
-ghost use Rattle.op_names.specs.Going.{answer_of, went_on};
+ghost use Rattle.program_forms.specs.Memories.{learnt};
+ghost use Rattle.store_rules.specs.Views.{is_made};
+ghost use Rattle.op_names.specs.Going.{answer_of, went_on, learns};
+ghost use Rattle.op_names.specs.OneBlock.{RunsWithOneBlock};
 
 use crate::start::start;
 use crate::walk::{self, Going};
@@ -31,15 +34,19 @@ impl Model for Running {
     ghost invariant = { IsRunning };
 }
 
-// Where a command goes on at the reply to its request. For want of memory it is given back.
+// Where a command goes on at the reply to its request, and what the actor learns of it is kept. For want of memory it is given back, and
+// nothing is kept.
 fn hear_reply(
     state: Next<Going, Answer>,
-    memory: &Memory,
+    memory: &mut Memory,
     op: OpId,
     reply: &AnyReply,
 ) -> Result<Next<Going, Answer>, Next<Going, Answer>>
-    ensures ok { IfOk result (λ next. next ≡ went_on memory.now.counts memory.now.memory op state reply.now) }
+    ensures ok { IfOk result (λ next. next ≡ went_on memory.old.counts memory.old.memory op state reply.now) }
+    ensures kept { OnOk result (memory.new
+        ≡ record memory.old { memory = learnt (learns memory.old.counts memory.old.memory op state reply.now) memory.old.memory }) }
     ensures err { IfErr result (λ same. same ≡ state) }
+    ensures unchanged { OnErr result (memory.new ≡ memory.old) }
 {
     match state {
         Next::Goes { state } => match walk::hear(state, memory, op, reply) {
@@ -56,11 +63,28 @@ fn put(state: &mut Next<Going, Answer>, next: Next<Going, Answer>)
     *state = next;
 }
 
+// The serial is taken where the reply says that an object was made.
+fn count_made(memory: &mut Memory, reply: &AnyReply)
+    requires { memory.old.memory.serial + 1 < 2 ^ 32 }
+    ensures { memory.new ≡ record memory.old {
+      memory = record memory.old.memory {
+        serial = if is_made reply.now then memory.old.memory.serial + 1 else memory.old.memory.serial;
+      };
+    } }
+{
+    if reply.is_made() {
+        memory.take_serial();
+    }
+}
+
 impl Running {
-    // Goes on at the reply to its request. For want of memory nothing is changed.
-    fn go_on(&mut self, memory: &Memory, op: OpId, reply: &AnyReply) -> Result<(), NoMemory>
-        ensures ok { OnOk result (self.new ≡ went_on memory.now.counts memory.now.memory op self.old reply.now) }
+    // Goes on at the reply to its request, and what the actor learns of it is kept. For want of memory nothing is changed.
+    fn go_on(&mut self, memory: &mut Memory, op: OpId, reply: &AnyReply) -> Result<(), NoMemory>
+        ensures ok { OnOk result (self.new ≡ went_on memory.old.counts memory.old.memory op self.old reply.now) }
+        ensures kept { OnOk result (memory.new
+            ≡ record memory.old { memory = learnt (learns memory.old.counts memory.old.memory op self.old reply.now) memory.old.memory }) }
         ensures err { OnErr result (self.new ≡ self.old) }
+        ensures unchanged { OnErr result (memory.new ≡ memory.old) }
     {
         let nothing = Next::Comes {
             result: Answer::Done,
@@ -100,12 +124,12 @@ impl Programs for Running {
 
     fn start(
         _alloc: Global,
-        _memory: &Memory,
+        memory: &Memory,
         _op: OpId,
         command: Command,
     ) -> Result<Running, NoMemory> {
         Ok(Running {
-            state: start(command)?,
+            state: start(memory, command)?,
         })
     }
 
@@ -129,13 +153,15 @@ impl Programs for Running {
         op: OpId,
         reply: &AnyReply,
     ) -> Result<Option<Answer>, NoMemory> {
-        let heard = self.go_on(memory, op, reply);
-        if reply.is_made() {
-            memory.take_serial();
-        }
-        match heard {
-            Ok(()) => Ok(self.take_answer()),
-            Err(NoMemory) => Err(NoMemory),
+        match self.go_on(memory, op, reply) {
+            Ok(()) => {
+                count_made(memory, reply);
+                Ok(self.take_answer())
+            }
+            Err(NoMemory) => {
+                count_made(memory, reply);
+                Err(NoMemory)
+            }
         }
     }
 }

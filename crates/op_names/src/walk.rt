@@ -1,18 +1,19 @@
-ghost use Rattle.std.specs.Prelude.{◌≡◌, IfOk, IfErr};
+ghost use Rattle.std.specs.Prelude.{◌≡◌, IfOk, IfErr, OnOk, OnErr};
 ghost use Rattle.store_rules.specs.Names.{key_in};
 ghost use Rattle.store_rules.specs.Views.{as_found};
+ghost use Rattle.program_forms.specs.Memories.{learnt};
 ghost use Rattle.program_parts.specs.declared.next.Next.TheVariants.{Goes};
 ghost use Rattle.program_parts.specs.declared.walking.Walking.TheVariants.{Way, There};
 ghost use Rattle.program_parts.specs.Parts.{within};
-ghost use Rattle.program_parts.specs.Walks.{walk_on, walked, walk_asks, walk_hears};
+ghost use Rattle.program_parts.specs.Walks.{walk_on, walked, walk_asks, walk_hears, walk_learns};
 ghost use Rattle.program_rules.specs.Operations.{begins_in, operations};
+ghost use Rattle.op_names.specs.OneBlock.{WalksWithOneBlock};
 ghost use Rattle.op_names.specs.Ways.{walk_end, walk_from};
 
 use crate::operations;
 use crate::places::place_of_dir;
-use crate::refusals::refused;
 use memories::Memory;
-use program_parts::{Next, Walking};
+use program_parts::{Next, Walking, refused};
 use program_rules::{Operation, OperationState};
 use store_rules::AnyReply;
 use tect_calls::{Asked, MadeDir, found_dir, name_look};
@@ -50,6 +51,7 @@ fn begin(dir: MadeDir, first: Option<Name>, rest: PathPart, operation: Operation
 
 /// Its request, as that op.
 pub fn ask(going: &Going, memory: &Memory, op: OpId) -> Result<Asked, NoMemory>
+    requires { WalksWithOneBlock going.now }
     ensures { IfOk result (λ asked. asked ≡ walk_asks operations memory.now.counts memory.now.memory op going.now) }
 {
     match going {
@@ -61,16 +63,22 @@ pub fn ask(going: &Going, memory: &Memory, op: OpId) -> Result<Asked, NoMemory>
     }
 }
 
-/// Where it goes on at the reply to its request. For want of memory it is given back.
+/// Where it goes on at the reply to its request, and what the actor learns of it is kept. For want of memory it is given back, and nothing
+/// is kept.
 pub fn hear(
     going: Going,
-    memory: &Memory,
+    memory: &mut Memory,
     op: OpId,
     reply: &AnyReply,
 ) -> Result<Next<Going, Answer>, Going>
-    ensures ok { IfOk result (λ next. next ≡ walk_hears begins_in operations memory.now.counts memory.now.memory op going
-        (walk_asks operations memory.now.counts memory.now.memory op going) reply.now) }
+    ensures ok { IfOk result (λ next. next ≡ walk_hears begins_in operations memory.old.counts memory.old.memory op going
+        (walk_asks operations memory.old.counts memory.old.memory op going) reply.now) }
+    ensures kept { OnOk result (memory.new ≡ record memory.old {
+      memory = learnt (walk_learns operations op going (walk_asks operations memory.old.counts memory.old.memory op going) reply.now)
+          memory.old.memory;
+    }) }
     ensures err { IfErr result (λ same. same ≡ going) }
+    ensures unchanged { OnErr result (memory.new ≡ memory.old) }
 {
     match going {
         Walking::Way {
@@ -147,7 +155,8 @@ fn no_dir(key: Key, place: Place, reply: &AnyReply) -> Answer
     }
 }
 
-fn there(next: Next<OperationState, Answer>) -> Next<Going, Answer>
+/// Of an operation that runs.
+pub fn there(next: Next<OperationState, Answer>) -> Next<Going, Answer>
     ensures { result ≡ within There next }
 {
     match next {

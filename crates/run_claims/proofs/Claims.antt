@@ -18,20 +18,11 @@ use Rattle.telling_laws.specs.View.{Shows}
 use Rattle.telling_laws.specs.Telling.{tree_of}
 use Rattle.whole_runs.proofs.Owns.{store_is_after}
 use Rattle.store_rules.specs.Store.{Store}
-use Rattle.tree_runs.proofs.Headlines.{shown_so, run_headline}
-use Rattle.run_claims.proofs.RunsKeep.{no_run_answers_odd, sound_at_each_moment, granted_at_each_moment}
+use Rattle.tree_runs.proofs.Headlines.{shown_so, no_end_is_odd, run_headline}
+use Rattle.run_claims.proofs.RunsKeep.{sound_at_each_moment, granted_at_each_moment}
 use Rattle.run_claims.proofs.RunsShort.{each_is_short}
 use Rattle.run_claims.proofs.Complete.{is_complete}
 use Rattle.run_claims.specs.Claims.{ShowsTree, EveryRunIsClaimed}
-
-no_end_is_odd : (counts : Counts) (history : List Event) → IsWorldRun programs counts history → (op : OpId) (a : Answer) (n : ℕ)
-    → slice_get history n ≡ Some (Own op (Ended a))
-    → (place : Place) → a ≢ Odd place
-no_end_is_odd counts history run op a n at place odd =
-    let m : WorldState Program = moment programs counts (take n history) in
-    let front : IsWorldRun programs counts (take n history) = front_runs programs n history (opening counts) run in
-    let may : May programs m (Own op (Ended a)) = may_at programs (opening counts) history n (Own op (Ended a)) run at in
-    no_run_answers_odd counts (take n history) front op place (may.0 ∙ ap (λ (b : Answer). Some b) odd)
 
 -- the store shows the tree at each moment
 shown_at_each_moment : (counts : Counts) (history : List Event) → IsWorldRun programs counts history → AfterEachFront ShowsTree history

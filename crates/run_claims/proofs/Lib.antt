@@ -1,4 +1,5 @@
 pub mod RunsKeep
+pub mod NoReads
 pub mod RunsShort
 pub mod Complete
 pub mod Claims

@@ -40,7 +40,7 @@ pub record IsHistory (counts : Counts) (history : List Event) : Type 0 where
   pub shown : AfterEachFront ShowsTree history
   pub answers : Headline counts history
   pub not_odd : (op : OpId) (a : Answer) (n : ℕ) → slice_get history n ≡ Some (Own op (Ended a)) → (place : Place) → a ≢ Odd place
-  pub short : (op : OpId) (c : Command) → command_of history op ≡ Some c → IsShort history op c
+  pub short : (op : OpId) (c : Command) → command_of history op ≡ Some c → IsShort counts history op c
   pub complete : IsComplete counts history
 
 abbrev pub EveryRunIsClaimed : Type 0

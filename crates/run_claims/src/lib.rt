@@ -27,11 +27,12 @@ pub fn every_run_is_claimed()
 {}
 
 /// In every run of the world each command looks at no more names than its first path has, or once at the root where the
-/// path has none, and takes at most four other transactions, in whatever order the actors' transactions come. An op that
-/// began no command has no transaction.
+/// path has none, and takes few other transactions, in whatever order the actors' transactions come: an open or a listing of blocks one,
+/// an append four and one for each copy, a read one and one for each block and each placed row that it is shown, and others at most four.
+/// An op that began no command has no transaction.
 pub fn each_command_is_short()
     ensures short { (counts : Counts) (history : List Event) → IsWorldRun programs counts history
-        → (op : OpId) (c : Command) → command_of history op ≡ Some c → IsShort history op c }
+        → (op : OpId) (c : Command) → command_of history op ≡ Some c → IsShort counts history op c }
     ensures idle { (counts : Counts) (history : List Event) → IsWorldRun programs counts history
         → (op : OpId) → command_of history op ≡ None → transactions history op ≡ 0 }
 {}

@@ -17,15 +17,15 @@ path_row paths.Delete = (codes "delete", true)
 path_row paths.Rmdir = (codes "rmdir", false)
 path_row paths.Drop = (codes "drop", false)
 path_row paths.Seal = (codes "seal", false)
-path_row paths.Open = (codes "open", false)
-path_row paths.Blocks = (codes "blocks", false)
-path_row paths.Read = (codes "read", false)
+path_row paths.Open = (codes "open", true)
+path_row paths.Blocks = (codes "blocks", true)
+path_row paths.Read = (codes "read", true)
 
 abbrev pub verb_row : Verb → List ℕ × Bool
 verb_row (verbs.OnPath verb) = path_row verb
 verb_row verbs.Rename = (codes "rename", true)
 verb_row verbs.Move = (codes "move", false)
-verb_row verbs.Append = (codes "append", false)
+verb_row verbs.Append = (codes "append", true)
 verb_row verbs.Sweep = (codes "sweep", false)
 verb_row verbs.Repair = (codes "repair", false)
 

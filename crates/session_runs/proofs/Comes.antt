@@ -168,7 +168,8 @@ module _ (m : WorldState Program) (t : Tree) (op : OpId) (own : ℕ) (p : Progra
 
     pub next_stands : StandsAt (after programs m did) (tree_after t (step_of op q x)) op (serial_after own q x) (heard_at m op own p q x)
     next_stands = record {
-      tracks = subst (λ (l : List Told). Tracks (after programs m did) (tree_after t l)) told_now (event_tracked m t did st.tracks may_now).0;
+      tracks = subst (λ (l : List Told). Tracks (after programs m did) (tree_after t l)) told_now
+          (event_tracked m t did st.tracks may_now).0;
       runs = heard_as (λ (a : Actor Program). a.running ≡ Some record { op = op; at = standing.Goes (heard_at m op own p q x) })
           hearing.Whole (rw (goes_on_as hearing.Whole, st.memory) refl);
       memory = heard_as (λ (a : Actor Program). a.memory ≡ memory_of (serial_after own q x)) hearing.Whole
@@ -263,8 +264,8 @@ module _ (m : WorldState Program) (t : Tree) (op : OpId) (own : ℕ) (b : Answer
       let q : AnyReq = release_ask f.node f.hold in
       let x : AnyReply = store_reply m.store q in
       step_goes m t op own (releasing_first f b) st q refl (plain f.node f.hold) refl p 0
-      (end_goes _ _ op _ b p (next_stands m t op own (releasing_first f b) st q refl (plain f.node f.hold) refl) (no_step f.node f.hold ∙ tree)
-      (none_taken f.node f.hold ∙ serial) answer)
+      (end_goes _ _ op _ b p (next_stands m t op own (releasing_first f b) st q refl (plain f.node f.hold) refl)
+      (no_step f.node f.hold ∙ tree) (none_taken f.node f.hold ∙ serial) answer)
     where
       plain : (n : Node) (h : Hold) → AttachesNothing op (release_ask n h) (store_reply m.store (release_ask n h))
       plain (nodes.Dir d) h = λ g. refl

@@ -52,8 +52,10 @@ walked_halts place k ns o x on (Some (nodes.Dir d)) = goes_halts command_part _ 
 walked_halts place k ns o x on (Some (nodes.File f)) = comes_halts command_part _
 
 way_halts : (ns : List (List ℕ)) (d : DirId) (n : List ℕ) (o : Operation) → Halts command_part (Way d n ns o)
-way_halts [] d n o = halts _ (λ c m op q x. walked_halts (request_place c q) (key_in d n) [] o x (λ e. there_halts (begins_in o e)) (as_found x))
-way_halts (k ∷ ns) d n o = halts _ (λ c m op q x. walked_halts (request_place c q) (key_in d n) (k ∷ ns) o x (λ e. way_halts ns e k o) (as_found x))
+way_halts [] d n o =
+    halts _ (λ c m op q x. walked_halts (request_place c q) (key_in d n) [] o x (λ e. there_halts (begins_in o e)) (as_found x))
+way_halts (k ∷ ns) d n o =
+    halts _ (λ c m op q x. walked_halts (request_place c q) (key_in d n) (k ∷ ns) o x (λ e. way_halts ns e k o) (as_found x))
 
 -- in each of its states
 pub command_halts : (s : Walking Operation OperationState) → Halts command_part s

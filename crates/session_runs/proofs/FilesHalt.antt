@@ -1,5 +1,5 @@
--- Each operation on the contents of files halts: an append by the rows whose chunks are left to put, and a read by the blocks that are left and
--- the chunks that are left of the one that is read.
+-- Each operation on the contents of files halts: an append by the rows whose chunks are left to put, and a read by the blocks that are left,
+-- and by the chunks that are left of the one that is read.
 use Rattle.std.proofs.Common.{◌≡◌, ◌≤◌, ◌+◌, ℕ, zero, suc, Bool, true, false, Option, Some, None, List, length, refl, arith}
 use Rattle.std.specs.List.{slice_get}
 use Rattle.std.proofs.lemmas.Option.{slice_get_within}
@@ -19,7 +19,8 @@ use Rattle.tect_ids.specs.Numbers.{own_hold, object_number}
 use Rattle.store_rules.specs.declared.any.AnyReply.{AnyReply}
 use Rattle.store_rules.specs.Holds.{RowGrant}
 use Rattle.store_rules.specs.Places.{request_place}
-use Rattle.store_rules.specs.Views.{as_found, as_block_list, as_location, as_bytes, as_attached, is_made, is_stored, is_block_sealed, is_opened}
+use Rattle.store_rules.specs.Views.{as_found, as_block_list, as_location, as_bytes, as_attached}
+use Rattle.store_rules.specs.Views.{is_made, is_stored, is_block_sealed, is_opened}
 use Rattle.tect_calls.specs.MadeBlocks.{NewBlock, chunks_of}
 use Rattle.tect_calls.specs.Readings.{given_if, new_block}
 use Rattle.program_parts.specs.declared.next.Next.{Next}
@@ -71,7 +72,8 @@ list_halts : (f : FileId) → Halts blocks (listing.List f)
 list_halts f = halts _ (λ c m op q x. listed_halts (request_place c q) f x (as_block_list x))
 
 pub blocks_halts : (s : Blocks) → Halts blocks s
-blocks_halts (listing.Find k) = halts _ (λ c m op q x. file_halts blocks (request_place c q) k x (λ f. listing.List f) list_halts (as_found x))
+blocks_halts (listing.Find k) =
+    halts _ (λ c m op q x. file_halts blocks (request_place c q) k x (λ f. listing.List f) list_halts (as_found x))
 blocks_halts (listing.List f) = list_halts f
 
 -- ---- append
@@ -123,7 +125,8 @@ module _ (a : Appending) where
     pub puts_halt : (at : ℕ) → Halts append (put_on a made at)
     puts_halt at = on_halts (length (chunks_of made)) at (omega arith)
 
-block_halts : (place : Place) (token : OpId) (bytes : List ℕ) (o : Option (NewBlock × RowGrant)) → NextHalts append (block_made place token bytes o)
+block_halts : (place : Place) (token : OpId) (bytes : List ℕ) (o : Option (NewBlock × RowGrant))
+    → NextHalts append (block_made place token bytes o)
 block_halts place token bytes None = comes_halts append _
 block_halts place token bytes (Some p) = goes_halts append _ (puts_halt _ p.0 0)
 
@@ -185,11 +188,13 @@ located_halts r (Some p) there = goes_halts read _ (there p refl)
 
 -- with so many blocks left at most
 module _ (parts : List RowPart) where
-  rest_halts : (left at : ℕ) (bytes : List ℕ) → length parts ≤ at + left → NextHalts read (read_on record { parts = parts; at = at; bytes = bytes })
+  rest_halts : (left at : ℕ) (bytes : List ℕ) → length parts ≤ at + left
+      → NextHalts read (read_on record { parts = parts; at = at; bytes = bytes })
   rest_halts zero at bytes few = located_halts record { parts = parts; at = at; bytes = bytes } (slice_get parts at)
       (λ p e. absurd (omega (arith, slice_get_within parts at p e, few)))
   rest_halts (suc left) at bytes few = located_halts record { parts = parts; at = at; bytes = bytes } (slice_get parts at)
-      (λ p e. locate_halts record { parts = parts; at = at; bytes = bytes } (λ more. rest_halts left (at + 1) more (omega (arith, few))) p.blk)
+      (λ p e. locate_halts record { parts = parts; at = at; bytes = bytes }
+      (λ more. rest_halts left (at + 1) more (omega (arith, few))) p.blk)
 
   pub rests_halt : (at : ℕ) (bytes : List ℕ) → NextHalts read (read_on record { parts = parts; at = at; bytes = bytes })
   rests_halt at bytes = rest_halts (length parts) at bytes (omega arith)

@@ -41,7 +41,8 @@ module _ {S T R : Type 0} (P : Part S R) (Q : Part T R) (f : S → T) where
   within_next (Comes r) rest = comes_halts Q r
 
   pub within_halts
-      : ((c : Counts) (m : Memory) (op : OpId) (s : S) (q : AnyReq) (x : AnyReply) → Q.hears c m op (f s) q x ≡ within f (P.hears c m op s q x))
+      : ((c : Counts) (m : Memory) (op : OpId) (s : S) (q : AnyReq) (x : AnyReply)
+      → Q.hears c m op (f s) q x ≡ within f (P.hears c m op s q x))
       → (s : S) → Halts P s → Halts Q (f s)
   within_halts is s (halts own h) = halts (f own)
       (λ c m op q x t e. within_next (P.hears c m op own q x) (λ u g. within_halts is u (h c m op q x u g)) t (sym (is c m op own q x) ∙ e))
@@ -59,8 +60,8 @@ pub releasing_halts : (r : Releasing) → Halts releasing r
 releasing_halts r = halts r (λ c m op q x. then_halts r.second r.answer)
 
 -- as the last of a part
-pub released_halts : {S : Type 0} (P : Part S Answer) (f : Releasing → S) → ((r : Releasing) → Halts P (f r)) → (o : Option Freed) (a : Answer)
-    → NextHalts P (within f (then_release o a))
+pub released_halts : {S : Type 0} (P : Part S Answer) (f : Releasing → S) → ((r : Releasing) → Halts P (f r))
+    → (o : Option Freed) (a : Answer) → NextHalts P (within f (then_release o a))
 released_halts P f all None a = comes_halts P a
 released_halts P f all (Some g) a = goes_halts P (f record { first = g; second = None; answer = a })
     (all record { first = g; second = None; answer = a })

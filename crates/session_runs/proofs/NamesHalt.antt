@@ -77,7 +77,8 @@ made_halts place op kind k n x false is = rw is (comes_halts make _)
 
 pub make_halts : (s : Make) → Halts make s
 make_halts (making.New kind d n) =
-    halts _ (λ c m op q x. made_halts (request_place c q) op kind (key_in d n) (node_of kind (object_number op.actor m.serial)) x (is_made x) refl)
+    halts _ (λ c m op q x. made_halts (request_place c q) op kind (key_in d n) (node_of kind (object_number op.actor m.serial)) x
+    (is_made x) refl)
 make_halts (making.Bind kind k n h) = bind_halts kind k n h
 make_halts (making.Release r) = make_releases r
 
@@ -119,7 +120,8 @@ to_grant_halts : (d : DirId) (n : Node) (o : Option OldAndNew) → NextHalts ren
 to_grant_halts d n None = comes_halts rename _
 to_grant_halts d n (Some p) = goes_halts rename _ (grant_halts d p n)
 
-found_halts : (place : Place) (d : DirId) (from to : List ℕ) (x : AnyReply) (o : Option Node) → NextHalts rename (found_old place d from to x o)
+found_halts : (place : Place) (d : DirId) (from to : List ℕ) (x : AnyReply) (o : Option Node)
+    → NextHalts rename (found_old place d from to x o)
 found_halts place d from to x None = comes_halts rename _
 found_halts place d from to x (Some n) = to_grant_halts d n (pair_of from to (name_eq from to))
 

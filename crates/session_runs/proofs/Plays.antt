@@ -120,7 +120,8 @@ module _ (m : WorldState Program) (t : Tree) (op : OpId) (own : ℕ) (k : Key) (
   look_goes =
       let stands : StandsAt look_after t op own (look_next (looked (request_place m.counts look_request) k look_reply
       (as_found look_reply))) =
-      stands_as _ _ t op _ own _ _ (next_stands m t op own (looks (looking.Entry k)) st look_request refl (λ h. refl) refl) (unread (says look_reply))
+      stands_as _ _ t op _ own _ _ (next_stands m t op own (looks (looking.Entry k)) st look_request refl (λ h. refl) refl)
+      (unread (says look_reply))
       (none_taken m.store own look_request ((role_laws look_request).untold m.store refl tt)) refl in
       subst (λ (u : Tree). Goes look_after u op (session.looked t op own k) 0 → Goes m t op (session.looked t op own k) 1)
       (unread (says look_reply))
@@ -278,7 +279,8 @@ module _ (m : WorldState Program) (t : Tree) (op : OpId) (own : ℕ) (d : DirId)
       let p : Played = session.created t op own k file in
       let left : ℕ = releases (get v.entries k) (tree_reply v op (step.Bind k (nodes.File file) over.File)) in
       let stands : StandsAt mid v op (own + 1) (makes (making.Bind new.File k (nodes.File file) (own_hold op))) =
-      stands_as mid _ v op _ (own + 1) _ _ (next_stands m t op own (makes (making.New new.File d n)) st making_request refl (λ h. refl) refl) make_tree
+      stands_as mid _ v op _ (own + 1) _ _ (next_stands m t op own (makes (making.New new.File d n)) st making_request refl (λ h. refl) refl)
+      make_tree
       (rw made_now refl) (rw made_now refl) in
       let all : Goes m t op p (left + 1 + 1) =
       subst (λ (w : Tree). Goes mid w op p (left + 1) → Goes m t op p (left + 1 + 1)) make_tree

@@ -181,7 +181,8 @@ module _ (clients : List (List ℕ)) (m : WorldState Program) (t : Tree) (before
 
   rests_after : Between (after_all programs m part) p.tree (before ++ part) p.serial (number + 1)
   rests_after = record {
-    tracks = subst (λ (u : Tree). Tracks (after_all programs m part) u) (tree_now (rests.tracks).history) (run_tracked m t part rests.tracks run).0;
+    tracks = subst (λ (u : Tree). Tracks (after_all programs m part) u) (tree_now (rests.tracks).history)
+        (run_tracked m t part rests.tracks run).0;
     quiet = quiet_run m t before part rests.tracks rests.quiet run;
     memory = memory_after;
     count = count_after;

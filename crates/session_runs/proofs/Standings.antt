@@ -82,7 +82,8 @@ pub runs_on_as : (counts : Counts) (s : Actor Program) (o : Option (Running Prog
     → (went_on programs counts s o q x h).running ≡ Some record { op = op; at = stands_after counts s.memory op p q x h }
 runs_on_as counts s o op p q x h e =
     ap (λ (r : Option (Running Program)). (went_on programs counts s r q x h).running) e
-    ∙ ap (λ (t : Standing Program). Some (let r : Running Program = record { op = op; at = t } in r)) (stands_same counts s.memory op p q x h)
+    ∙ ap (λ (t : Standing Program). Some (let r : Running Program = record { op = op; at = t } in r))
+    (stands_same counts s.memory op p q x h)
 
 -- the actor after a reply that tells nothing
 pub went_on_as : (counts : Counts) (s : Actor Program) (o : Option (Running Program)) (op : OpId) (p : Program) (q : AnyReq) (x : AnyReply)

@@ -1,5 +1,5 @@
 -- an op that runs at a moment, and its transactions
-use Rattle.std.proofs.Common.{◌≡◌, ◌≤◌, true, Option, Some, refl}
+use Rattle.std.proofs.Common.{◌≡◌, ◌≤◌, true, Option, Some, refl, arith}
 use Rattle.tect_ids.specs.declared.ids.OpId.{OpId}
 use Rattle.tect_ids.specs.Keys.{op_eq}
 use Rattle.tect_ids.proofs.KeyTests.{op_eq_cases}

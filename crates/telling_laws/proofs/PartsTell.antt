@@ -13,6 +13,7 @@ use Rattle.program_forms.specs.declared.heard.Heard.{Heard}
 use Rattle.program_forms.specs.Memories.{Memory}
 use Rattle.program_forms.specs.Kinds.{Does, Asks, Says, asked_by, said_by, Turned, Programs, turned}
 use Rattle.program_parts.specs.declared.next.Next.{Next}
+use Rattle.program_parts.specs.declared.releasing.Releasing.{Releasing}
 use Rattle.program_parts.specs.declared.next.Next.TheVariants.{Goes, Comes}
 use Rattle.program_parts.specs.Parts.{Part, within, kind_of, next_asks, next_hears, next_learns}
 use Rattle.program_parts.specs.Doings.{Doing, doing, doing_within}
@@ -171,10 +172,9 @@ release_opens c (nodes.Dir d) h x = refl
 release_opens c (nodes.File f) h x = refl
 
 -- nothing is told before it, for its answer is decided from the first
-pub release_tells : (counts : Counts) (because : List Event → OpId → Command → Answer → Type 0)
-    → ((h es : List Event) (op : OpId) (c : Command) (a : Answer) → because h op c a → because (h ++ es) op c a)
-    → PartTells counts releasing release_deciding (release_telling because)
-release_tells counts because lasts = part_tells (λ r. record {
+release_at : (counts : Counts) (because : List Event → OpId → Command → Answer → Type 0) (r : Releasing)
+    → TellsIn counts releasing release_deciding (release_telling because) r
+release_at counts because r = record {
   turns = λ h op c m before none. absurd (let k : Some r.answer ≡ None = none in cc);
   hears = λ h op c m how fresh before none. absurd (let k : Some r.answer ≡ None = none in cc);
   stays = λ h e op c other before. tt;
@@ -183,7 +183,12 @@ release_tells counts because lasts = part_tells (λ r. record {
   learns = λ h op c m x before none. release_opens (Some c) (r.first).node (r.first).hold x;
   learns_none = λ op c m x a is. release_opens (Some c) (r.first).node (r.first).hold x;
   opened = λ m op. refl;
-}) lasts
+}
+
+pub release_tells : (counts : Counts) (because : List Event → OpId → Command → Answer → Type 0)
+    → ((h es : List Event) (op : OpId) (c : Command) (a : Answer) → because h op c a → because (h ++ es) op c a)
+    → PartTells counts releasing release_deciding (release_telling because)
+release_tells counts because lasts = part_tells (release_at counts because) lasts
 
 -- holds may be released before an answer that is explained
 pub then_release_tells : (because : List Event → OpId → Command → Answer → Type 0) (h : List Event) (op : OpId) (c : Command)

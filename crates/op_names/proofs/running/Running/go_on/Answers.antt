@@ -1,6 +1,8 @@
 use Rattle.std.proofs.Common.{◌≡◌, ◌∙◌, ap, sym, subst}
 use Rattle.op_names.specs.Going.{went_on}
+use Rattle.op_names.specs.OneBlock.{RunsWithOneBlock}
 use Rattle.op_names.specs.Plain.{IsPlainState}
+use Rattle.op_names.proofs.OneBlock.{one_block_after}
 use Rattle.op_names.proofs.PlainStates.{plain_after}
 use Rattle.op_names.proofs.running.Running.go_on.Goals as goal
 
@@ -14,4 +16,6 @@ invariant_of-self c =
     record {
       plain = subst IsPlainState (sym went)
           (plain_after known.counts known.memory c.args.op was c.args.reply.now c.self.invariant.plain);
+      one_block = subst RunsWithOneBlock (sym went)
+          (one_block_after known.counts known.memory c.args.op was c.args.reply.now c.self.invariant.one_block);
     }

@@ -1,1 +1,0 @@
-pub use program_parts::{dir_refused, refused};
