@@ -16,14 +16,16 @@ use Rattle.store_rules.specs.declared.any.AnyReq.{AnyReq}
 use Rattle.store_rules.specs.declared.any.AnyReq.TheVariants as any
 use Rattle.store_rules.specs.declared.any.AnyReply.TheVariants as any_reply
 use Rattle.store_rules.specs.Files.{file_with_row}
-use Rattle.store_rules.specs.Store.{Store, store_step, store_change, store_changes, store_reply}
+use Rattle.store_rules.specs.Store.{Store, opening_store, store_step, store_change, store_changes, store_reply}
 use Rattle.store_pasts.specs.Contents.{row_in}
 use Rattle.store_pasts.specs.Pasts.{row_at}
 use Rattle.store_world.proofs.BlockMaps.{block_maps}
 use Rattle.world_runs.specs.declared.event.Event.{Event}
 use Rattle.world_runs.specs.declared.event.Event.TheVariants.{Own, Dumped}
 use Rattle.world_runs.specs.declared.event.Happening.TheVariants.{Began, NotBegun, Acted, Ended, Stopped, Failed}
-use Rattle.world_runs.specs.OwnRuns.{stored_next, stored_after}
+use Rattle.world_runs.specs.OwnRuns.{RepliesAre, stored_next, stored_after}
+use Rattle.whole_runs.proofs.Actors.{replies-rest, stored_after-append}
+use Rattle.claim_words.specs.Attached.{HasAttached}
 
 -- ---- a row stays
 
@@ -77,3 +79,28 @@ module _ (s : Store) (f : FileId) (t : OpId) (b : BlkId) (n : ℕ) (h : Hold) (i
 
   pub attached_row : row_at (store_step s (any.File (files.Attach f t b n h))) f i ≡ Some record { blk = b; len = n; hold = h }
   attached_row = grind (arith, block_maps, said, attach_changes)
+
+-- ---- in a history
+
+-- its reply is the store's, and the row stands to the end
+module _ (es : List Event) (replies : RepliesAre opening_store es) (op : OpId) (f : FileId) (t : OpId) (b : BlkId) (n i : ℕ)
+    (a : HasAttached es op f t b n i) where
+  -- the request, and the event
+  abbrev pub asked : AnyReq
+  asked = any.File (files.Attach f t b n a.hold)
+
+  abbrev pub attaching : Event
+  attaching = Own op (Acted asked (any_reply.File (file_replies.Attached i)) a.heard)
+
+  pub attach_said : any_reply.File (file_replies.Attached i) ≡ store_reply (stored_after opening_store a.before) asked
+  attach_said =
+      let whole : RepliesAre opening_store (a.before ++ attaching ∷ a.rest) =
+      subst (λ (l : List Event). RepliesAre opening_store l) a.there replies in
+      (replies-rest opening_store a.before (attaching ∷ a.rest) whole).0
+
+  pub row_stands : row_at (stored_after opening_store es) f i ≡ Some record { blk = b; len = n; hold = a.hold }
+  row_stands =
+      ap (λ (l : List Event). row_at (stored_after opening_store l) f i) a.there
+      ∙ ap (λ (s : Store). row_at s f i) (stored_after-append opening_store a.before (attaching ∷ a.rest))
+      ∙ rows_stay f i record { blk = b; len = n; hold = a.hold } (store_step (stored_after opening_store a.before) asked) a.rest
+      (attached_row (stored_after opening_store a.before) f t b n a.hold i attach_said)

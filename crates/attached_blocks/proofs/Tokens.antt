@@ -19,8 +19,9 @@ use Rattle.world_runs.specs.declared.event.Event.{Event}
 use Rattle.world_runs.specs.declared.event.Event.TheVariants.{Own, Dumped}
 use Rattle.world_runs.specs.declared.event.Happening.TheVariants.{Began, NotBegun, Acted, Ended, Stopped, Failed}
 use Rattle.world_runs.specs.OwnRuns.{RepliesAre, ReplyIs, stored_next, stored_after}
-use Rattle.whole_runs.proofs.Actors.{replies-front, replies-rest}
+use Rattle.whole_runs.proofs.Actors.{replies-front}
 use Rattle.claim_words.specs.Attached.{HasAttached, TokensAreLast, file_token, token_by, token_after, last_token}
+use Rattle.attached_blocks.proofs.Rows.{attaching, attach_said}
 
 abbrev token_in : Option File → Option OpId
 token_in None = None
@@ -75,16 +76,7 @@ attach_token s f t b n h i said = grind (arith, keys, said)
 
 pub tokens_are_last : (es : List Event) → RepliesAre opening_store es → TokensAreLast es
 tokens_are_last es replies op f token b n i a =
-    sym (store_token a.before f front) ∙ attach_token (stored_after opening_store a.before) f token b n a.hold i rest.0
-  where
-    e : Event
-    e = Own op (Acted (any.File (files.Attach f token b n a.hold)) (any_reply.File (file_replies.Attached i)) a.heard)
-
-    whole : RepliesAre opening_store (a.before ++ e ∷ a.rest)
-    whole = subst (λ (l : List Event). RepliesAre opening_store l) a.there replies
-
-    front : RepliesAre opening_store a.before
-    front = replies-front opening_store a.before (e ∷ a.rest) whole
-
-    rest : RepliesAre (stored_after opening_store a.before) (e ∷ a.rest)
-    rest = replies-rest opening_store a.before (e ∷ a.rest) whole
+    let whole : RepliesAre opening_store (a.before ++ attaching es replies op f token b n i a ∷ a.rest) =
+    subst (λ (l : List Event). RepliesAre opening_store l) a.there replies in
+    sym (store_token a.before f (replies-front opening_store a.before (attaching es replies op f token b n i a ∷ a.rest) whole))
+    ∙ attach_token (stored_after opening_store a.before) f token b n a.hold i (attach_said es replies op f token b n i a)
