@@ -32,10 +32,10 @@ use Rattle.program_laws.specs.Laws.{ProgramLaws}
 use Rattle.world_runs.specs.declared.event.Event.{Event}
 use Rattle.world_runs.specs.declared.event.Event.TheVariants.{Own}
 use Rattle.world_runs.specs.declared.event.Happening.TheVariants.{Acted}
-use Rattle.world_runs.specs.Moments.{WorldState, opening, IsWorldRun, moment}
+use Rattle.world_runs.specs.Moments.{opening, IsWorldRun, moment}
 use Rattle.world_runs.specs.OwnRuns.{RepliesAre, stored_after}
 use Rattle.whole_runs.proofs.Owns.{replies_from_run, store_is_after}
-use Rattle.claim_words.specs.Attached.{HasAttached, HasRow, IsWhole, IsAcknowledged, AttachedBlocksStand, rows_of}
+use Rattle.claim_words.specs.Attached.{HasRow, IsWhole, AttachedBlocksStand, rows_of}
 use Rattle.claim_words.specs.Commands.{begun_by, or_later, command_of, content_of}
 use Rattle.run_laws.specs.Pasts.{world}
 use Rattle.run_laws.proofs.RunsKeep.{run_world_sound}

@@ -1,8 +1,7 @@
 -- of all requests of a running command only an append's attaches a block, and it appends the block's bytes
-use Rattle.std.proofs.Common.{◌≡◌, ℕ, Option, Some, None, List, ◌∷◌, ◌++◌, length, refl, sym, ap, subst, ◌∙◌}
+use Rattle.std.proofs.Common.{◌≡◌, ℕ, Option, Some, None, List, length, refl, sym, ap, ◌∙◌}
 use Rattle.tect_ids.specs.declared.ids.BlkId.{BlkId}
 use Rattle.tect_ids.specs.declared.ids.Counts.{Counts}
-use Rattle.tect_ids.specs.declared.ids.FileId.{FileId}
 use Rattle.tect_ids.specs.declared.ids.Hold.{Hold}
 use Rattle.tect_ids.specs.declared.ids.Node.{Node}
 use Rattle.tect_ids.specs.declared.ids.Node.TheVariants as nodes
@@ -11,12 +10,9 @@ use Rattle.tect_ids.specs.declared.key.Key.{Key}
 use Rattle.tect_ids.specs.declared.values.RowPart.{RowPart}
 use Rattle.tect_ids.specs.declared.command.Command.{Command}
 use Rattle.tect_ids.specs.declared.command.Command.TheVariants as commands
-use Rattle.tect_ids.specs.declared.answer.Answer.{Answer}
 use Rattle.store_rules.specs.declared.files.FileReq.TheVariants as files
 use Rattle.store_rules.specs.declared.any.AnyReq.{AnyReq}
 use Rattle.store_rules.specs.declared.any.AnyReq.TheVariants as any
-use Rattle.store_rules.specs.declared.any.AnyReply.{AnyReply}
-use Rattle.program_forms.specs.declared.heard.Heard.{Heard}
 use Rattle.program_forms.specs.Memories.{Memory}
 use Rattle.program_forms.specs.Kinds.{Does, Asks, Says}
 use Rattle.program_parts.specs.declared.next.Next.TheVariants.{Goes, Comes}
@@ -30,7 +26,6 @@ use Rattle.file_rules.specs.declared.states.Open.{Open}
 use Rattle.file_rules.specs.declared.states.Open.TheVariants as opening
 use Rattle.file_rules.specs.declared.states.Read.{Read}
 use Rattle.file_rules.specs.declared.states.Read.TheVariants as reading
-use Rattle.file_rules.specs.Append.{append_asks}
 use Rattle.file_rules.specs.Blocks.{blocks_asks}
 use Rattle.file_rules.specs.Open.{open_asks}
 use Rattle.file_rules.specs.Read.{read_asks}
@@ -49,13 +44,9 @@ use Rattle.program_rules.specs.Delete.{delete_asks}
 use Rattle.program_rules.specs.Look.{look_asks}
 use Rattle.program_rules.specs.Make.{make_asks}
 use Rattle.program_rules.specs.Rename.{grant_ask, rename_asks}
-use Rattle.program_rules.specs.Operations.{operation_asks}
 use Rattle.program_rules.specs.Served.{Program, programs}
 use Rattle.world_runs.specs.declared.event.Event.{Event}
-use Rattle.world_runs.specs.declared.event.Event.TheVariants.{Own}
-use Rattle.world_runs.specs.declared.event.Happening.TheVariants.{Acted}
-use Rattle.world_runs.specs.Moments.{IsWorldRun}
-use Rattle.claim_words.specs.Commands.{command_of, content_of}
+use Rattle.claim_words.specs.Commands.{content_of}
 use Rattle.telling_laws.specs.View.{attaches}
 use Rattle.telling_laws.specs.Telling.{RunsAskFresh, Tells}
 use Rattle.telling_laws.proofs.Asked.{AskedTells, told_when_asked}
@@ -65,7 +56,7 @@ use Rattle.names_told.specs.NamesTelling.{names_telling}
 use Rattle.names_told.proofs.NamesTell.{names_tell_so}
 use Rattle.tree_runs.proofs.AskSafely.{runs_ask_fresh}
 use Rattle.tree_runs.proofs.Headlines.{safely, followed_so}
-use Rattle.attached_blocks.proofs.Acknowledged.{Appends, AttachesAreAppends}
+use Rattle.attached_blocks.proofs.Acknowledged.{AttachesAreAppends}
 
 -- ---- requests that attach nothing
 
@@ -172,7 +163,8 @@ pub attaches_are_appends : AttachesAreAppends programs
 attaches_are_appends counts h es op f t b n hold x how run =
     let q : AnyReq = any.File (files.Attach f t b n hold) in
     let told : AskedTells counts programs names_deciding (names_telling counts) h op q =
-    told_when_asked Program counts programs names_deciding (names_telling counts) (names_tell_so counts) freshly followed_so h es op q x how run in
+    told_when_asked Program counts programs names_deciding (names_telling counts) (names_tell_so counts) freshly followed_so h es op q x how
+    run in
     let k : IsAppend h told.command b =
     program_it counts h op told.command told.memory record { blk = b; len = n } told.state (ap does_attach told.asks) told.tells in
     record {

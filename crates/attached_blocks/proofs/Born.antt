@@ -12,13 +12,9 @@ use Rattle.tect_ids.specs.declared.values.Class.{Class}
 use Rattle.tect_ids.specs.declared.values.NewRow.{NewRow}
 use Rattle.tect_ids.specs.declared.answer.Answer.{Answer}
 use Rattle.tect_ids.proofs.KeyTests.{keys, block_keys}
-use Rattle.store_rules.specs.declared.names.NameReq.{NameReq}
 use Rattle.store_rules.specs.declared.names.NameReq.TheVariants as names
-use Rattle.store_rules.specs.declared.files.FileReq.{FileReq}
 use Rattle.store_rules.specs.declared.files.FileReq.TheVariants as files
-use Rattle.store_rules.specs.declared.blocks.BlockReq.{BlockReq}
 use Rattle.store_rules.specs.declared.blocks.BlockReq.TheVariants as blocks
-use Rattle.store_rules.specs.declared.disks.DiskReq.{DiskReq}
 use Rattle.store_rules.specs.declared.disks.DiskReq.TheVariants as disks
 use Rattle.store_rules.specs.declared.any.AnyReq.{AnyReq}
 use Rattle.store_rules.specs.declared.any.AnyReq.TheVariants as any
@@ -37,7 +33,7 @@ use Rattle.world_runs.specs.declared.event.Event.{Event}
 use Rattle.world_runs.specs.declared.event.Event.TheVariants.{Own, Dumped}
 use Rattle.world_runs.specs.declared.event.Happening.TheVariants.{Began, NotBegun, Acted, Ended, Stopped, Failed}
 use Rattle.world_runs.specs.Moments.{WorldState, May, RunFrom, opening, after, IsWorldRun}
-use Rattle.claim_words.specs.Commands.{or_later, makes_block}
+use Rattle.claim_words.specs.Commands.{or_later}
 use Rattle.claim_words.specs.Attached.{rows_if, rows_by, rows_of}
 use Rattle.run_laws.specs.Pasts.{world_of, ghost_after, ghosts_after, ghosts}
 use Rattle.run_laws.specs.Known.{AllSound}
@@ -82,7 +78,8 @@ settled_born op (Some c) now g b = refl
 
 -- after it the past has the rows that it made a block with
 abbrev RowsSo : Store → Ghost → AnyReq → Type 0
-RowsSo s g q = (b : BlkId) → born_rows ((ghost_next s g q).born b) ≡ or_later (born_rows (g.born b)) (rows_if (is_made (store_reply s q)) q b)
+RowsSo s g q =
+    (b : BlkId) → born_rows ((ghost_next s g q).born b) ≡ or_later (born_rows (g.born b)) (rows_if (is_made (store_reply s q)) q b)
 
 module _ (s : Store) (g : Ghost) where
   born_by : (q : AnyReq) (c : Bool) (b : BlkId) → (ghost_change s g q).born b ≡ g.born b
@@ -117,7 +114,8 @@ rows_so w (any.Name (names.Look k)) needs = no_rows w.store w.ghost (any.Name (n
 rows_so w (any.Name (names.List d)) needs = no_rows w.store w.ghost (any.Name (names.List d)) (λ b. refl) (λ b. refl)
 rows_so w (any.Name (names.MakeDir d p h k)) needs = no_rows w.store w.ghost (any.Name (names.MakeDir d p h k)) (λ b. refl) (λ b. refl)
 rows_so w (any.Name (names.Bind k n h o)) needs = no_rows w.store w.ghost (any.Name (names.Bind k n h o)) (λ b. refl) (λ b. refl)
-rows_so w (any.Name (names.Swap d from to n h)) needs = no_rows w.store w.ghost (any.Name (names.Swap d from to n h)) (λ b. refl) (λ b. refl)
+rows_so w (any.Name (names.Swap d from to n h)) needs =
+    no_rows w.store w.ghost (any.Name (names.Swap d from to n h)) (λ b. refl) (λ b. refl)
 rows_so w (any.Name (names.Unbind k t)) needs = no_rows w.store w.ghost (any.Name (names.Unbind k t)) (λ b. refl) (λ b. refl)
 rows_so w (any.Name (names.Grant d h k)) needs = no_rows w.store w.ghost (any.Name (names.Grant d h k)) (λ b. refl) (λ b. refl)
 rows_so w (any.Name (names.Release d h)) needs = no_rows w.store w.ghost (any.Name (names.Release d h)) (λ b. refl) (λ b. refl)

@@ -1,5 +1,5 @@
 -- each block was attached with the token that was the file's last
-use Rattle.std.proofs.Common.{◌≡◌, ℕ, true, false, if◌then◌else◌, Option, Some, None, List, [], ◌∷◌, ◌++◌, refl, sym, ap, subst, ◌∙◌, arith}
+use Rattle.std.proofs.Common.{◌≡◌, ℕ, Option, Some, None, List, [], ◌∷◌, ◌++◌, refl, sym, ap, subst, ◌∙◌, arith}
 use Rattle.std.specs.FinMap.{get}
 use Rattle.tect_ids.specs.declared.ids.BlkId.{BlkId}
 use Rattle.tect_ids.specs.declared.ids.FileId.{FileId}
@@ -20,7 +20,7 @@ use Rattle.world_runs.specs.declared.event.Event.TheVariants.{Own, Dumped}
 use Rattle.world_runs.specs.declared.event.Happening.TheVariants.{Began, NotBegun, Acted, Ended, Stopped, Failed}
 use Rattle.world_runs.specs.OwnRuns.{RepliesAre, ReplyIs, stored_next, stored_after}
 use Rattle.whole_runs.proofs.Actors.{replies-front}
-use Rattle.claim_words.specs.Attached.{HasAttached, TokensAreLast, file_token, token_by, token_after, last_token}
+use Rattle.claim_words.specs.Attached.{TokensAreLast, file_token, token_by, token_after, last_token}
 use Rattle.attached_blocks.proofs.Rows.{attaching, attach_said}
 
 abbrev token_in : Option File → Option OpId

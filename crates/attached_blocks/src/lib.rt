@@ -9,9 +9,9 @@ ghost use Rattle.tect_ids.specs.declared.ids.Counts.{Counts};
 ghost use Rattle.world_runs.specs.declared.event.Event.{Event};
 ghost use Rattle.world_runs.specs.Moments.{IsWorldRun};
 
-/// In every run of the world each block that was attached to a file is the file's row with that index still. It stands sealed, of that length,
-/// with as many rows as it was made with, and each of them is placed and has a chunk of just the bytes that the op's command appends,
-/// whether the op still runs, ended or stopped.
+/// In every run of the world each block that was attached to a file is the file's row with that index still. It stands sealed, of that
+/// length, with as many rows as it was made with, and each of them is placed and has a chunk of just the bytes that the op's command
+/// appends, whether the op still runs, ended or stopped.
 pub fn attached_blocks_stand()
     ensures { (counts : Counts) (events : List Event) → IsWorldRun programs counts events → AttachedBlocksStand events }
 {}
