@@ -17,7 +17,7 @@ Disk) own=disk_store ;;
 esac
 # The crates of what requests mean: the page on requests has them.
 meaning='script_words|script_reader|store_pasts|store_world|program_parts|part_laws|program_rules|claim_words|names_laws|op_names'
-meaning="$meaning|telling_laws|names_told|tree_runs|session_runs"
+meaning="$meaning|telling_laws|names_told|tree_runs|attached_blocks|session_runs"
 # The enums that list the layers.
 lists='AnyReq|AnyReply|AnyMachine|LentMachine|AnyKept|AnyPrepared'
 

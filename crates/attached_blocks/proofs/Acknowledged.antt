@@ -1,5 +1,5 @@
 -- a block that was attached stands, whole, in every run of programs whose attaches are of appends
-use Rattle.std.proofs.Common.{◌≡◌, ℕ, Option, Some, None, List, [], ◌∷◌, ◌++◌, length, refl, sym, ap, subst, ◌∙◌, append_assoc}
+use Rattle.std.proofs.Common.{◌≡◌, ◌≤◌, ℕ, Option, Some, None, List, [], ◌∷◌, ◌++◌, length, refl, sym, ap, subst, ◌∙◌, append_assoc}
 use Rattle.std.proofs.lemmas.List.{append-nil}
 use Rattle.std.specs.FinMap.{get, len}
 use Rattle.tect_ids.specs.declared.ids.BlkId.{BlkId}
@@ -18,7 +18,7 @@ use Rattle.store_rules.specs.declared.file_rows.FileRow.{FileRow}
 use Rattle.store_rules.specs.declared.any.AnyReq.TheVariants as any
 use Rattle.store_rules.specs.declared.any.AnyReply.{AnyReply}
 use Rattle.store_rules.specs.Store.{Store, opening_store}
-use Rattle.store_pasts.specs.Contents.{row_in}
+use Rattle.store_pasts.specs.Contents.{Born, born_count, row_in}
 use Rattle.store_pasts.specs.Ghosts.{World}
 use Rattle.store_pasts.specs.Pasts.{row_at}
 use Rattle.store_world.specs.Acknowledged.{IsWholeBlock}
@@ -37,7 +37,7 @@ use Rattle.world_runs.specs.OwnRuns.{RepliesAre, stored_after}
 use Rattle.whole_runs.proofs.Owns.{replies_from_run, store_is_after}
 use Rattle.claim_words.specs.Attached.{HasRow, IsWhole, AttachedBlocksStand, rows_of}
 use Rattle.claim_words.specs.Commands.{begun_by, or_later, command_of, content_of}
-use Rattle.run_laws.specs.Pasts.{world}
+use Rattle.run_laws.specs.Pasts.{ghosts, world}
 use Rattle.run_laws.proofs.RunsKeep.{run_world_sound}
 use Rattle.telling_laws.specs.Telling.{tree_of}
 use Rattle.telling_laws.proofs.Contents.{content_stays}
@@ -143,6 +143,18 @@ module _ {S : Type 0} (P : Programs S) (D : Deciding S Answer) (N : Known S Answ
           stored = told.stored;
         };
       }
+
+  -- no block is made without rows
+  pub made_with_rows : (b : BlkId) (rows : List NewRow) → rows_of es b ≡ Some rows → 1 ≤ length rows
+  made_with_rows b rows is = by ((ghosts P D counts es).born b) refl (rows_told P D N laws counts es run b)
+    where
+      by : (o : Option Born) → (ghosts P D counts es).born b ≡ o → born_rows o ≡ rows_of es b → 1 ≤ length rows
+      by None was told = absurd (let z : None ≡ Some rows = told ∙ is in cc)
+      by (Some m) was told =
+          let found : Some m.rows ≡ Some rows = told ∙ is in
+          let same : m.rows ≡ rows = cc in
+          subst (λ (l : List NewRow). 1 ≤ length l) same
+          (((run_world_sound P D N laws counts es run).blocks).some b (length m.rows) (ap born_count was))
 
   module _ (knows : AttachesAreAppends P) where
     pub attached_stand : AttachedBlocksStand es

@@ -2,10 +2,12 @@
 //! whole, with the bytes that were appended. Nothing here is called: each function's contract is a law.
 #![tactic(auto)]
 
-ghost use Rattle.std.specs.Prelude.{List};
-ghost use Rattle.claim_words.specs.Attached.{AttachedBlocksStand, TokensAreLast};
+ghost use Rattle.std.specs.Prelude.{◌≡◌, ◌≤◌, List, Some, length};
+ghost use Rattle.claim_words.specs.Attached.{AttachedBlocksStand, TokensAreLast, rows_of};
 ghost use Rattle.program_rules.specs.Served.{programs};
+ghost use Rattle.tect_ids.specs.declared.ids.BlkId.{BlkId};
 ghost use Rattle.tect_ids.specs.declared.ids.Counts.{Counts};
+ghost use Rattle.tect_ids.specs.declared.values.NewRow.{NewRow};
 ghost use Rattle.world_runs.specs.declared.event.Event.{Event};
 ghost use Rattle.world_runs.specs.Moments.{IsWorldRun};
 
@@ -19,4 +21,10 @@ pub fn attached_blocks_stand()
 /// In every run of the world each block was attached with the token that was written into its file last.
 pub fn tokens_are_last()
     ensures { (counts : Counts) (events : List Event) → IsWorldRun programs counts events → TokensAreLast events }
+{}
+
+/// In every run of the world each block is made with a row at least, so an attached block has a chunk with its bytes.
+pub fn made_blocks_have_rows()
+    ensures { (counts : Counts) (events : List Event) → IsWorldRun programs counts events
+        → (b : BlkId) (rows : List NewRow) → rows_of events b ≡ Some rows → 1 ≤ length rows }
 {}
