@@ -1,6 +1,6 @@
 -- The last name of a path, taken off its end.
 use Rattle.std.proofs.Common.{◌≡◌, ℕ, List, [], ◌∷◌, ◌++◌, Option, Some, None, MatchOption, refl, sym, ap, ◌∙◌}
-use Rattle.tect_ids.specs.Paths.{but_last, last_name}
+use Rattle.tect_ids.specs.Paths.{but_last}
 use Rattle.program_rules.specs.Served.{last_of}
 
 all_but_end : (ns : List (List ℕ)) (n : List ℕ) → but_last (ns ++ n ∷ []) ≡ ns

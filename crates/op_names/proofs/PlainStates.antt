@@ -52,7 +52,6 @@ use Rattle.program_rules.specs.Delete.{unbound, delete_hears}
 use Rattle.program_rules.specs.Rename.{to_grant, found_old, swapped, rename_hears}
 use Rattle.program_rules.specs.Operations.{begins_in, operations, operation_hears}
 use Rattle.program_rules.specs.Served.{Program, Begun, Walks, Appends, LacksName, WantsFile, begun, started}
-use Rattle.file_rules.specs.Append.{append_starts}
 use Rattle.op_files.specs.Plain.{IsPlainNext, IsPlainOpen, IsPlainAppend, IsPlainBlocks, IsPlainRead}
 use Rattle.op_files.proofs.PlainStates.{plain_refused, plain_open, plain_append, plain_append_start, plain_blocks, plain_read}
 use Rattle.op_names.specs.Going.{went_on}

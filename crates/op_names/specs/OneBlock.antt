@@ -1,6 +1,4 @@
 -- The hold of a running append is at the block that it made.
-use Rattle.tect_ids.specs.declared.answer.Answer.{Answer}
-use Rattle.program_parts.specs.declared.next.Next.{Next}
 use Rattle.program_parts.specs.declared.next.Next.TheVariants.{Goes, Comes}
 use Rattle.program_parts.specs.declared.walking.Walking.{Walking}
 use Rattle.program_parts.specs.declared.walking.Walking.TheVariants.{Way, There}
