@@ -5,6 +5,7 @@ pub mod Histories
 pub mod Contents
 pub mod RunsFollow
 pub mod RunsTell
+pub mod Asked
 pub mod Replies
 pub mod Walks
 pub mod Steps

@@ -55,7 +55,7 @@ module _ (S : Type 0) (counts : Counts) (P : Programs S) (D : Deciding S Answer)
   decided_stays h e op c s (Some a) other t = L.lasts h (e ∷ []) op c a t
 
   -- after its look-ups
-  turned_tells : (h : List Event) (op : OpId) (c : Command) (m : Memory) (s : S) → Tells D T h op c s
+  pub turned_tells : (h : List Event) (op : OpId) (c : Command) (m : Memory) (s : S) → Tells D T h op c s
       → Tells D T h op c (turned P.kind counts m op s).state
   turned_tells h op c m s t = by (D.decided s) refl t
     where
@@ -90,20 +90,20 @@ module _ (S : Type 0) (counts : Counts) (P : Programs S) (D : Deciding S Answer)
   -- ---- all of a moment
 
   -- The command began, and was told so far; or it was refused. One that heard no more of its last reply ends with no answer.
-  abbrev StandTells : List Event → OpId → Standing S → Type 0
+  abbrev pub StandTells : List Event → OpId → Standing S → Type 0
   StandTells h op (Goes s) = (c : Command) × (command_of h op ≡ Some c) × Tells D T h op c s
   StandTells h op Left = Unit {0}
   StandTells h op NoRoom = was_refused h op ≡ true
 
   -- an actor's running command is the last that it began
-  abbrev RunningTells : List Event → ℕ → ℕ → Option (Running S) → Type 0
+  abbrev pub RunningTells : List Event → ℕ → ℕ → Option (Running S) → Type 0
   RunningTells h a number None = Unit {0}
   RunningTells h a number (Some r) = (r.op.actor ≡ a) × (r.op.number ≡ number) × StandTells h r.op r.at
 
   -- each running command was told so far or refused, an op that did not begin has neither command nor steps, and each actor knows what it
   -- opened
-  record AllTold (h : List Event) (m : WorldState S) : Type 0 where
-    tells : (a : ℕ) → RunningTells h a (m.actors a).number (m.actors a).running
+  pub record AllTold (h : List Event) (m : WorldState S) : Type 0 where
+    pub tells : (a : ℕ) → RunningTells h a (m.actors a).number (m.actors a).running
     unbegun : (op : OpId) → (m.actors op.actor).number < op.number → command_of h op ≡ None
     unasked : (op : OpId) → (m.actors op.actor).number < op.number → of_op op (tree_steps h) ≡ []
     opened : (a : ℕ) → (m.actors a).memory.opened ≡ opened_in h a
@@ -319,7 +319,7 @@ module _ (S : Type 0) (counts : Counts) (P : Programs S) (D : Deciding S Answer)
       (λ t fresh shows known stored may allowed. own_told h m.actors m.store t fresh shows known stored op hp may allowed)
   event_told h m Dumped many = λ t fresh shows known stored may allowed. dump_told h m t
 
-  opening_told : AllTold [] (opening counts)
+  pub opening_told : AllTold [] (opening counts)
   opening_told = record { tells = λ a. tt; unbegun = λ op late. refl; unasked = λ op late. refl; opened = λ a. refl }
 
   -- a command that has come to its answer
@@ -338,7 +338,7 @@ module _ (S : Type 0) (counts : Counts) (P : Programs S) (D : Deciding S Answer)
   -- ---- each run
 
   module _ (freshly : RunsAskFresh P) (follows : RunsFollowTree P) where
-    run_told : (h es : List Event) → IsWorldRun P counts (h ++ es) → AllTold h (moment P counts h)
+    pub run_told : (h es : List Event) → IsWorldRun P counts (h ++ es) → AllTold h (moment P counts h)
         → AllTold (h ++ es) (moment P counts (h ++ es))
     run_told h [] run t = rw append-nil t
     run_told h (e ∷ es) run t =
