@@ -136,8 +136,11 @@ module _ (S : Type 0) (P : Programs S) (kind : S → Bool) (look : Counts → Me
     run_adds [] m op run begins so = refl
     run_adds (e ∷ es) m op run begins so =
         let first : BeginsSo m.counts (begun_by e op) = first_begins m.counts (begun_by e op) (command_of es op) begins in
-        omega (arith, event_adds m e op run.0 so,
-        run_adds es (after P m e) op run.1 (rest_begins es m e op run begins) (event_so m e op run.0 first so))
+        omega (
+          arith,
+          event_adds m e op run.0 so,
+          run_adds es (after P m e) op run.1 (rest_begins es m e op run begins) (event_so m e op run.0 first so),
+        )
 
     -- so of an op whose command begins in such a state
     pub nothing_added : (counts : Counts) (es : List Event) → IsWorldRun P counts es → (op : OpId) (c : Command) → command_of es op ≡ Some c

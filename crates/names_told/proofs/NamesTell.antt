@@ -75,4 +75,4 @@ pub names_tell_so : (counts : Counts) → TellingLaws counts programs names_deci
 names_tell_so counts = part_telling_laws (walk_tells begins_in Fits (walks_tell counts) (operations_tell counts)) is_served
     (λ counts m c. started counts m (begun c))
     (λ h op c m served unbegun none opened.
-        begins_tells counts h op none c m unbegun opened (begun c) refl (begins_so c served))
+    begins_tells counts h op none c m unbegun opened (begun c) refl (begins_so c served))

@@ -133,9 +133,9 @@ module _ {S : Type 0} (P : Programs S) (D : Deciding S Answer) (N : Known S Answ
       × IsTreeRun (tree_after t (told_of h e)) (steps_after (h ++ e ∷ []) es) =
       run_tracked es (h ++ e ∷ []) (after P m e) (tree_after t (told_of h e)) now.0 run.1 in (
         subst (λ (l : List Event). Tracks N l (after_all P (after P m e) es) (tree_after t (steps_after h (e ∷ es))))
-        (append_assoc h (e ∷ []) es)
-        (subst (λ (u : Tree). Tracks N ((h ++ e ∷ []) ++ es) (after_all P (after P m e) es) u)
-        (sym (tree_after-append t (told_of h e) (steps_after (h ++ e ∷ []) es))) rest.0),
+            (append_assoc h (e ∷ []) es)
+            (subst (λ (u : Tree). Tracks N ((h ++ e ∷ []) ++ es) (after_all P (after P m e) es) u)
+            (sym (tree_after-append t (told_of h e) (steps_after (h ++ e ∷ []) es))) rest.0),
         tree_run-append t (told_of h e) (steps_after (h ++ e ∷ []) es) now.1 rest.1,
       )
 
