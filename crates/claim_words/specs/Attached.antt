@@ -118,6 +118,7 @@ file_token now (files.Grant f h n) x k = now
 file_token now (files.Release f h) x k = now
 file_token now (files.Attach f t b n h) x k = now
 file_token now (files.ListBlocks f) x k = now
+file_token now (files.SealFile f) x k = now
 
 abbrev pub token_by : Option OpId → Event → FileId → Option OpId
 token_by now (Own op (Acted (any.File q) x how)) k = file_token now q x k

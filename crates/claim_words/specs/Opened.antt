@@ -29,6 +29,7 @@ file_opens c (files.Grant f h k) x = []
 file_opens c (files.Release f h) x = []
 file_opens c (files.Attach f t b n h) x = []
 file_opens c (files.ListBlocks f) x = []
+file_opens c (files.SealFile f) x = []
 
 -- what a request of that command opens
 abbrev pub opens_of : Option Command → AnyReq → AnyReply → List Learnt

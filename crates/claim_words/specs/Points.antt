@@ -37,6 +37,7 @@ way (commands.Rename p to) = but_last p
 way (commands.Open p) = but_last p
 way (commands.Blocks p) = but_last p
 way (commands.Read p) = but_last p
+way (commands.Seal p) = but_last p
 way _ = []
 
 -- the path that a command walks; of a rename the one of the old name
@@ -50,6 +51,7 @@ first_path (commands.Rename p to) = p
 first_path (commands.Open p) = p
 first_path (commands.Blocks p) = p
 first_path (commands.Read p) = p
+first_path (commands.Seal p) = p
 first_path _ = []
 
 -- at most how many names a command looks up: each of its path, and one for a path without names; an append looks up none
@@ -211,6 +213,15 @@ ReadDecides own d p (step.Look k) r a = (k ≡ key_in d (last_name p)) × FindsN
 ReadDecides own d p (step.Blocks f) r a = FoundSource own d p (File f) × IsRefusal (file_key f) r a
 ReadDecides own d p s r a = ⊥
 
+-- the root is sealed as it is, and else what was found
+abbrev pub SealDecides : List Told → DirId → List (List ℕ) → TreeStep → TreeReply → Answer → Type 0
+SealDecides own d [] (step.SealDir e) r a = (e ≡ d) × (a ≡ done_answer (key_in d []) answers.Done r)
+SealDecides own d (n ∷ ns) (step.Look k) r a = (k ≡ key_in d (last_name (n ∷ ns))) × IsRefusal k r a
+SealDecides own d (n ∷ ns) (step.SealDir e) r a =
+    FoundSource own d (n ∷ ns) (Dir e) × (a ≡ done_answer (key_in d (last_name (n ∷ ns))) answers.Done r)
+SealDecides own d (n ∷ ns) (step.SealFile f) r a = FoundSource own d (n ∷ ns) (File f) × (a ≡ done_answer (file_key f) answers.Done r)
+SealDecides own d p s r a = ⊥
+
 -- what is attached are the command's bytes
 abbrev pub AppendDecides : List ℕ → TreeStep → TreeReply → Answer → Type 0
 AppendDecides bytes (step.Attach f token b content) r a = (content ≡ bytes) × Attaches (file_key f) b r a
@@ -229,6 +240,7 @@ Decides (commands.Open p) own d s r a = OpenDecides own d p s r a
 Decides (commands.Append p bytes) own d s r a = AppendDecides bytes s r a
 Decides (commands.Blocks p) own d s r a = BlocksDecides own d p s r a
 Decides (commands.Read p) own d s r a = ReadDecides own d p s r a
+Decides (commands.Seal p) own d s r a = SealDecides own d p s r a
 Decides _ own d s r a = ⊥
 
 -- on the way, or where it led

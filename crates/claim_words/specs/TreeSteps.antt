@@ -38,6 +38,7 @@ name_says (name_replies.Swapped h old) = Ok shown.Done
 name_says (name_replies.Unbound n h) = Ok shown.Done
 name_says name_replies.Granted = Ok shown.Done
 name_says (name_replies.Released was) = Ok shown.Done
+name_says name_replies.SealedNow = Ok shown.Done
 name_says name_replies.HasId = Refused Exists
 name_says (name_replies.Refused why) = Refused why
 
@@ -48,6 +49,7 @@ file_says (file_replies.Released was) = Ok shown.Done
 file_says file_replies.Opened = Ok shown.Done
 file_says (file_replies.Attached i) = Ok (shown.Attached i)
 file_says (file_replies.Blocks sealed rows) = Ok (shown.Blocks sealed rows)
+file_says file_replies.SealedNow = Ok shown.Done
 file_says file_replies.HasId = Refused Exists
 file_says (file_replies.Refused why) = Refused why
 
@@ -74,6 +76,7 @@ name_step_of (names.Swap d from to n h) x = Some (step.Swap d from to n)
 name_step_of (names.Unbind k w) x = Some (step.Unbind k w)
 name_step_of (names.Grant d h k) x = where_refused (step.GrantDir d) (name_says x)
 name_step_of (names.Release d h) x = None
+name_step_of (names.SealDir d) x = Some (step.SealDir d)
 
 -- a block is attached with its content
 abbrev pub file_step_of : (BlkId → List ℕ) → FileReq → FileReply → Option TreeStep
@@ -83,6 +86,7 @@ file_step_of content (files.Release f h) x = None
 file_step_of content (files.TakeToken f t) x = Some (step.Open f t)
 file_step_of content (files.Attach f t b n h) x = Some (step.Attach f t b (content b))
 file_step_of content (files.ListBlocks f) x = Some (step.Blocks f)
+file_step_of content (files.SealFile f) x = Some (step.SealFile f)
 
 abbrev pub tree_step : (BlkId → List ℕ) → AnyReq → AnyReply → Option TreeStep
 tree_step content (any.Name q) (any_reply.Name x) = name_step_of q x

@@ -77,6 +77,7 @@ file_reply_decides (file_replies.Released was) b = grind arith
 file_reply_decides file_replies.Opened b = grind arith
 file_reply_decides (file_replies.Attached index) b = grind arith
 file_reply_decides (file_replies.Blocks sealed rows) b = grind (arith, parts_decide)
+file_reply_decides file_replies.SealedNow b = grind arith
 file_reply_decides file_replies.HasId b = grind arith
 file_reply_decides (file_replies.Refused why) b = grind arith
 
@@ -119,6 +120,7 @@ name_req_decides (names.Swap dir from to node hold) b = grind (arith, same_names
 name_req_decides (names.Unbind key want) b = grind (arith, key_decides)
 name_req_decides (names.Grant dir hold key) b = grind (arith, key_decides)
 name_req_decides (names.Release dir hold) b = grind arith
+name_req_decides (names.SealDir dir) b = grind arith
 
 items_decide : (a b : List Listed) → Decides (pointwise (listed.ghosts).eq a b) (a ≡ b)
 items_decide a b = slice_eq-Decides listed_decides a b (pointwise (listed.ghosts).eq a b) refl
@@ -133,6 +135,7 @@ name_reply_decides (replies.Swapped hold old) b = grind arith
 name_reply_decides (replies.Unbound node hold) b = grind arith
 name_reply_decides replies.Granted b = grind arith
 name_reply_decides (replies.Released was) b = grind arith
+name_reply_decides replies.SealedNow b = grind arith
 name_reply_decides replies.HasId b = grind arith
 name_reply_decides (replies.Refused why) b = grind arith
 

@@ -5,6 +5,7 @@ mod dump;
 mod refused;
 mod requests;
 mod rows;
+mod seals;
 mod shard;
 mod tokens;
 

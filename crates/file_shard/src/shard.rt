@@ -40,12 +40,12 @@ impl FileShard {
 
     /// Answers the request by its rule, and makes the rule's change where it is not refused.
     ///
-    /// A refusal is an answer like others, and changes nothing: `MakeFile` is answered `HasId` where the file stands; `Grant` and
-    /// `ListBlocks` are refused as `NoFile` where it does not, `TakeToken` also as `Sealed`, and `Attach` as `NoFile`, `Sealed`,
+    /// A refusal is an answer like others, and changes nothing: `MakeFile` is answered `HasId` where the file stands; `Grant`,
+    /// `ListBlocks` and `SealFile` are refused as `NoFile` where it does not, `TakeToken` also as `Sealed`, and `Attach` as `NoFile`, `Sealed`,
     /// `TokenChanged` with the token that the file has now, or at 4,096 blocks `Full`, whichever comes first. `Release` says
     /// whether the hold was listed.
     ///
-    /// Nor does want of memory change anything, which may come at any request but `Release` and `TakeToken`: these take none.
+    /// Nor does want of memory change anything, which may come at any request but `Release`, `TakeToken` and `SealFile`: these take none.
     /// Files are found in logarithmic time, and only `ListBlocks` goes over a file's rows, those of its own file alone.
     pub fn step(&mut self, req: &FileReq) -> Result<FileReply, NoMemory>
         ensures answers { IfOk result (λ x. x ≡ reply (file_answer self.old req.now)) }
@@ -83,11 +83,12 @@ impl FileShard {
             FileReq::TakeToken { file, .. } => Ok(self.take_token_outcome(*file)),
             FileReq::Attach { file, token, .. } => Ok(self.attach_outcome(*file, *token)),
             FileReq::ListBlocks { file } => self.list_blocks(*file),
+            FileReq::SealFile { file } => Ok(self.seal_outcome(*file)),
         }
     }
 
-    /// Makes the change of a request that was decided to change the shard. For want of memory nothing is changed; `Release`
-    /// and `TakeToken` take none.
+    /// Makes the change of a request that was decided to change the shard. For want of memory nothing is changed; `Release`,
+    /// `TakeToken` and `SealFile` take none.
     pub fn apply(&mut self, req: &FileReq) -> Result<(), NoMemory>
         requires { changes (file_answer self.old req.now) ≡ true }
         ensures ok { OnOk result (self.new ≡ file_change self.old req.now) }
@@ -123,6 +124,10 @@ impl FileShard {
                     hold: *hold,
                 };
                 self.attach(*file, row)
+            }
+            FileReq::SealFile { file } => {
+                self.seal(*file);
+                Ok(())
             }
             FileReq::ListBlocks { .. } => Ok(()),
         }

@@ -3,6 +3,7 @@ ghost use Rattle.std.specs.FinMap.{get};
 ghost use Rattle.map_words.specs.Maps.{set_at};
 ghost use Rattle.store_rules.specs.Names.{make_dir_answer, make_dir_change, grant_dir_answer, grant_dir_change};
 ghost use Rattle.store_rules.specs.Names.{release_dir_answer, release_dir_change, dir_with_hold, dir_lists};
+ghost use Rattle.store_rules.specs.Names.{seal_dir_answer, seal_dir_change, dir_sealed};
 
 use crate::refused::refused;
 use crate::shard::NameShard;
@@ -88,6 +89,21 @@ impl NameShard {
     {
         release_hold(&mut self.dirs, dir, hold);
     }
+
+    pub(crate) fn seal_outcome(&self, dir: DirId) -> Outcome<NameReply>
+        ensures { result ≡ seal_dir_answer self.now dir }
+    {
+        if self.dirs.get(dir).is_none() {
+            return refused(Refusal::NoDir);
+        }
+        Outcome::Changes(NameReply::SealedNow)
+    }
+
+    pub(crate) fn seal(&mut self, dir: DirId)
+        ensures { self.new ≡ seal_dir_change self.old dir }
+    {
+        close(&mut self.dirs, dir);
+    }
 }
 
 // Lists the hold with that key where the directory stands.
@@ -103,6 +119,15 @@ fn grant_hold(
     match dirs.get_mut(dir) {
         None => Ok(()),
         Some(directory) => directory.holds.grant(hold, key),
+    }
+}
+
+// Seals the directory where it stands.
+fn close(dirs: &mut DirMap<Directory>, dir: DirId)
+    ensures { dirs.new ≡ set_at dirs.old dir (dir_sealed (get dirs.old dir)) }
+{
+    if let Some(directory) = dirs.get_mut(dir) {
+        directory.sealed = true;
     }
 }
 

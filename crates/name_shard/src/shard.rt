@@ -58,7 +58,7 @@ impl NameShard {
     /// Answers the request by its rule, and makes the rule's change where it is not refused.
     ///
     /// A refusal is an answer like others, and changes nothing. Nor does want of memory, which may come at any request but
-    /// `CheckDir`, `Look`, `Unbind` and `Release`: these take none. Names are found in logarithmic time, and only `List`
+    /// `CheckDir`, `Look`, `Unbind`, `Release` and `SealDir`: these take none. Names are found in logarithmic time, and only `List`
     /// goes over a directory's entries, those of its own directory alone.
     pub fn step(&mut self, req: &NameReq) -> Result<NameReply, NoMemory>
         ensures answers { IfOk result (λ x. x ≡ reply (name_answer self.old req.now)) }
@@ -105,11 +105,12 @@ impl NameShard {
             NameReq::Unbind { key, want } => Ok(self.unbind_outcome(key, *want)),
             NameReq::Grant { dir, .. } => Ok(self.grant_outcome(*dir)),
             NameReq::Release { dir, hold } => Ok(self.release_outcome(*dir, *hold)),
+            NameReq::SealDir { dir } => Ok(self.seal_outcome(*dir)),
         }
     }
 
-    /// Makes the change of a request that was decided to change the shard. For want of memory nothing is changed; `Unbind` and
-    /// `Release` take none.
+    /// Makes the change of a request that was decided to change the shard. For want of memory nothing is changed; `Unbind`,
+    /// `Release` and `SealDir` take none.
     pub fn apply(&mut self, req: &NameReq) -> Result<(), NoMemory>
         requires { changes (name_answer self.old req.now) ≡ true }
         ensures ok { OnOk result (self.new ≡ name_change self.old req.now) }
@@ -149,6 +150,10 @@ impl NameShard {
             NameReq::Grant { dir, hold, key } => self.grant(*dir, *hold, key),
             NameReq::Release { dir, hold } => {
                 self.release(*dir, *hold);
+                Ok(())
+            }
+            NameReq::SealDir { dir } => {
+                self.seal(*dir);
                 Ok(())
             }
             NameReq::CheckDir { .. } | NameReq::Look { .. } | NameReq::List { .. } => Ok(()),

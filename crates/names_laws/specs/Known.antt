@@ -81,6 +81,7 @@ OperationKnows w op m (states.Open s) = open_known.Knows w op m s
 OperationKnows w op m (states.Append s) = append_known.Knows w op m s
 OperationKnows w op m (states.Blocks s) = blocks_known.Knows w op m s
 OperationKnows w op m (states.Read s) = read_known.Knows w op m s
+OperationKnows w op m (states.Seal s) = IsNewOp w op
 
 abbrev pub operation_known : Known OperationState Answer
 operation_known = record { Knows = OperationKnows; Ends = λ w a. is_odd a ≡ false }

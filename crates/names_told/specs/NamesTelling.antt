@@ -1,6 +1,6 @@
 -- What the history tells of each operation before its answer is decided, and what explains the answer; and how many transactions a command
 -- takes: a look for each name of its path, and few others. Of the operations on the contents of files a crate of their own tells.
-use Rattle.std.specs.Prelude.{◌≡◌, Bool, true, false, Some, None, List, [], ℕ}
+use Rattle.std.specs.Prelude.{◌≡◌, Bool, true, false, Some, None, List, [], ℕ, ◌⊎◌}
 use Rattle.tect_ids.specs.declared.ids.Counts.{Counts}
 use Rattle.tect_ids.specs.declared.ids.DirId.{DirId}
 use Rattle.tect_ids.specs.declared.ids.Node.{Node}
@@ -24,6 +24,7 @@ use Rattle.program_rules.specs.declared.states.NewNode.{NewNode}
 use Rattle.program_rules.specs.declared.states.Make.{Make}
 use Rattle.program_rules.specs.declared.states.Delete.{Delete}
 use Rattle.program_rules.specs.declared.states.Rename.{Rename}
+use Rattle.program_rules.specs.declared.states.Seal.{Seal}
 use Rattle.program_rules.specs.declared.operation.Operation.{Operation}
 use Rattle.program_rules.specs.declared.operation.OperationState.{OperationState}
 use Rattle.program_rules.specs.NamePairs.{OldAndNew}
@@ -34,6 +35,7 @@ use Rattle.program_rules.specs.declared.states.NewNode.TheVariants as new
 use Rattle.program_rules.specs.declared.states.Make.TheVariants as making
 use Rattle.program_rules.specs.declared.states.Delete.TheVariants as deleting
 use Rattle.program_rules.specs.declared.states.Rename.TheVariants as renaming
+use Rattle.program_rules.specs.declared.states.Seal.TheVariants as sealing
 use Rattle.program_rules.specs.declared.operation.Operation.TheVariants as operation
 use Rattle.program_rules.specs.declared.operation.OperationState.TheVariants as states
 use Rattle.world_runs.specs.declared.event.Event.{Event}
@@ -80,11 +82,29 @@ pub record SawSource (h : List Event) (op : OpId) (c : Command) (d : DirId) (p :
   pub came : CameTo h op c d (operation.Rename p.from p.to)
   pub seen : Seen (of_op op (tree_steps h)) (step.Look (key_in d p.from)) (Ok (shown.Node n))
 
+-- a path without names led to that directory
+pub record SealsDir (h : List Event) (op : OpId) (c : Command) (n : Node) : Type 0 where
+  pub dir : DirId
+  pub here : n ≡ nodes.Dir dir
+  pub came : CameTo h op c dir (operation.Seal None)
+
+-- that node was seen under the path's last name
+pub record SealsFound (h : List Event) (op : OpId) (c : Command) (n : Node) : Type 0 where
+  pub dir : DirId
+  pub name : List ℕ
+  pub came : CameTo h op c dir (operation.Seal (Some name))
+  pub seen : Seen (of_op op (tree_steps h)) (step.Look (key_in dir name)) (Ok (shown.Node n))
+
 abbrev pub RenameBefore : List Event → OpId → Command → Rename → Type 0
 RenameBefore h op c (renaming.Find d from to) = CameTo h op c d (operation.Rename from to)
 RenameBefore h op c (renaming.Grant d p n) = SawSource h op c d p n
 RenameBefore h op c (renaming.Swap d p n hold) = SawSource h op c d p n
 RenameBefore h op c (renaming.Release r) = Unit {0}
+
+-- the root, to which a path without names led, or what was seen under the path's last name
+abbrev pub SealBefore : List Event → OpId → Command → Seal → Type 0
+SealBefore h op c (sealing.Find k) = CameTo h op c k.dir (operation.Seal (Some k.name))
+SealBefore h op c (sealing.Node n) = SealsDir h op c n ⊎ SealsFound h op c n
 
 -- ---- all of them
 
@@ -98,6 +118,7 @@ OperationBefore h op c (states.Open s) = OpenBefore h op c s
 OperationBefore h op c (states.Append s) = AppendBefore h op c s
 OperationBefore h op c (states.Blocks s) = BlocksBefore h op c s
 OperationBefore h op c (states.Read s) = ReadBefore h op c s
+OperationBefore h op c (states.Seal s) = SealBefore h op c s
 
 abbrev pub operation_telling : Counts → Telling OperationState
 operation_telling counts = record { Before = OperationBefore; because = files_why counts }
@@ -136,6 +157,11 @@ rename_left (renaming.Grant d p n) = others 4
 rename_left (renaming.Swap d p n h) = others 3
 rename_left (renaming.Release r) = release_left r
 
+-- a look, and the seal
+abbrev pub seal_left : Seal → Many
+seal_left (sealing.Find k) = record { looks = 1; others = 1 }
+seal_left (sealing.Node n) = others 1
+
 -- ---- all of them
 
 -- Of a read it is told in two ways: beside its readings of blocks and chunks, as many as there are; and by what its replies list.
@@ -156,6 +182,7 @@ operation_left of_read (states.Open s) = open_left s
 operation_left of_read (states.Append s) = append_left s
 operation_left of_read (states.Blocks s) = blocks_left s
 operation_left of_read (states.Read s) = of_read s
+operation_left of_read (states.Seal s) = seal_left s
 
 -- the most that an operation takes
 abbrev pub most_of : Operation → Many
@@ -167,6 +194,7 @@ most_of (operation.Rename from to) = record { looks = 1; others = 4 }
 most_of (operation.Open path n) = record { looks = 1; others = 1 }
 most_of (operation.Blocks n) = record { looks = 1; others = 1 }
 most_of (operation.Read n) = record { looks = 1; others = 1 }
+most_of (operation.Seal n) = record { looks = 1; others = 1 }
 
 -- ---- of a running command, which first walks
 

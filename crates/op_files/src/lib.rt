@@ -24,3 +24,5 @@ pub mod open;
 mod places;
 pub mod read;
 mod refusals;
+
+pub use refusals::file_refused;

@@ -7,7 +7,7 @@ use Rattle.program_forms.specs.Kinds.{Turned, turned}
 use Rattle.program_calls.specs.Keeping.{KeepsSerial}
 use Rattle.program_parts.specs.declared.next.Next.TheVariants.{Goes, Comes}
 use Rattle.program_parts.specs.declared.walking.Walking.TheVariants.{Way, There}
-use Rattle.program_rules.specs.declared.operation.OperationState.TheVariants.{Look, List, Make, Delete, Rename, Open, Append, Blocks, Read}
+use Rattle.program_rules.specs.declared.operation.OperationState.TheVariants.{Look, List, Make, Delete, Rename, Open, Append, Blocks, Read, Seal}
 use Rattle.program_rules.specs.Served.{Program, programs}
 
 -- what an actor knows, and where its command stands
@@ -26,6 +26,7 @@ looks_nothing c m op (Goes (There (Open s))) = refl
 looks_nothing c m op (Goes (There (Append s))) = refl
 looks_nothing c m op (Goes (There (Blocks s))) = refl
 looks_nothing c m op (Goes (There (Read s))) = refl
+looks_nothing c m op (Goes (There (Seal s))) = refl
 
 pub no_serial : KeepsSerial programs
 no_serial c m op p i = (looks_nothing c m op p i).memory.serial

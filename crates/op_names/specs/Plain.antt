@@ -12,7 +12,7 @@ use Rattle.program_rules.specs.declared.operation.Operation.{Operation}
 use Rattle.program_rules.specs.declared.operation.OperationState.{OperationState}
 use Rattle.program_rules.specs.declared.operation.OperationState.TheVariants.{Look, List}
 use Rattle.program_rules.specs.declared.operation.OperationState.TheVariants.{Make as Making, Delete as Deleting, Rename as Renaming}
-use Rattle.program_rules.specs.declared.operation.OperationState.TheVariants.{Open, Append, Blocks, Read}
+use Rattle.program_rules.specs.declared.operation.OperationState.TheVariants.{Open, Append, Blocks, Read, Seal}
 use Rattle.program_rules.specs.Served.{Program}
 use Rattle.op_files.specs.Plain.{IsPlainNext, IsPlainOpen, IsPlainAppend, IsPlainBlocks, IsPlainRead}
 
@@ -38,6 +38,7 @@ IsPlainOperation (Open s) = IsPlainOpen s
 IsPlainOperation (Append s) = IsPlainAppend s
 IsPlainOperation (Blocks s) = IsPlainBlocks s
 IsPlainOperation (Read s) = IsPlainRead s
+IsPlainOperation (Seal s) = Unit {0}
 
 abbrev pub IsPlainWalking : Walking Operation OperationState → Type 0
 IsPlainWalking (Way d n ns o) = Unit {0}

@@ -24,6 +24,7 @@ mod places;
 mod release;
 mod rename;
 mod running;
+mod seal;
 mod start;
 mod walk;
 

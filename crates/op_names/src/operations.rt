@@ -4,7 +4,7 @@ ghost use Rattle.program_forms.specs.Memories.{learnt};
 ghost use Rattle.program_rules.specs.Operations.{begins_in, operation_asks, operation_hears, operation_learns};
 ghost use Rattle.op_names.specs.OneBlock.{IsOfOneBlock};
 
-use crate::{delete, list, look, make, rename};
+use crate::{delete, list, look, make, rename, seal};
 use memories::Memory;
 use op_files::{append, blocks, open, read};
 use program_parts::Next;
@@ -50,6 +50,7 @@ pub fn start(operation: Operation, dir: MadeDir) -> OperationState
         }
         Operation::Blocks { name } => OperationState::Blocks(blocks::start(name, dir.dir())),
         Operation::Read { name } => OperationState::Read(read::start(name, dir.dir())),
+        Operation::Seal { name } => OperationState::Seal(seal::start(name, dir.dir())),
     }
 }
 
@@ -68,6 +69,7 @@ pub fn ask(state: &OperationState, memory: &Memory, op: OpId) -> Result<Asked, N
         OperationState::Append(append) => append::ask(append, memory, op),
         OperationState::Blocks(blocks) => blocks::ask(blocks),
         OperationState::Read(read) => read::ask(read),
+        OperationState::Seal(seal) => seal::ask(seal),
     }
 }
 
@@ -109,5 +111,9 @@ pub fn hear(
         OperationState::Append(append) => heard!(Append, append::hear(append, memory, op, reply)),
         OperationState::Blocks(blocks) => heard!(Blocks, blocks::hear(blocks, memory, reply)),
         OperationState::Read(read) => heard!(Read, read::hear(read, memory, reply)),
+        OperationState::Seal(seal) => Ok(within!(
+            OperationState::Seal,
+            seal::hear(seal, memory, reply)
+        )),
     }
 }

@@ -79,6 +79,10 @@ pub fn start(memory: &Memory, command: Command) -> Result<Next<Going, Answer>, N
             (way, Some(name)) => walks(way, Operation::Read { name }),
             _ => Ok(wants_file()),
         },
+        Command::Seal { path } => {
+            let (way, name) = split(path)?;
+            walks(way, Operation::Seal { name })
+        }
         _ => Ok(lacks_name()),
     }
 }

@@ -41,6 +41,7 @@ has_root s = is_some (get s.dirs (record { 0 = 1 }))
 abbrev pub name_is_free : AnyReq → Bool
 name_is_free (Name (names.CheckDir d)) = true
 name_is_free (Name (names.Release d h)) = true
+name_is_free (Name (names.SealDir d)) = true
 name_is_free _ = false
 
 -- ---- a file shard: what takes no memory holds no name

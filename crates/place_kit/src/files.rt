@@ -65,6 +65,7 @@ impl Machine for FileShard {
             FileReq::TakeToken { file, token } => {
                 Ok(AnyReq::File(FileReq::TakeToken { file, token }))
             }
+            FileReq::SealFile { file } => Ok(AnyReq::File(FileReq::SealFile { file })),
             _ => Ok(AnyReq::File(req.clone()?)),
         }
     }
@@ -73,6 +74,7 @@ impl Machine for FileShard {
         match *reply {
             FileReply::Released { was } => Ok(AnyReply::File(FileReply::Released { was })),
             FileReply::Opened => Ok(AnyReply::File(FileReply::Opened)),
+            FileReply::SealedNow => Ok(AnyReply::File(FileReply::SealedNow)),
             FileReply::Refused { why } => Ok(AnyReply::File(FileReply::Refused { why })),
             _ => Ok(AnyReply::File(reply.clone()?)),
         }

@@ -66,6 +66,7 @@ impl Machine for NameShard {
         match *req {
             NameReq::CheckDir { dir } => Ok(AnyReq::Name(NameReq::CheckDir { dir })),
             NameReq::Release { dir, hold } => Ok(AnyReq::Name(NameReq::Release { dir, hold })),
+            NameReq::SealDir { dir } => Ok(AnyReq::Name(NameReq::SealDir { dir })),
             _ => Ok(AnyReq::Name(req.clone()?)),
         }
     }
@@ -77,6 +78,7 @@ impl Machine for NameShard {
             }
             NameReply::Refused { why } => Ok(AnyReply::Name(NameReply::Refused { why })),
             NameReply::Released { was } => Ok(AnyReply::Name(NameReply::Released { was })),
+            NameReply::SealedNow => Ok(AnyReply::Name(NameReply::SealedNow)),
             _ => Ok(AnyReply::Name(reply.clone()?)),
         }
     }

@@ -23,12 +23,13 @@ use Rattle.program_rules.specs.declared.operation.Operation.{Operation}
 use Rattle.program_rules.specs.declared.operation.Operation.TheVariants as operation
 use Rattle.program_rules.specs.declared.operation.OperationState.{OperationState}
 use Rattle.program_rules.specs.declared.operation.OperationState.TheVariants.{Look, List as Listing, Make, Delete, Rename}
-use Rattle.program_rules.specs.declared.operation.OperationState.TheVariants.{Open, Append, Blocks, Read}
+use Rattle.program_rules.specs.declared.operation.OperationState.TheVariants.{Open, Append, Blocks, Read, Seal}
 use Rattle.program_rules.specs.Look.{look, look_starts}
 use Rattle.program_rules.specs.List.{list}
 use Rattle.program_rules.specs.Make.{make, make_decided}
 use Rattle.program_rules.specs.Delete.{delete, delete_decided}
 use Rattle.program_rules.specs.Rename.{rename, rename_decided}
+use Rattle.program_rules.specs.Seal.{seal, seal_starts, seal_decided}
 
 -- the operation as it begins in that directory
 abbrev pub begins_in : Operation → DirId → OperationState
@@ -40,6 +41,7 @@ begins_in (operation.Rename from to) d = Rename (renaming.Find d from to)
 begins_in (operation.Open path n) d = Open (open_starts path n d)
 begins_in (operation.Blocks n) d = Blocks (blocks_starts n d)
 begins_in (operation.Read n) d = Read (read_starts n d)
+begins_in (operation.Seal n) d = Seal (seal_starts n d)
 
 abbrev pub operation_turns : Counts → Memory → OpId → OperationState → Turned (Next OperationState Answer)
 operation_turns c m op (Look s) = turned_within Look (look.turns c m op s)
@@ -51,6 +53,7 @@ operation_turns c m op (Open s) = turned_within Open (opening.turns c m op s)
 operation_turns c m op (Append s) = turned_within Append (append.turns c m op s)
 operation_turns c m op (Blocks s) = turned_within Blocks (blocks.turns c m op s)
 operation_turns c m op (Read s) = turned_within Read (read.turns c m op s)
+operation_turns c m op (Seal s) = turned_within Seal (seal.turns c m op s)
 
 abbrev pub operation_asks : Counts → Memory → OpId → OperationState → AnyReq
 operation_asks c m op (Look s) = look.asks c m op s
@@ -62,6 +65,7 @@ operation_asks c m op (Open s) = opening.asks c m op s
 operation_asks c m op (Append s) = append.asks c m op s
 operation_asks c m op (Blocks s) = blocks.asks c m op s
 operation_asks c m op (Read s) = read.asks c m op s
+operation_asks c m op (Seal s) = seal.asks c m op s
 
 abbrev pub operation_hears : Counts → Memory → OpId → OperationState → AnyReq → AnyReply → Next OperationState Answer
 operation_hears c m op (Look s) q x = within Look (look.hears c m op s q x)
@@ -73,6 +77,7 @@ operation_hears c m op (Open s) q x = within Open (opening.hears c m op s q x)
 operation_hears c m op (Append s) q x = within Append (append.hears c m op s q x)
 operation_hears c m op (Blocks s) q x = within Blocks (blocks.hears c m op s q x)
 operation_hears c m op (Read s) q x = within Read (read.hears c m op s q x)
+operation_hears c m op (Seal s) q x = within Seal (seal.hears c m op s q x)
 
 abbrev pub operation_learns : OpId → OperationState → AnyReq → AnyReply → List Learnt
 operation_learns op (Look s) q x = look.learns op s q x
@@ -84,6 +89,7 @@ operation_learns op (Open s) q x = opening.learns op s q x
 operation_learns op (Append s) q x = append.learns op s q x
 operation_learns op (Blocks s) q x = blocks.learns op s q x
 operation_learns op (Read s) q x = read.learns op s q x
+operation_learns op (Seal s) q x = seal.learns op s q x
 
 abbrev pub operations : Part OperationState Answer
 operations = record { turns = operation_turns; asks = operation_asks; hears = operation_hears; learns = operation_learns }
@@ -99,3 +105,4 @@ operation_decided (Open s) = open_decided s
 operation_decided (Append s) = append_decided s
 operation_decided (Blocks s) = blocks_decided s
 operation_decided (Read s) = read_decided s
+operation_decided (Seal s) = seal_decided s

@@ -61,6 +61,7 @@ begun (commands.Open p) = walks_to_file p (last_of p) (λ n. operation.Open p n)
 begun (commands.Append p bytes) = Appends p bytes
 begun (commands.Blocks p) = walks_to_file p (last_of p) (λ n. operation.Blocks n)
 begun (commands.Read p) = walks_to_file p (last_of p) (λ n. operation.Read n)
+begun (commands.Seal p) = Walks (but_last p) (operation.Seal (last_of p))
 begun _ = LacksName
 
 abbrev pub is_served : Command → Bool
@@ -74,6 +75,7 @@ is_served (commands.Open p) = true
 is_served (commands.Append p bytes) = true
 is_served (commands.Blocks p) = true
 is_served (commands.Read p) = true
+is_served (commands.Seal p) = true
 is_served _ = false
 
 -- a running command: it walks, or is in a state of its operation, or has its answer

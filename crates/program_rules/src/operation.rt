@@ -1,4 +1,4 @@
-use crate::states::{Delete, List, Look, Make, NewNode, Rename};
+use crate::states::{Delete, List, Look, Make, NewNode, Rename, Seal};
 use file_rules::{Append, Blocks, Open, Read};
 use memories::PathKey;
 use tect_ids::Name;
@@ -16,6 +16,8 @@ pub enum Operation {
     Open { path: PathKey, name: Name },
     Blocks { name: Name },
     Read { name: Name },
+    /// Of a path without names the directory itself is sealed.
+    Seal { name: Option<Name> },
 }
 
 /// An operation that runs, in one of its states. Each has its rules in a file of `specs`, here or in `file_rules`.
@@ -30,4 +32,5 @@ pub enum OperationState {
     Append(Append),
     Blocks(Blocks),
     Read(Read),
+    Seal(Seal),
 }

@@ -68,3 +68,10 @@ pub enum Rename {
     },
     Release(Releasing),
 }
+
+/// A directory or a file is found and sealed; of a path without names the root.
+#[derive(Drop)]
+pub enum Seal {
+    Find { key: Key },
+    Node { node: Node },
+}

@@ -62,7 +62,7 @@ const VERBS: [Row<Verb>; 16] = [
     ("delete", Verb::OnPath(PathVerb::Delete), true),
     ("rmdir", Verb::OnPath(PathVerb::Rmdir), false),
     ("drop", Verb::OnPath(PathVerb::Drop), false),
-    ("seal", Verb::OnPath(PathVerb::Seal), false),
+    ("seal", Verb::OnPath(PathVerb::Seal), true),
     ("open", Verb::OnPath(PathVerb::Open), true),
     ("blocks", Verb::OnPath(PathVerb::Blocks), true),
     ("read", Verb::OnPath(PathVerb::Read), true),

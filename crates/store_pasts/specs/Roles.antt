@@ -152,6 +152,7 @@ name_role (names.Grant d h k) =
       taught = λ v x. GrantTaught v (Dir d) h k x;
     }
 name_role (names.Release d h) = record plain { needs = λ w. is_spent w h ≡ true }
+name_role (names.SealDir d) = plain
 
 abbrev pub file_role : FileReq → Role
 file_role (files.MakeFile f h k t) =
@@ -176,6 +177,7 @@ file_role (files.Attach f t b n h) =
       taught = λ v x. AttachTaught v f b n h (as_attached x);
     }
 file_role (files.ListBlocks f) = record plain { taught = λ v x. ListedTaught v f (as_block_list x) }
+file_role (files.SealFile f) = plain
 
 abbrev pub block_role : BlockReq → Role
 block_role (blocks.MakeBlock b c n f h rs) =

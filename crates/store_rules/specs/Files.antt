@@ -16,7 +16,8 @@ use Rattle.store_rules.specs.declared.files.File.{File}
 use Rattle.store_rules.specs.declared.files.FileReq.{FileReq}
 use Rattle.store_rules.specs.declared.files.FileReq.TheVariants as req
 use Rattle.store_rules.specs.declared.files.FileReply.{FileReply}
-use Rattle.store_rules.specs.declared.files.FileReply.TheVariants.{Made, Granted, Released, Opened, Attached, Blocks, HasId, Refused}
+use Rattle.store_rules.specs.declared.files.FileReply.TheVariants.{Made, Granted, Released, Opened, Attached, Blocks, SealedNow, HasId}
+use Rattle.store_rules.specs.declared.files.FileReply.TheVariants.{Refused}
 use Rattle.tect_ids.specs.declared.values.Refusal.TheVariants.{NoFile, Sealed, Full, TokenChanged}
 use Rattle.store_rules.specs.declared.outcome.Outcome.{Outcome}
 use Rattle.store_rules.specs.declared.outcome.Outcome.TheVariants.{Leaves, Changes}
@@ -100,6 +101,17 @@ row_part r = record { blk = r.blk; len = r.len }
 abbrev pub list_blocks_answer : Files → FileId → Outcome FileReply
 list_blocks_answer s f = found (get s f) (Refused NoFile) (λ x. Leaves (Blocks x.sealed (map row_part x.rows)))
 
+-- SealFile: also where it was sealed
+abbrev pub file_sealed : Option File → Option File
+file_sealed None = None
+file_sealed (Some f) = Some record f { sealed = true }
+
+abbrev pub seal_file_answer : Files → FileId → Outcome FileReply
+seal_file_answer s f = found (get s f) (Refused NoFile) (λ x. Changes SealedNow)
+
+abbrev pub seal_file_change : Files → FileId → Files
+seal_file_change s f = set_at s f (file_sealed (get s f))
+
 -- The rule of a request: the file that it concerns, what is answered, what is changed where it is not refused, and whether it is done
 -- without memory.
 pub record FileRule : Type 0 where
@@ -121,6 +133,7 @@ file_rule (req.TakeToken f t) =
 file_rule (req.Attach f t b n h) = record
     { file = f; answer = λ s. attach_answer s f t; change = λ s. attach_change s f (record { blk = b; len = n; hold = h }); free = false }
 file_rule (req.ListBlocks f) = record { file = f; answer = λ s. list_blocks_answer s f; change = λ s. s; free = false }
+file_rule (req.SealFile f) = record { file = f; answer = λ s. seal_file_answer s f; change = λ s. seal_file_change s f; free = true }
 
 abbrev pub file_answer : Files → FileReq → Outcome FileReply
 file_answer s q = (file_rule q).answer s

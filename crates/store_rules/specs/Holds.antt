@@ -47,6 +47,7 @@ name_hold (names.Swap d from to n h) = Binds h
 name_hold (names.Unbind k want) = NoHold
 name_hold (names.Grant d h k) = Grants record { node = Dir d; hold = h; key = k }
 name_hold (names.Release d h) = GivesUp h
+name_hold (names.SealDir d) = NoHold
 
 abbrev pub file_hold : FileReq → HoldUse
 file_hold (files.MakeFile f h k t) = Grants record { node = File f; hold = h; key = k }
@@ -55,6 +56,7 @@ file_hold (files.Release f h) = GivesUp h
 file_hold (files.TakeToken f t) = NoHold
 file_hold (files.Attach f t b n h) = Binds h
 file_hold (files.ListBlocks f) = NoHold
+file_hold (files.SealFile f) = NoHold
 
 abbrev pub block_hold : BlockReq → HoldUse
 block_hold (blocks.MakeBlock b c n f h rs) = GrantsRow record { blk = b; hold = h; file = f }

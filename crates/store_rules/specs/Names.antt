@@ -25,7 +25,7 @@ use Rattle.store_rules.specs.declared.names.NameReq.{NameReq}
 use Rattle.store_rules.specs.declared.names.NameReq.TheVariants as req
 use Rattle.store_rules.specs.declared.names.NameReply.{NameReply}
 use Rattle.store_rules.specs.declared.names.NameReply.TheVariants.{DirIs, Found, Listing, Made, Bound, Swapped, Unbound}
-use Rattle.store_rules.specs.declared.names.NameReply.TheVariants.{Granted, Released, HasId, Refused}
+use Rattle.store_rules.specs.declared.names.NameReply.TheVariants.{Granted, Released, SealedNow, HasId, Refused}
 use Rattle.tect_ids.specs.declared.values.Refusal.TheVariants.{NoDir, NoName, Exists, IsDir, Sealed, Full, Changed}
 use Rattle.store_rules.specs.declared.outcome.Outcome.{Outcome}
 use Rattle.store_rules.specs.declared.outcome.Outcome.TheVariants.{Leaves, Changes}
@@ -170,6 +170,17 @@ release_dir_answer s d h = refuse (not (is_some (dir_lists (get s.dirs d) h))) (
 abbrev pub release_dir_change : Names → DirId → Hold → Names
 release_dir_change s d h = set_dir s d (dir_with_hold (get s.dirs d) h None)
 
+-- SealDir: also where it was sealed
+abbrev pub dir_sealed : Option Directory → Option Directory
+dir_sealed None = None
+dir_sealed (Some d) = Some record d { sealed = true }
+
+abbrev pub seal_dir_answer : Names → DirId → Outcome NameReply
+seal_dir_answer s d = found (get s.dirs d) (Refused NoDir) (λ x. Changes SealedNow)
+
+abbrev pub seal_dir_change : Names → DirId → Names
+seal_dir_change s d = set_dir s d (dir_sealed (get s.dirs d))
+
 -- The rule of a request: the directory that it concerns, what is answered, what is changed where it is not refused, and whether it is
 -- done without memory.
 pub record NameRule : Type 0 where
@@ -197,6 +208,7 @@ name_rule (req.Grant d h k) =
     record { dir = d; answer = λ s. grant_dir_answer s d; change = λ s. grant_dir_change s d h k; free = false }
 name_rule (req.Release d h) =
     record { dir = d; answer = λ s. release_dir_answer s d h; change = λ s. release_dir_change s d h; free = true }
+name_rule (req.SealDir d) = record { dir = d; answer = λ s. seal_dir_answer s d; change = λ s. seal_dir_change s d; free = true }
 
 abbrev pub name_answer : Names → NameReq → Outcome NameReply
 name_answer s q = (name_rule q).answer s

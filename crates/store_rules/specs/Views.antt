@@ -74,6 +74,12 @@ abbrev pub as_location : AnyReply → Option Location
 as_location (Block (blocks.BlockIs c n sealed v rows)) = Some record { class = c; len = n; sealed = sealed; version = v; rows = rows }
 as_location _ = None
 
+-- a directory or a file is sealed now
+abbrev pub is_sealed : AnyReply → Bool
+is_sealed (Name names.SealedNow) = true
+is_sealed (File files.SealedNow) = true
+is_sealed _ = false
+
 -- a block was sealed
 abbrev pub is_block_sealed : AnyReply → Bool
 is_block_sealed (Block blocks.SealedNow) = true

@@ -50,6 +50,10 @@ pub enum FileReq {
     ListBlocks {
         file: FileId,
     },
+    /// Closes the file to new tokens and blocks.
+    SealFile {
+        file: FileId,
+    },
 }
 
 impl FileReq {
@@ -63,7 +67,8 @@ impl FileReq {
             | FileReq::Release { file, .. }
             | FileReq::TakeToken { file, .. }
             | FileReq::Attach { file, .. }
-            | FileReq::ListBlocks { file } => *file,
+            | FileReq::ListBlocks { file }
+            | FileReq::SealFile { file } => *file,
         }
     }
 }
@@ -79,6 +84,7 @@ pub enum FileReply {
     Attached { index: u32 },
     /// The file's blocks in order, with their lengths.
     Blocks { sealed: bool, rows: Items<RowPart> },
+    SealedNow,
     /// A file with that identifier stands. No command answers it.
     HasId,
     Refused { why: Refusal },

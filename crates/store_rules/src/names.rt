@@ -70,6 +70,10 @@ pub enum NameReq {
         dir: DirId,
         hold: Hold,
     },
+    /// Closes the directory's own level to changes.
+    SealDir {
+        dir: DirId,
+    },
 }
 
 impl NameReq {
@@ -83,7 +87,8 @@ impl NameReq {
             | NameReq::MakeDir { dir, .. }
             | NameReq::Swap { dir, .. }
             | NameReq::Grant { dir, .. }
-            | NameReq::Release { dir, .. } => *dir,
+            | NameReq::Release { dir, .. }
+            | NameReq::SealDir { dir } => *dir,
             NameReq::Look { key } | NameReq::Bind { key, .. } | NameReq::Unbind { key, .. } => {
                 key.dir
             }
@@ -103,6 +108,7 @@ pub enum NameReply {
     Unbound { node: Node, hold: Hold },
     Granted,
     Released { was: bool },
+    SealedNow,
     /// An object with that identifier stands. No command answers it.
     HasId,
     Refused { why: Refusal },

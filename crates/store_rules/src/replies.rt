@@ -3,7 +3,7 @@ ghost use Rattle.std.specs.List.{sum_by};
 ghost use Rattle.std.specs.Option.{option_copied};
 ghost use Rattle.store_rules.specs.ReplyBytes.{reply_bytes, item_bytes};
 ghost use Rattle.store_rules.specs.Views.{as_found, as_bound, as_unbound, as_swapped, is_made, is_granted};
-ghost use Rattle.store_rules.specs.Views.{is_opened, as_attached, as_block_list, is_block_sealed, is_stored, as_bytes};
+ghost use Rattle.store_rules.specs.Views.{is_opened, as_attached, as_block_list, is_sealed, is_block_sealed, is_stored, as_bytes};
 
 use crate::any::AnyReply;
 use crate::blocks::BlockReply;
@@ -102,6 +102,16 @@ impl AnyReply {
             AnyReply::File(FileReply::Blocks { rows, .. }) => Some(rows),
             _ => None,
         }
+    }
+
+    /// Whether a directory or a file is sealed now.
+    pub fn is_sealed(&self) -> bool
+        ensures { result ≡ is_sealed self.now }
+    {
+        matches!(
+            self,
+            AnyReply::Name(NameReply::SealedNow) | AnyReply::File(FileReply::SealedNow)
+        )
     }
 
     /// Whether a block was sealed.

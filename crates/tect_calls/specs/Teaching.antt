@@ -63,6 +63,7 @@ name_taught (names.Swap d from to n h) x = swapped_facts (as_swapped x)
 name_taught (names.Unbind k w) x = unbound_facts (as_unbound x)
 name_taught (names.Grant d h k) x = granted_facts h (is_granted x)
 name_taught (names.Release d h) x = []
+name_taught (names.SealDir d) x = []
 
 abbrev pub file_taught : FileReq → AnyReply → List Fact
 file_taught (files.MakeFile f h k t) x = made_facts (nodes.File f) h (is_made x)
@@ -71,6 +72,7 @@ file_taught (files.Release f h) x = []
 file_taught (files.TakeToken f t) x = []
 file_taught (files.Attach f t b n h) x = []
 file_taught (files.ListBlocks f) x = []
+file_taught (files.SealFile f) x = []
 
 -- replies of blocks and disks teach nothing yet
 abbrev pub taught : AnyReq → AnyReply → List Fact

@@ -86,3 +86,10 @@ pub fn file_list_blocks(file: FileId) -> Asked
 {
     file_asked(FileReq::ListBlocks { file })
 }
+
+/// Seals a file: it is closed to new tokens and blocks. It stays sealed where it was.
+pub fn file_seal_file(file: FileId) -> Asked
+    ensures { result ≡ AnyReq.File (FileReq.SealFile file) }
+{
+    file_asked(FileReq::SealFile { file })
+}

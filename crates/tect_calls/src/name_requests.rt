@@ -98,3 +98,10 @@ pub fn name_release(dir: DirId, hold: Hold, spent: &Spent) -> Asked
 {
     name_asked(NameReq::Release { dir, hold })
 }
+
+/// Seals a directory: its own level is closed to changes. It stays sealed where it was.
+pub fn name_seal_dir(dir: DirId) -> Asked
+    ensures { result ≡ AnyReq.Name (NameReq.SealDir dir) }
+{
+    name_asked(NameReq::SealDir { dir })
+}

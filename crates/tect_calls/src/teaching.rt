@@ -127,7 +127,7 @@ fn taught_by_name(alloc: Global, req: &NameReq, reply: &AnyReply) -> Result<Vec<
         NameReq::Unbind { .. } => of_unbind(alloc, reply),
         NameReq::Grant { hold, .. } => of_grant(alloc, *hold, reply),
         NameReq::List { .. } => of_listing(alloc, reply),
-        NameReq::Release { .. } => Ok(Vec::new(alloc)),
+        NameReq::Release { .. } | NameReq::SealDir { .. } => Ok(Vec::new(alloc)),
     }
 }
 
@@ -140,7 +140,8 @@ fn taught_by_file(alloc: Global, req: &FileReq, reply: &AnyReply) -> Result<Vec<
         FileReq::Release { .. }
         | FileReq::TakeToken { .. }
         | FileReq::Attach { .. }
-        | FileReq::ListBlocks { .. } => Ok(Vec::new(alloc)),
+        | FileReq::ListBlocks { .. }
+        | FileReq::SealFile { .. } => Ok(Vec::new(alloc)),
     }
 }
 

@@ -193,6 +193,27 @@ read_reply t f n =
     unless (nat_lt (length x.blocks) n) NoFile
     (Ok (shown.Bytes (flat_map (λ b. b.bytes) (take n x.blocks)))))
 
+-- SealDir and SealFile: also where it was sealed
+abbrev pub seal_dir_reply : Tree → DirId → TreeReply
+seal_dir_reply t d = finding (get t.dirs d) NoDir (λ x. Ok shown.Done)
+
+abbrev pub seal_file_reply : Tree → FileId → TreeReply
+seal_file_reply t f = finding (get t.files f) NoFile (λ x. Ok shown.Done)
+
+abbrev pub dir_sealed : Option TreeDir → Option TreeDir
+dir_sealed None = None
+dir_sealed (Some d) = Some record d { sealed = true }
+
+abbrev pub file_sealed : Option TreeFile → Option TreeFile
+file_sealed None = None
+file_sealed (Some f) = Some record f { sealed = true }
+
+abbrev pub with_sealed_dir : Tree → DirId → Tree
+with_sealed_dir t d = record t { dirs = set_at t.dirs d (dir_sealed (get t.dirs d)) }
+
+abbrev pub with_sealed_file : Tree → FileId → Tree
+with_sealed_file t f = record t { files = set_at t.files f (file_sealed (get t.files f)) }
+
 -- what the tree says to a step of that op
 abbrev pub tree_reply : Tree → OpId → TreeStep → TreeReply
 tree_reply t op (step.Check d) = check_reply t d
@@ -209,6 +230,8 @@ tree_reply t op (step.Open f token) = open_reply t f
 tree_reply t op (step.Attach f token b bytes) = attach_reply t f token
 tree_reply t op (step.Blocks f) = blocks_reply t f
 tree_reply t op (step.Read f n) = read_reply t f n
+tree_reply t op (step.SealDir d) = seal_dir_reply t d
+tree_reply t op (step.SealFile f) = seal_file_reply t f
 
 -- what a step of that op does where the tree says Ok
 abbrev pub tree_change : Tree → OpId → TreeStep → Tree
@@ -226,6 +249,8 @@ tree_change t op (step.Open f token) = opened t f token
 tree_change t op (step.Attach f token b bytes) = attached t f (record { blk = b; bytes = bytes })
 tree_change t op (step.Blocks f) = t
 tree_change t op (step.Read f n) = t
+tree_change t op (step.SealDir d) = with_sealed_dir t d
+tree_change t op (step.SealFile f) = with_sealed_file t f
 
 abbrev pub is_ok : TreeReply → Bool
 is_ok (Ok x) = true

@@ -4,6 +4,7 @@
 
 mod blocks;
 mod files;
+mod seals;
 mod step;
 mod tree;
 

@@ -80,6 +80,14 @@ pub enum TreeStep {
         file: FileId,
         count: u32,
     },
+    /// Closes the directory's own level to changes.
+    SealDir {
+        dir: DirId,
+    },
+    /// Closes the file to new tokens and blocks.
+    SealFile {
+        file: FileId,
+    },
 }
 
 /// What a step shows where it is not refused.

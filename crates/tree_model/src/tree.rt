@@ -21,7 +21,7 @@ const ENTRY_LIMIT: u64 = 65_536;
 #[derive(Drop)]
 pub struct Tree {
     pub(crate) alloc: Global,
-    dirs: DirMap<TreeDir>,
+    pub(crate) dirs: DirMap<TreeDir>,
     entries: EntryTable<Node>,
     pub(crate) files: FileMap<TreeFile>,
     made: NodeMap<()>,
@@ -102,6 +102,8 @@ impl Tree {
             TreeStep::Attach { file, token, .. } => Ok(self.attach(*file, *token)),
             TreeStep::Blocks { file } => self.blocks(*file),
             TreeStep::Read { file, count } => self.read(*file, *count),
+            TreeStep::SealDir { dir } => Ok(self.seal_dir(*dir)),
+            TreeStep::SealFile { file } => Ok(self.seal_file(*file)),
         }
     }
 
@@ -271,6 +273,14 @@ impl Tree {
                 bytes,
                 ..
             } => self.add_block(*file, *blk, bytes),
+            TreeStep::SealDir { dir } => {
+                self.close_dir(*dir);
+                Ok(())
+            }
+            TreeStep::SealFile { file } => {
+                self.close_file(*file);
+                Ok(())
+            }
             TreeStep::Check { .. }
             | TreeStep::Look { .. }
             | TreeStep::List { .. }
