@@ -10,7 +10,7 @@ use Rattle.store_rules.specs.declared.files.File.{File}
 use Rattle.store_rules.specs.declared.files.FileReply.{FileReply}
 use Rattle.store_rules.specs.declared.files.FileReq.{FileReq}
 use Rattle.store_rules.specs.declared.files.FileReq.TheVariants as req
-use Rattle.store_rules.specs.Files.{Files, FileRule, file_with_hold, file_with_row, file_with_token}
+use Rattle.store_rules.specs.Files.{Files, FileRule, file_with_hold, file_with_row, file_sealed, file_with_token}
 use Rattle.store_rules.specs.Files.{file_rule, file_answer, file_change, file_step}
 use Rattle.store_rules.specs.declared.outcome.Outcome.{Outcome}
 use Rattle.store_rules.specs.Outcomes.{changes}
@@ -63,6 +63,7 @@ module _ (here : FileId → Bool) (s w : Files) (is : KeepsFiles here s w) where
   local (req.Attach f t b n h) =
       sets_file f (λ x. file_with_row x (record { blk = b; len = n; hold = h })) _ _ (λ own. rw (own_file f own))
   local (req.ListBlocks f) = reads f _ _ (λ own. rw (own_file f own))
+  local (req.SealFile f) = sets_file f file_sealed _ _ (λ own. rw (own_file f own))
 
   pub same_file_answer : (r : FileReq) → here (file_of r) ≡ true → file_answer s r ≡ file_answer w r
   same_file_answer r own = (local r).answers own

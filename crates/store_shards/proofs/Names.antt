@@ -15,7 +15,7 @@ use Rattle.store_rules.specs.declared.names.DirectoryEntry.{DirectoryEntry}
 use Rattle.store_rules.specs.declared.names.NameReply.{NameReply}
 use Rattle.store_rules.specs.declared.names.NameReq.{NameReq}
 use Rattle.store_rules.specs.declared.names.NameReq.TheVariants as req
-use Rattle.store_rules.specs.Names.{Names, NameRule, key_in, set_dir, set_entry, dir_with_hold, bind_over}
+use Rattle.store_rules.specs.Names.{Names, NameRule, key_in, set_dir, set_entry, dir_with_hold, dir_sealed, bind_over}
 use Rattle.store_rules.specs.Names.{name_rule, name_answer, name_change, name_step}
 use Rattle.store_rules.specs.declared.outcome.Outcome.{Outcome}
 use Rattle.store_rules.specs.Outcomes.{changes}
@@ -105,6 +105,7 @@ module _ (here : DirId → Bool) (s w : Names) (is : KeepsNames here s w) where
   local (req.Unbind k want) = sets_entry k None _ _ (λ own. rw (own_dir k.dir own, own_entry k own))
   local (req.Grant d h k) = sets_dir d (λ x. dir_with_hold x h (Some (uppers.Entry k))) _ _ (λ own. rw (own_dir d own))
   local (req.Release d h) = sets_dir d (λ x. dir_with_hold x h None) _ _ (λ own. rw (own_dir d own))
+  local (req.SealDir d) = sets_dir d dir_sealed _ _ (λ own. rw (own_dir d own))
 
   pub same_name_answer : (r : NameReq) → here (dir_of r) ≡ true → name_answer s r ≡ name_answer w r
   same_name_answer r own = (local r).answers own

@@ -16,7 +16,8 @@ pub use asked::Asked;
 pub use block_requests::{block_get_block, block_make_block, block_release, block_seal_block};
 pub use disk_requests::{disk_get, disk_put};
 pub use file_requests::{
-    file_attach, file_grant, file_list_blocks, file_make_file, file_release, file_seal_file, file_take_token,
+    file_attach, file_grant, file_list_blocks, file_make_file, file_release, file_seal_file,
+    file_take_token,
 };
 pub use name_requests::{
     name_bind, name_check_dir, name_grant, name_list, name_look, name_make_dir, name_release,
