@@ -35,10 +35,13 @@ fn outcome<R: Threads + Wait + Sync>(
 
 const ROW: &[u8] = b"store 1 1 1 3 3\nc1 create /a\nc1 look /a\n";
 
+const WRITERS: &[u8] =
+    b"store 1 1 1 3 3\nc1 create /f\nc1 open /f\nc2 open /f\nc1 append /f 6869\nc2 append /f 796f\nc2 read /f\n";
+
 #[test]
 fn statuses_and_texts(rt: HostRuntime) -> Result<(), Fail> {
     let row: &[u8] = b"c1 1 2 ok file 4294967297\nc1 2 1 ok file 4294967297\nend\n";
-    let cases: [(&[&str], &[u8], &[u64], &[u64], u8, &[u8]); 13] = [
+    let cases: [(&[&str], &[u8], &[u64], &[u64], u8, &[u8]); 15] = [
         (&["replay"], ROW, &[], &[], 0, row),
         (
             &["replay"],
@@ -83,6 +86,15 @@ fn statuses_and_texts(rt: HostRuntime) -> Result<(), Fail> {
             b"too large shards 64\n",
         ),
         (&["replay"], ROW, &[1], &[], 4, b"read fault\n"),
+        (&["replay"], WRITERS, &[2], &[], 4, b"read fault\n"),
+        (
+            &["replay"],
+            WRITERS,
+            &[],
+            &[3],
+            5,
+            b"c1 1 2 ok file 4294967297\nc1 2 2 ok file 4294967297 token 1.2\n",
+        ),
         (
             &["replay"],
             ROW,
