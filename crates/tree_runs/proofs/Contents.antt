@@ -8,18 +8,13 @@ use Rattle.tect_ids.specs.declared.ids.Hold.{Hold}
 use Rattle.tect_ids.specs.declared.ids.OpId.{OpId}
 use Rattle.tect_ids.specs.declared.values.Class.{Class}
 use Rattle.tect_ids.specs.declared.values.NewRow.{NewRow}
-use Rattle.tect_ids.specs.declared.answer.Answer.{Answer}
 use Rattle.tect_ids.specs.declared.command.Command.{Command}
-use Rattle.tect_ids.specs.Keys.{blk_eq, op_eq}
+use Rattle.tect_ids.specs.Keys.{op_eq}
 use Rattle.tect_ids.proofs.KeyTests.{keys, op_eq_cases}
 use Rattle.tect_ids.proofs.KeyTests.{block_keys}
-use Rattle.store_rules.specs.declared.names.NameReq.{NameReq}
 use Rattle.store_rules.specs.declared.names.NameReq.TheVariants as names
-use Rattle.store_rules.specs.declared.files.FileReq.{FileReq}
 use Rattle.store_rules.specs.declared.files.FileReq.TheVariants as files
-use Rattle.store_rules.specs.declared.blocks.BlockReq.{BlockReq}
 use Rattle.store_rules.specs.declared.blocks.BlockReq.TheVariants as blocks
-use Rattle.store_rules.specs.declared.disks.DiskReq.{DiskReq}
 use Rattle.store_rules.specs.declared.disks.DiskReq.TheVariants as disks
 use Rattle.store_rules.specs.declared.any.AnyReq.{AnyReq}
 use Rattle.store_rules.specs.declared.any.AnyReq.TheVariants as any
@@ -27,7 +22,6 @@ use Rattle.store_rules.specs.Store.{Store, store_reply, store_changes}
 use Rattle.store_rules.specs.Views.{is_made}
 use Rattle.store_pasts.specs.Contents.{Born, born_content}
 use Rattle.store_pasts.specs.Pasts.{content}
-use Rattle.store_pasts.specs.Requests.{Needs}
 use Rattle.store_pasts.specs.Worlds.{Ghost, World, ghost_change, ghost_next, ghost_settled, ghost_said, opening_ghost}
 use Rattle.program_forms.specs.Appends.{command_bytes}
 use Rattle.program_forms.specs.declared.heard.Heard.{Heard}

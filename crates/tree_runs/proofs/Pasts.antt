@@ -1,5 +1,5 @@
 -- the tree has made no more than was made in the past of the store
-use Rattle.std.proofs.Common.{◌≡◌, ℕ, Bool, true, false, Option, Some, None, List, [], ◌∷◌, is_some, refl, arith}
+use Rattle.std.proofs.Common.{◌≡◌, ℕ, Bool, true, false, Option, Some, None, List, is_some, refl, arith}
 use Rattle.std.specs.FinMap.{get}
 use Rattle.tect_ids.specs.declared.ids.BlkId.{BlkId}
 use Rattle.tect_ids.specs.declared.ids.DirId.{DirId}
@@ -34,9 +34,9 @@ use Rattle.program_forms.specs.Kinds.{Programs}
 use Rattle.world_runs.specs.declared.event.Event.{Event}
 use Rattle.world_runs.specs.declared.event.Event.TheVariants.{Own, Dumped}
 use Rattle.world_runs.specs.declared.event.Happening.TheVariants.{Began, NotBegun, Acted, Ended, Stopped, Failed}
-use Rattle.world_runs.specs.Moments.{WorldState, May, RunFrom, after}
+use Rattle.world_runs.specs.Moments.{WorldState, May}
 use Rattle.claim_words.specs.Commands.{content_in}
-use Rattle.claim_words.specs.TreeSteps.{Told, where_refused, told_as, told_of, tree_steps, tree_step, says, tree_after}
+use Rattle.claim_words.specs.TreeSteps.{Told, where_refused, told_as, told_of, tree_step, says, tree_after}
 use Rattle.program_forms.specs.Appends.{command_bytes}
 use Rattle.program_laws.specs.Known.{Deciding}
 use Rattle.run_laws.specs.Pasts.{ghost_after}
