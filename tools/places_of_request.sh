@@ -15,6 +15,7 @@ Swap) own='Swapped' steps='Swap' ;;
 Unbind) own='Unbound' steps='Unbind' ;;
 Grant) own='Granted' steps='GrantDir GrantFile' ;;
 Release) own='Released' steps='' ;;
+SealDir | SealFile) own='SealedNow' steps=$request ;;
 *)
     echo "places_of_request: write down the reply of $request and its steps in this script" >&2
     exit 2

@@ -38,12 +38,15 @@ use Rattle.program_rules.specs.declared.states.Make.TheVariants as making
 use Rattle.program_rules.specs.declared.states.NewNode.TheVariants as new
 use Rattle.program_rules.specs.declared.states.Rename.{Rename}
 use Rattle.program_rules.specs.declared.states.Rename.TheVariants as renaming
+use Rattle.program_rules.specs.declared.states.Seal.{Seal}
+use Rattle.program_rules.specs.declared.states.Seal.TheVariants as sealing
 use Rattle.program_rules.specs.declared.operation.OperationState.{OperationState}
 use Rattle.program_rules.specs.declared.operation.OperationState.TheVariants as states
 use Rattle.program_rules.specs.Delete.{delete_asks}
 use Rattle.program_rules.specs.Look.{look_asks}
 use Rattle.program_rules.specs.Make.{make_asks}
 use Rattle.program_rules.specs.Rename.{grant_ask, rename_asks}
+use Rattle.program_rules.specs.Seal.{seal_asks}
 use Rattle.program_rules.specs.Served.{Program, programs}
 use Rattle.world_runs.specs.declared.event.Event.{Event}
 use Rattle.claim_words.specs.Commands.{content_of}
@@ -102,6 +105,11 @@ read_attaches (reading.List f) = refl
 read_attaches (reading.Locate r b) = refl
 read_attaches (reading.Fetch r t) = refl
 
+seal_attaches : (s : Seal) → attaches (seal_asks s) ≡ None
+seal_attaches (sealing.Find k) = refl
+seal_attaches (sealing.Close (nodes.Dir d)) = refl
+seal_attaches (sealing.Close (nodes.File f)) = refl
+
 -- ---- the request that attaches
 
 -- what a command is to attach next
@@ -150,6 +158,7 @@ module _ (counts : Counts) (h : List Event) (op : OpId) (c : Command) (m : Memor
   operation_it (states.Append s) is t = append_it s is t
   operation_it (states.Blocks s) is t = no_attach _ (blocks_attaches s) is
   operation_it (states.Read s) is t = no_attach _ (read_attaches s) is
+  operation_it (states.Seal s) is t = no_attach _ (seal_attaches s) is
 
   program_it : (s : Program) → AppendsIt s
   program_it (Goes (Way d n ns o)) is t = no_attach None refl is

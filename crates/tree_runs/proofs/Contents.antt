@@ -8,18 +8,13 @@ use Rattle.tect_ids.specs.declared.ids.Hold.{Hold}
 use Rattle.tect_ids.specs.declared.ids.OpId.{OpId}
 use Rattle.tect_ids.specs.declared.values.Class.{Class}
 use Rattle.tect_ids.specs.declared.values.NewRow.{NewRow}
-use Rattle.tect_ids.specs.declared.answer.Answer.{Answer}
 use Rattle.tect_ids.specs.declared.command.Command.{Command}
-use Rattle.tect_ids.specs.Keys.{blk_eq, op_eq}
+use Rattle.tect_ids.specs.Keys.{op_eq}
 use Rattle.tect_ids.proofs.KeyTests.{keys, op_eq_cases}
 use Rattle.tect_ids.proofs.KeyTests.{block_keys}
-use Rattle.store_rules.specs.declared.names.NameReq.{NameReq}
 use Rattle.store_rules.specs.declared.names.NameReq.TheVariants as names
-use Rattle.store_rules.specs.declared.files.FileReq.{FileReq}
 use Rattle.store_rules.specs.declared.files.FileReq.TheVariants as files
-use Rattle.store_rules.specs.declared.blocks.BlockReq.{BlockReq}
 use Rattle.store_rules.specs.declared.blocks.BlockReq.TheVariants as blocks
-use Rattle.store_rules.specs.declared.disks.DiskReq.{DiskReq}
 use Rattle.store_rules.specs.declared.disks.DiskReq.TheVariants as disks
 use Rattle.store_rules.specs.declared.any.AnyReq.{AnyReq}
 use Rattle.store_rules.specs.declared.any.AnyReq.TheVariants as any
@@ -27,7 +22,6 @@ use Rattle.store_rules.specs.Store.{Store, store_reply, store_changes}
 use Rattle.store_rules.specs.Views.{is_made}
 use Rattle.store_pasts.specs.Contents.{Born, born_content}
 use Rattle.store_pasts.specs.Pasts.{content}
-use Rattle.store_pasts.specs.Requests.{Needs}
 use Rattle.store_pasts.specs.Worlds.{Ghost, World, ghost_change, ghost_next, ghost_settled, ghost_said, opening_ghost}
 use Rattle.program_forms.specs.Appends.{command_bytes}
 use Rattle.program_forms.specs.declared.heard.Heard.{Heard}
@@ -122,12 +116,14 @@ module _ (s : Store) (g : Ghost) where
   change_said (any.Name (names.Unbind k w)) x = refl
   change_said (any.Name (names.Grant d h k)) x = refl
   change_said (any.Name (names.Release d h)) x = refl
+  change_said (any.Name (names.SealDir d)) x = refl
   change_said (any.File (files.MakeFile f h k t)) x = refl
   change_said (any.File (files.Grant f h k)) x = refl
   change_said (any.File (files.Release f h)) x = refl
   change_said (any.File (files.TakeToken f t)) x = refl
   change_said (any.File (files.Attach f t b n h)) x = refl
   change_said (any.File (files.ListBlocks f)) x = refl
+  change_said (any.File (files.SealFile f)) x = refl
   change_said (any.Block (blocks.MakeBlock b c n f h rs)) x = refl
   change_said (any.Block (blocks.SealBlock b)) x = refl
   change_said (any.Block (blocks.GetBlock b)) x = refl
@@ -188,6 +184,7 @@ born_so w op m (any.Name (names.Swap d from to n h)) meets =
 born_so w op m (any.Name (names.Unbind k t)) meets = born_none w.store w.ghost op (any.Name (names.Unbind k t)) (λ b. refl) (λ b. refl)
 born_so w op m (any.Name (names.Grant d h k)) meets = born_none w.store w.ghost op (any.Name (names.Grant d h k)) (λ b. refl) (λ b. refl)
 born_so w op m (any.Name (names.Release d h)) meets = born_none w.store w.ghost op (any.Name (names.Release d h)) (λ b. refl) (λ b. refl)
+born_so w op m (any.Name (names.SealDir d)) meets = born_none w.store w.ghost op (any.Name (names.SealDir d)) (λ b. refl) (λ b. refl)
 born_so w op m (any.File (files.MakeFile f h k t)) meets =
     born_none w.store w.ghost op (any.File (files.MakeFile f h k t)) (λ b. refl) (λ b. refl)
 born_so w op m (any.File (files.Grant f h k)) meets = born_none w.store w.ghost op (any.File (files.Grant f h k)) (λ b. refl) (λ b. refl)
@@ -197,6 +194,7 @@ born_so w op m (any.File (files.TakeToken f t)) meets =
 born_so w op m (any.File (files.Attach f t b n h)) meets =
     born_none w.store w.ghost op (any.File (files.Attach f t b n h)) (λ b. refl) (λ b. refl)
 born_so w op m (any.File (files.ListBlocks f)) meets = born_none w.store w.ghost op (any.File (files.ListBlocks f)) (λ b. refl) (λ b. refl)
+born_so w op m (any.File (files.SealFile f)) meets = born_none w.store w.ghost op (any.File (files.SealFile f)) (λ b. refl) (λ b. refl)
 born_so w op m (any.Block (blocks.MakeBlock b c n f h rs)) meets =
     born_new w.store w.ghost op b c n f h rs (own_hold_of w op m b c n f h rs meets) (meets.needs).unborn
 born_so w op m (any.Block (blocks.SealBlock b)) meets =
