@@ -28,7 +28,7 @@ use Rattle.world_runs.specs.Actors.{Actor, Running, CanBegin, went_on, ended, me
 use Rattle.world_runs.specs.Moments.{WorldState, May, after, opening, with_actor}
 use Rattle.store_pasts.specs.Worlds.{World, Ghost, next, settled, saying, opening_ghost, ghost_said}
 use Rattle.store_world.specs.Sound.{Sound}
-use Rattle.store_pasts.specs.Later.{Later, Within, by_actor}
+use Rattle.store_pasts.specs.Later.{Later, by_actor}
 use Rattle.store_pasts.specs.Requests.{Moved, touched_by, touches_op, touches_said}
 use Rattle.store_world.specs.Kept.{Kept}
 use Rattle.store_pasts.proofs.Laters.{weaken, later_then}
@@ -39,7 +39,7 @@ use Rattle.store_world.proofs.Sayings.{saying_sound}
 use Rattle.store_world.proofs.Rows.{row_kept, opening_sound}
 use Rattle.whole_runs.proofs.Actors.{changed, other_number}
 use Rattle.tect_ids.specs.Numbers.{object_number}
-use Rattle.program_laws.specs.Known.{Deciding, Known, Remembers, AllLearnt, IsActor, IsNewOp, HasSaid, IsApart, Meets, by_op}
+use Rattle.program_laws.specs.Known.{Deciding, Known, Remembers, AllLearnt, IsActor, IsNewOp, HasSaid, Meets, by_op}
 use Rattle.program_laws.specs.Laws.{ProgramLaws}
 use Rattle.run_laws.specs.Pasts.{standing_decided, ghost_after, world_of}
 use Rattle.run_laws.specs.Known.{StandingKnows, RunsSoundly, RunningKnows, ActorSound, AllSound}

@@ -1,15 +1,14 @@
 -- what a block consists of stays, and a view by contents that agree on the rows of files is the same
-use Rattle.std.proofs.Common.{◌≡◌, ℕ, zero, suc, Bool, true, false, ◌&&◌, if◌then◌else◌, Option, Some, None, is_some, List, [], ◌∷◌, ◌++◌, map}
-use Rattle.std.proofs.Common.{refl, sym, ap, subst, ◌∙◌, inl, inr, ◌⊎◌, arith, length}
-use Rattle.std.proofs.lemmas.List.{append-nil}
+use Rattle.std.proofs.Common.{◌≡◌, ℕ, zero, suc, Bool, true, false, if◌then◌else◌, Option, Some, None, is_some, List, [], ◌∷◌, ◌++◌, map}
+use Rattle.std.proofs.Common.{refl, sym, ap, ◌∙◌, inl, inr, ◌⊎◌, arith, length}
 use Rattle.std.specs.List.{slice_get}
-use Rattle.std.specs.FinMap.{FinMap, get, same_map}
+use Rattle.std.specs.FinMap.{get, same_map}
 use Rattle.std.specs.Option.{option_map}
 use Rattle.tect_ids.specs.declared.ids.BlkId.{BlkId}
 use Rattle.tect_ids.specs.declared.ids.FileId.{FileId}
 use Rattle.tect_ids.specs.declared.ids.OpId.{OpId}
 use Rattle.tect_ids.specs.declared.values.RowPart.{RowPart}
-use Rattle.tect_ids.specs.Keys.{file_cmp, file_eq}
+use Rattle.tect_ids.specs.Keys.{file_eq}
 use Rattle.tect_ids.proofs.KeyTests.{file_cmp_total, file_antisymmetric}
 use Rattle.key_words.proofs.Lookups.{maps}
 use Rattle.store_rules.specs.declared.any.AnyReq.{AnyReq}
