@@ -12,7 +12,6 @@ use Rattle.program_parts.specs.Releases.{releasing}
 use Rattle.program_rules.specs.declared.operation.Operation.{Operation}
 use Rattle.part_laws.specs.Releases.{release_deciding}
 use Rattle.world_runs.specs.declared.event.Event.{Event}
-use Rattle.world_runs.specs.declared.event.Event.TheVariants.{Own}
 use Rattle.claim_words.specs.Commands.{content_in}
 use Rattle.claim_words.specs.TreeSteps.{tree_step, says, tree_steps}
 use Rattle.claim_words.specs.Points.{of_op, Decides}

@@ -1,6 +1,6 @@
 -- each operation, and so each command, takes few transactions
 use Rattle.std.proofs.Common.{◌≡◌, Some, None, List, refl, ◌+◌, ℕ}
-use Rattle.std.proofs.Common.{if◌then◌else◌, Option, arith, [], ◌∷◌, length, subst}
+use Rattle.std.proofs.Common.{Option, arith, [], ◌∷◌, length, subst}
 use Rattle.std.specs.List.{slice_get}
 use Rattle.tect_ids.specs.declared.ids.DirId.{DirId}
 use Rattle.tect_ids.specs.declared.ids.OpId.{OpId}

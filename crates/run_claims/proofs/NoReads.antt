@@ -1,5 +1,5 @@
 -- a command that is no read asks for no block and no chunk
-use Rattle.std.proofs.Common.{◌≡◌, ℕ, Bool, true, false, Option, Some, None, List, [], ◌∷◌, refl, ap, subst}
+use Rattle.std.proofs.Common.{◌≡◌, ℕ, Bool, true, false, Option, Some, None, List, [], ◌∷◌, refl, ap}
 use Rattle.tect_ids.specs.declared.ids.Counts.{Counts}
 use Rattle.tect_ids.specs.declared.ids.DirId.{DirId}
 use Rattle.tect_ids.specs.declared.ids.Hold.{Hold}
@@ -19,7 +19,7 @@ use Rattle.store_rules.specs.Names.{key_in}
 use Rattle.store_rules.specs.Places.{request_place}
 use Rattle.store_rules.specs.Views.{as_found}
 use Rattle.program_forms.specs.Memories.{Memory}
-use Rattle.program_forms.specs.Kinds.{Does, Asks, Says, asked_by, next_does, state_heard}
+use Rattle.program_forms.specs.Kinds.{Does, Asks, asked_by, next_does, state_heard}
 use Rattle.program_parts.specs.declared.next.Next.{Next}
 use Rattle.program_parts.specs.declared.next.Next.TheVariants.{Goes, Comes}
 use Rattle.program_parts.specs.declared.walking.Walking.TheVariants.{Way, There}
@@ -57,7 +57,7 @@ use Rattle.program_rules.specs.Delete.{delete_asks}
 use Rattle.program_rules.specs.Rename.{rename_asks, grant_ask}
 use Rattle.program_rules.specs.Seal.{seal_ask, seal_asks}
 use Rattle.program_rules.specs.Operations.{begins_in}
-use Rattle.program_rules.specs.Served.{Begun, Walks, Program, programs, begun, started, last_of, walks_to, walks_to_file, renames}
+use Rattle.program_rules.specs.Served.{Program, programs, started, last_of, walks_to, walks_to_file, renames}
 use Rattle.fall_laws.specs.Bounding.{one_if}
 use Rattle.names_told.specs.NamesTelling.{reads_block}
 

@@ -1,5 +1,5 @@
 -- Each operation on names halts, and a seal.
-use Rattle.std.proofs.Common.{◌≡◌, Bool, true, false, if◌then◌else◌, is_some, ℕ, Option, Some, None, List, refl}
+use Rattle.std.proofs.Common.{◌≡◌, Bool, true, false, is_some, ℕ, Option, Some, None, List, refl}
 use Rattle.tect_ids.specs.declared.ids.DirId.{DirId}
 use Rattle.tect_ids.specs.declared.ids.Hold.{Hold}
 use Rattle.tect_ids.specs.declared.ids.Node.{Node}

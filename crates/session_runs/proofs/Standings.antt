@@ -10,7 +10,7 @@ use Rattle.program_forms.specs.declared.heard.Heard.TheVariants as hearing
 use Rattle.program_forms.specs.declared.standing.Standing.{Standing}
 use Rattle.program_forms.specs.declared.standing.Standing.TheVariants.{Goes, Left, NoRoom}
 use Rattle.program_forms.specs.Memories.{Memory, Learnt, learnt, kept_of, always}
-use Rattle.program_forms.specs.Kinds.{Does, Turned, turned, next_does, state_heard, memory_heard}
+use Rattle.program_forms.specs.Kinds.{Turned, turned, next_does, state_heard, memory_heard}
 use Rattle.program_parts.specs.declared.next.Next.TheVariants as next
 use Rattle.program_parts.specs.declared.walking.Walking.{Walking}
 use Rattle.program_parts.specs.declared.walking.Walking.TheVariants as walks
