@@ -23,7 +23,7 @@ const MOST_LOCATIONS: usize = 1024;
 #[derive(Drop)]
 pub struct SealedCache {
     listings: LruCache<u64, SealedListing>,
-    blocks: LruCache<u64, SealedBlocks>,
+    block_lists: LruCache<u64, SealedBlocks>,
     locations: LruCache<u64, Location>,
 }
 
@@ -37,9 +37,9 @@ impl Model for SealedCache {
 
     ghost coded = { caches_code };
 
-    ghost view = { λ c. record { listings = by_ids dir_of c.listings.entries; blocks = by_ids file_of c.blocks.entries; locations = by_ids blk_of c.locations.entries } };
+    ghost view = { λ c. record { listings = by_ids dir_of c.listings.entries; blocks = by_ids file_of c.block_lists.entries; locations = by_ids blk_of c.locations.entries } };
 
-    ghost invariant = { λ c. (c.listings.cap ≡ listing_bound) × (c.blocks.cap ≡ block_list_bound) × (c.locations.cap ≡ location_bound) };
+    ghost invariant = { λ c. (c.listings.cap ≡ listing_bound) × (c.block_lists.cap ≡ block_list_bound) × (c.locations.cap ≡ location_bound) };
 }
 
 impl SealedCache {
@@ -50,11 +50,11 @@ impl SealedCache {
         ensures { IfOk result (λ cache. cache ≡ no_caches) }
     {
         let listings = LruCache::sparse(alloc, NonZeroUsize::new(MOST_LISTINGS).unwrap())?;
-        let blocks = LruCache::sparse(alloc, NonZeroUsize::new(MOST_BLOCK_LISTS).unwrap())?;
+        let block_lists = LruCache::sparse(alloc, NonZeroUsize::new(MOST_BLOCK_LISTS).unwrap())?;
         let locations = LruCache::sparse(alloc, NonZeroUsize::new(MOST_LOCATIONS).unwrap())?;
         Ok(SealedCache {
             listings,
-            blocks,
+            block_lists,
             locations,
         })
     }
@@ -72,7 +72,7 @@ impl SealedCache {
         ensures* used { sem 𝓛 (ends_as self.entry (use_blocks file self.old)) }
         ensures value { option_copied result ≡ found file_eq file self.old.blocks }
     {
-        self.blocks.get(&file.0)
+        self.block_lists.get(&file.0)
     }
 
     /// The location kept for the block, which is now the latest used one. It takes no memory.
@@ -102,8 +102,8 @@ impl SealedCache {
         ensures unchanged { OnErr result (self.new ≡ self.old) }
         ensures replacing_succeeds { IsSome (found file_eq file self.old.blocks) → IsOk result }
     {
-        let _count = self.blocks.len();
-        self.blocks.put(file.0, blocks)?;
+        let _count = self.block_lists.len();
+        self.block_lists.put(file.0, blocks)?;
         Ok(())
     }
 
