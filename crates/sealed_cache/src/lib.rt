@@ -5,7 +5,11 @@
 mod blocks;
 mod cache;
 mod listing;
+mod lookups;
 
 pub use blocks::SealedBlocks;
 pub use cache::SealedCache;
 pub use listing::SealedListing;
+
+#[cfg(test)]
+mod tests;
