@@ -37,9 +37,14 @@ impl Model for SealedCache {
 
     ghost coded = { caches_code };
 
-    ghost view = { λ c. record { listings = by_ids dir_of c.listings.entries; blocks = by_ids file_of c.block_lists.entries; locations = by_ids blk_of c.locations.entries } };
+    ghost view = { λ c. record {
+      listings = by_ids dir_of c.listings.entries;
+      blocks = by_ids file_of c.block_lists.entries;
+      locations = by_ids blk_of c.locations.entries;
+    } };
 
-    ghost invariant = { λ c. (c.listings.cap ≡ listing_bound) × (c.block_lists.cap ≡ block_list_bound) × (c.locations.cap ≡ location_bound) };
+    ghost invariant = { λ c.
+        (c.listings.cap ≡ listing_bound) × (c.block_lists.cap ≡ block_list_bound) × (c.locations.cap ≡ location_bound) };
 }
 
 impl SealedCache {
@@ -85,6 +90,7 @@ impl SealedCache {
 
     /// Keeps the listing for the directory as the latest used one, in place of one that was kept for it; beyond 64 the last is dropped.
     /// For want of memory it is not kept and nothing changes, and never where one is kept for the directory.
+    #[tactic(auto, using(crate::proofs::ByNumber::found_dir))]
     pub fn keep_listing(&mut self, dir: DirId, listing: SealedListing) -> Result<(), NoMemory>
         ensures kept { OnOk result (self.new ≡ keep_listing dir listing self.old) }
         ensures unchanged { OnErr result (self.new ≡ self.old) }
@@ -97,6 +103,7 @@ impl SealedCache {
 
     /// Keeps the blocks for the file as the latest used ones, in place of those that were kept for it; beyond 256 the last are dropped.
     /// For want of memory they are not kept and nothing changes, and never where some are kept for the file.
+    #[tactic(auto, using(crate::proofs::ByNumber::found_file))]
     pub fn keep_blocks(&mut self, file: FileId, blocks: SealedBlocks) -> Result<(), NoMemory>
         ensures kept { OnOk result (self.new ≡ keep_blocks file blocks self.old) }
         ensures unchanged { OnErr result (self.new ≡ self.old) }
@@ -109,6 +116,7 @@ impl SealedCache {
 
     /// Keeps the location for the block as the latest used one, in place of one that was kept for it; beyond 1,024 the last is dropped.
     /// For want of memory it is not kept and nothing changes, and never where one is kept for the block.
+    #[tactic(auto, using(crate::proofs::ByNumber::found_blk))]
     pub fn keep_location(&mut self, blk: BlkId, location: Location) -> Result<(), NoMemory>
         ensures kept { OnOk result (self.new ≡ keep_location blk location self.old) }
         ensures unchanged { OnErr result (self.new ≡ self.old) }
