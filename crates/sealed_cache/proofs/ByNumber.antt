@@ -1,4 +1,4 @@
--- What is kept by numbers of ids in a cache below, in this crate's words.
+-- What is kept under the numbers of ids, in the words of what is kept under the ids.
 use Rattle.std.proofs.Common.{◌≡◌, ℕ, suc, ◌+◌, ◌-◌, ◌<◌, ◌≤◌, Bool, List, [], ◌∷◌, length, take, nat_eq, Option, Some, None}
 use Rattle.std.proofs.Common.{refl, sym, ap, subst, ◌∙◌, arith}
 use Rattle.std.specs.Map.{lookup, lookup_entry, remove_entry}
@@ -52,7 +52,8 @@ module _ {V : Type 0} (n : ℕ) where
       put_at None gone =
           let more : c.cap ≡ suc (c.cap - 1) = omega arith in
           let same = without_none c.entries gone in
-          rw (entry_found c.entries, gone, same) (subst (λ m. (n, v) ∷ take (c.cap - 1) c.entries ≡ take m ((n, v) ∷ c.entries)) (sym more) refl)
+          rw (entry_found c.entries, gone, same)
+          (subst (λ m. (n, v) ∷ take (c.cap - 1) c.entries ≡ take m ((n, v) ∷ c.entries)) (sym more) refl)
       put_at (Some w) there =
           let short = length-without c.entries w there in
           rw (entry_found c.entries, there) (sym (take_all c.cap ((n, v) ∷ remove_entry (nat_eq n) c.entries) (omega (arith, short))))
@@ -96,12 +97,16 @@ module _ {V : Type 0} (es : List (ℕ × V)) where
   used_blk blk = used_by_ids blk.0 blk_of blk_eq (blk_eq_number blk.0) es
 
 -- a cache that holds at most that many
-module _ {V : Type 0} (c : LruCache ℕ V) (v : V) (some : 0 < c.cap) (fits : length c.entries ≤ c.cap) (bound : ℕ) (holds : c.cap ≡ bound) where
+module _ {V : Type 0} (c : LruCache ℕ V) (v : V) (some : 0 < c.cap) (fits : length c.entries ≤ c.cap) (bound : ℕ)
+    (holds : c.cap ≡ bound) where
   pub kept_dir : (dir : DirId) → by_ids dir_of (put_entries nat_eq c dir.0 v) ≡ kept dir_eq bound dir v (by_ids dir_of c.entries)
-  kept_dir dir = kept_by_ids dir.0 dir_of dir_eq (dir_eq_number dir.0) c v some fits ∙ ap (λ b. kept dir_eq b dir v (by_ids dir_of c.entries)) holds
+  kept_dir dir = kept_by_ids dir.0 dir_of dir_eq (dir_eq_number dir.0) c v some fits
+      ∙ ap (λ b. kept dir_eq b dir v (by_ids dir_of c.entries)) holds
 
   pub kept_file : (file : FileId) → by_ids file_of (put_entries nat_eq c file.0 v) ≡ kept file_eq bound file v (by_ids file_of c.entries)
-  kept_file file = kept_by_ids file.0 file_of file_eq (file_eq_number file.0) c v some fits ∙ ap (λ b. kept file_eq b file v (by_ids file_of c.entries)) holds
+  kept_file file = kept_by_ids file.0 file_of file_eq (file_eq_number file.0) c v some fits
+      ∙ ap (λ b. kept file_eq b file v (by_ids file_of c.entries)) holds
 
   pub kept_blk : (blk : BlkId) → by_ids blk_of (put_entries nat_eq c blk.0 v) ≡ kept blk_eq bound blk v (by_ids blk_of c.entries)
-  kept_blk blk = kept_by_ids blk.0 blk_of blk_eq (blk_eq_number blk.0) c v some fits ∙ ap (λ b. kept blk_eq b blk v (by_ids blk_of c.entries)) holds
+  kept_blk blk = kept_by_ids blk.0 blk_of blk_eq (blk_eq_number blk.0) c v some fits
+      ∙ ap (λ b. kept blk_eq b blk v (by_ids blk_of c.entries)) holds

@@ -106,7 +106,8 @@ module _ (items : List Listed) (name : List ℕ) (rises : names_rise items ≡ t
   found_at i d in_range equal =
       let here : (p : List ℕ × Node) → name_cmp (get_or (pairs items) i p).0 name ≡ Equal = λ p. rw (pair_at items i p) (equal (entry p)) in
       let search = searched name_cmp nat_list_cmp_total name (pairs items) rising (Ok i) (rw (length-pairs items) in_range) here in
-      node_in_find items name ∙ find_at name_cmp name (pairs items) i (pair d) search.0 ∙ ap (λ (p : List ℕ × Node). Some p.1) (pair_at items i (pair d))
+      node_in_find items name ∙ find_at name_cmp name (pairs items) i (pair d) search.0
+      ∙ ap (λ (p : List ℕ × Node). Some p.1) (pair_at items i (pair d))
 
   pub found_none : (i : ℕ) → i ≤ length items → IsBinarySearchResult (λ e. name_cmp e.name name) items (Err i) → node_in items name ≡ None
   found_none i in_range parted =
@@ -115,7 +116,9 @@ module _ (items : List Listed) (name : List ℕ) (rises : names_rise items ≡ t
     where
       as_pairs : IsBinarySearchResult (λ p. name_cmp p.0 name) (pairs items) (Err i)
       as_pairs rise =
-          let split = parted (λ a b e le lt. rw (pair_at items a (pair e), pair_at items b (pair e)) at (rise a b (pair e) le (rw (length-pairs items) lt))) in (
+          let split = parted (λ a b e le lt.
+          let in_range : b < length (pairs items) = rw (length-pairs items) lt in
+          rw (pair_at items a (pair e), pair_at items b (pair e)) at (rise a b (pair e) le in_range)) in (
             λ j d low lt. rw (pair_at items j d) (split.0 j (entry d) low lt),
             λ j d low lt. rw (pair_at items j d) (split.1 j (entry d) low (rw (length-pairs items) at lt)),
           )

@@ -9,4 +9,5 @@ use Rattle.sealed_cache.proofs.listing.do_names_rise.Goals as goal
 pub returns : goal.returns
 returns c =
     let by_names = always_returns_same _ _ _ (λ a r f' called. search rules) in
-    rising_names c.args.items.now c.is_sorted_by.result (c.is_sorted_by.ensures.cases (λ x y. is_lt (slice_cmp nat_cmp x.name y.name)) by_names)
+    let answered = c.is_sorted_by.ensures.cases (λ x y. is_lt (slice_cmp nat_cmp x.name y.name)) by_names in
+    rising_names c.args.items.now c.is_sorted_by.result answered

@@ -14,7 +14,8 @@ returns-in-Ok c =
     let facts = c.in-Ok.ensures in
     let by_name = facts.position (λ e. slice_cmp nat_cmp e.name name) (always_returns_same _ _ _ (λ a r f' called. search rules)) in
     let rises : names_rise items ≡ true = rw c.as_slice-items.ensures c.self.invariant in
-    rw (← c.self.view_is, ← c.as_slice-items.ensures) (sym (found_at items name rises c.in-Ok.at c.index-items-at.result facts.bound by_name))
+    let found = found_at items name rises c.in-Ok.at c.index-items-at.result facts.bound by_name in
+    rw (← c.self.view_is, ← c.as_slice-items.ensures) (sym found)
 
 pub returns-in-Err : goal.returns-in-Err
 returns-in-Err c =
