@@ -89,39 +89,42 @@ impl SealedCache {
     }
 
     /// Keeps the listing for the directory as the latest used one, in place of one that was kept for it; beyond 64 the last is dropped.
-    /// For want of memory it is not kept and nothing changes, and never where one is kept for the directory.
+    /// For want of memory, which never comes where one is kept for the directory, it is not kept and nothing changes.
     #[tactic(auto, using(crate::proofs::ByNumber::found_dir))]
     pub fn keep_listing(&mut self, dir: DirId, listing: SealedListing) -> Result<(), NoMemory>
         ensures kept { OnOk result (self.new ≡ keep_listing dir listing self.old) }
         ensures unchanged { OnErr result (self.new ≡ self.old) }
         ensures replacing_succeeds { IsSome (found dir_eq dir self.old.listings) → IsOk result }
     {
+        // It tells that no more are kept than may be.
         let _count = self.listings.len();
         self.listings.put(dir.0, listing)?;
         Ok(())
     }
 
     /// Keeps the blocks for the file as the latest used ones, in place of those that were kept for it; beyond 256 the last are dropped.
-    /// For want of memory they are not kept and nothing changes, and never where some are kept for the file.
+    /// For want of memory, which never comes where some are kept for the file, they are not kept and nothing changes.
     #[tactic(auto, using(crate::proofs::ByNumber::found_file))]
     pub fn keep_blocks(&mut self, file: FileId, blocks: SealedBlocks) -> Result<(), NoMemory>
         ensures kept { OnOk result (self.new ≡ keep_blocks file blocks self.old) }
         ensures unchanged { OnErr result (self.new ≡ self.old) }
         ensures replacing_succeeds { IsSome (found file_eq file self.old.blocks) → IsOk result }
     {
+        // It tells that no more are kept than may be.
         let _count = self.block_lists.len();
         self.block_lists.put(file.0, blocks)?;
         Ok(())
     }
 
     /// Keeps the location for the block as the latest used one, in place of one that was kept for it; beyond 1,024 the last is dropped.
-    /// For want of memory it is not kept and nothing changes, and never where one is kept for the block.
+    /// For want of memory, which never comes where one is kept for the block, it is not kept and nothing changes.
     #[tactic(auto, using(crate::proofs::ByNumber::found_blk))]
     pub fn keep_location(&mut self, blk: BlkId, location: Location) -> Result<(), NoMemory>
         ensures kept { OnOk result (self.new ≡ keep_location blk location self.old) }
         ensures unchanged { OnErr result (self.new ≡ self.old) }
         ensures replacing_succeeds { IsSome (found blk_eq blk self.old.locations) → IsOk result }
     {
+        // It tells that no more are kept than may be.
         let _count = self.locations.len();
         self.locations.put(blk.0, location)?;
         Ok(())
