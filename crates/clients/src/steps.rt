@@ -96,7 +96,8 @@ fn hear<P: Programs + Drop>(
 {
     match actor.advance(reply) {
         Ok(went) => {
-            pass.set_heard(went.heard());
+            let heard = went.heard();
+            pass.set_heard(heard);
             let answer = went.answer?;
             Some(end_with(actor, pass, answer))
         }

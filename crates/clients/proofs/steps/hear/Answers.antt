@@ -6,15 +6,15 @@ pub returns-in_err-answer-in-Ok : goal.returns-in_err-answer-in-Ok
 returns-in_err-answer-in-Ok g c req asks =
     rw c.from_residual.ensures
     (hears_going g.P.Programs.rules c.args.actor.now c.args.actor.now c.advance.new.self c.args.pass.now c.set_heard.new.self
-    c.args.pass.now req c.args.reply.now c.in-Ok.went c.heard.result c.heard.ensures
-    (marked c.heard.result c.args.pass.now c.set_heard.new.self c.set_heard.ensures.moments c.set_heard.ensures.same)
+    c.args.pass.now req c.args.reply.now c.in-Ok.went c.heard-heard.result c.heard-heard.ensures
+    (marked c.heard-heard.result c.args.pass.now c.set_heard.new.self c.set_heard.ensures.moments c.set_heard.ensures.same)
     c.in_err-answer-in-Ok.was (c.in-Ok.ensures req asks))
 
 pub returns-in_ok-answer-in-Ok : goal.returns-in_ok-answer-in-Ok
 returns-in_ok-answer-in-Ok g c req asks =
     hears_done g.P.Programs.rules c.args.actor.now c.advance.new.self c.end_with.new.actor c.args.pass.now c.set_heard.new.self
-    c.end_with.new.pass req c.args.reply.now c.in-Ok.went c.heard.result c.heard.ensures
-    (marked c.heard.result c.args.pass.now c.set_heard.new.self c.set_heard.ensures.moments c.set_heard.ensures.same)
+    c.end_with.new.pass req c.args.reply.now c.in-Ok.went c.heard-heard.result c.heard-heard.ensures
+    (marked c.heard-heard.result c.args.pass.now c.set_heard.new.self c.set_heard.ensures.moments c.set_heard.ensures.same)
     c.end_with.result c.in_ok-answer-in-Ok.answer c.in_ok-answer-in-Ok.was (c.in-Ok.ensures req asks) c.end_with.ensures.actor
     c.end_with.ensures.pass c.end_with.ensures.answer
 
