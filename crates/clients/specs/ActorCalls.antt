@@ -101,7 +101,7 @@ at_left (Some r) = Some record { op = r.op; at = Left }
 abbrev pub left_behind : {S : Type 0} → ActorState S → ActorState S
 left_behind a = record a { state = record a.state { running = at_left a.state.running } }
 
--- Gone on to there it stands so; or there it came to that answer, and is let go.
+-- It stands where it went on to, and goes on; or it came to that answer there, and is let go.
 abbrev pub ComesTo : {S : Type 0} → Programs S → ActorState S → ActorState S → Option Answer → Type 0
 ComesTo P there b None = (b ≡ there) × (has_ended P b.counts b.state.memory b.state.running ≡ false)
 ComesTo P there b (Some y) = (b ≡ let_go there) × (says_now P there ≡ Some y) × ¬ IsLack y
