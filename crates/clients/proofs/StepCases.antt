@@ -17,25 +17,35 @@ use Rattle.program_forms.specs.Lacks.{IsLack}
 use Rattle.program_forms.specs.Memories.{Memory}
 use Rattle.program_forms.specs.Kinds.{Programs}
 use Rattle.entry_words.specs.declared.entry.Entry.{Entry}
+use Rattle.entry_words.specs.declared.entry.Moment.{Moment}
 use Rattle.entry_words.specs.declared.entry.Moment.TheVariants.{Act}
 use Rattle.entry_words.specs.declared.entry.Note.TheVariants.{Ended}
 use Rattle.entry_words.specs.declared.entry.Refused.{Refused}
 use Rattle.entry_words.specs.Moments.{heard_last}
 use Rattle.passes.specs.declared.pass.Pass.{Pass}
+use Rattle.passes.specs.Logged.{Logged}
 use Rattle.passes.specs.Commits.{IsFull}
 use Rattle.passes.specs.Adding.{entry_at, Committed, NotedEnd}
 use Rattle.passes.proofs.Hearing.{heard_last-act}
 use Rattle.world_runs.specs.Actors.{Actor, Running, has_ended, ended}
-use Rattle.program_calls.specs.declared.turned.Turned.TheVariants.{Going, Done}
 use Rattle.clients.specs.ActorState.{ActorState, op_of}
-use Rattle.clients.specs.ActorCalls.{looked, asks_now, says_now, actor_on, gone_on, let_go, Advances}
+use Rattle.clients.specs.ActorCalls.{looked, asks_now, says_now, actor_on, gone_on, let_go, ComesTo, Advances}
 use Rattle.clients.specs.declared.steps.Step.{Step}
 use Rattle.clients.specs.Steps.{Unasked, Did, Denied, EndsSo}
-use Rattle.clients.specs.PassSteps.{ended_by, Entered, Finishes, Tries, MarkedLeft, Marks, SettlesSo, EndsHere, HearsSo, StepEnds}
+use Rattle.clients.specs.PassSteps.{ended_by, Entered, Finishes, Tries, Marks, SettlesSo, EndsHere, HearsSo, StepEnds}
 use Rattle.clients.specs.PassSteps.{after_try, TookStep}
+use Rattle.program_calls.specs.declared.went.Went.{Went}
+use Rattle.program_calls.specs.Hearing.{heard_if_kept}
 use Rattle.program_calls.specs.Keeping.{KeepsSerial}
 use Rattle.clients.proofs.Calls.{heard_by, looked_serial, looked_asks, looked_says, looked_plain, looked_on, looked_end, looked_op}
 use Rattle.clients.proofs.Calls.{says_end, says_answers}
+
+-- what is marked in a pass, in the words of its call
+pub marked : (h : Heard) (p k : Pass) → (let m : Logged Moment = record { items = heard_last h p.moments.items; spare = p.moments.spare } in
+    k.moments ≡ m) → (k.actor ≡ p.actor) × (k.clock ≡ p.clock) × (k.steps ≡ p.steps) × (k.bytes ≡ p.bytes) × (k.running ≡ p.running)
+    → Marks h p k
+marked h p k moments same =
+    record { moments = ap (λ (m : Logged Moment). m.items) moments; clock = same.1; actor = same.0; running = same.4 }
 
 module _ {S : Type 0} (P : Programs S) where
   -- ---- how the command goes on at the reply
@@ -60,40 +70,49 @@ module _ {S : Type 0} (P : Programs S) where
       → let_go (gone_on P a q x hearing.Left) ≡ ended_by P (gone_on P a q x hearing.Left)
   left_ends a q x i = record a { state = left_by a.counts a.state.number a.state.memory a.state.stopped a.state.running q x i }
 
-  module _ (a m b : ActorState S) (p r : Pass) (q : AnyReq) (x : AnyReply) where
-    pub hears_going : Advances P a b q x (Ok Going) → HearsSo P a b p p q x None
-    hears_going is = record {
-      heard = hearing.Whole;
-      middle = p;
-      marks = refl;
-      ends = subst (λ (z : ActorState S). has_ended P z.counts z.state.memory z.state.running ≡ false) is.0 is.1;
-      finishes = (is.0, refl);
-    }
+  module _ (a m b : ActorState S) (p k r : Pass) (q : AnyReq) (x : AnyReply) where
+    module _ (w : Went) (h : Heard) (so : h ≡ heard_if_kept w.kept) (marks : Marks h p k) where
+      came : (b : ActorState S) (o : Option Answer) → w.answer ≡ o → Advances P a b q x (Ok w) → ComesTo P (gone_on P a q x h) b o
+      came b o is goes = subst (λ (g : Heard). ComesTo P (gone_on P a q x g) b o) (sym so)
+          (subst (ComesTo P (gone_on P a q x (heard_if_kept w.kept)) b) is goes)
 
-    done_ends : (y z : Answer) → says_now P (gone_on P a q x hearing.Whole) ≡ Some z → ¬ IsLack z → (y ≡ z) ⊎ (y ≡ answers.NoMemory)
-        → EndsHere P (gone_on P a q x hearing.Whole) (Some y)
-    done_ends y z says plain (inl is) = inl (says ∙ ap Some (sym is), subst (λ (w : Answer). ¬ IsLack w) (sym is) plain)
-    done_ends y z says plain (inr is) = inr is
+      pub hears_going : w.answer ≡ None → Advances P a b q x (Ok w) → HearsSo P a b p k q x None
+      hears_going none goes =
+          let is : ComesTo P (gone_on P a q x h) b None = came b None none goes in
+          record {
+            heard = h;
+            middle = k;
+            marks = marks;
+            ends = subst (λ (z : ActorState S). has_ended P z.counts z.state.memory z.state.running ≡ false) is.0 is.1;
+            finishes = (is.0, refl);
+          }
 
-    pub hears_done : (y z : Answer) → Advances P a m q x (Ok (Done z)) → b ≡ let_go m → NotedEnd p r (Ended (op_of m) y)
-        → (y ≡ z) ⊎ (y ≡ answers.NoMemory) → HearsSo P a b p r q x (Some y)
-    hears_done y z is after noted either = record {
-      heard = hearing.Whole;
-      middle = p;
-      marks = refl;
-      ends = done_ends y z is.1 is.2 either;
-      finishes = (
-        after ∙ ap let_go is.0 ∙ says_end P (gone_on P a q x hearing.Whole) z is.1,
-        subst (λ (o : OpId). NotedEnd p r (Ended o y)) (ap op_of is.0) noted,
-      );
-    }
+      done_ends : (y z : Answer) → says_now P (gone_on P a q x h) ≡ Some z → ¬ IsLack z → (y ≡ z) ⊎ (y ≡ answers.NoMemory)
+          → EndsHere P (gone_on P a q x h) (Some y)
+      done_ends y z says plain (inl is) = inl (says ∙ ap Some (sym is), subst (λ (w : Answer). ¬ IsLack w) (sym is) plain)
+      done_ends y z says plain (inr is) = inr is
 
-    pub hears_left : (k : Pass) (e : Wanting) → Advances P a m q x (Err e) → MarkedLeft p k → b ≡ let_go m
+      pub hears_done : (y z : Answer) → w.answer ≡ Some z → Advances P a m q x (Ok w) → b ≡ let_go m → NotedEnd k r (Ended (op_of m) y)
+          → (y ≡ z) ⊎ (y ≡ answers.NoMemory) → HearsSo P a b p r q x (Some y)
+      hears_done y z some goes after noted either =
+          let is : ComesTo P (gone_on P a q x h) m (Some z) = came m (Some z) some goes in
+          record {
+            heard = h;
+            middle = k;
+            marks = marks;
+            ends = done_ends y z is.1 is.2 either;
+            finishes = (
+              after ∙ ap let_go is.0 ∙ says_end P (gone_on P a q x h) z is.1,
+              subst (λ (o : OpId). NotedEnd k r (Ended o y)) (ap op_of is.0) noted,
+            );
+          }
+
+    pub hears_left : (e : Wanting) → Marks hearing.Left p k → Advances P a m q x (Err e) → b ≡ let_go m
         → NotedEnd k r (Ended (op_of m) answers.NoMemory) → HearsSo P a b p r q x (Some answers.NoMemory)
-    hears_left k e is marked after noted = record {
+    hears_left e marks is after noted = record {
       heard = hearing.Left;
       middle = k;
-      marks = marked;
+      marks = marks;
       ends = inr refl;
       finishes = (
         after ∙ ap let_go is ∙ left_ends a q x,
@@ -105,28 +124,16 @@ module _ {S : Type 0} (P : Programs S) where
 
   entered_by : (counts : Counts) (h : Heard) (p m k : Pass) (q : AnyReq) (x : AnyReply) → Committed counts p m q x → Marks h m k
       → Entered counts h p k q x
-  entered_by counts hearing.Whole p m k q x done marks = rw marks (record {
-    moments = done.moments;
-    later = done.later;
-    actor = done.actor;
-    running = done.running;
-  })
-  entered_by counts hearing.Unkept p m k q x done marks = absurd marks
-  entered_by counts hearing.Left p m k q x done marks =
-      let stamped : k.moments.items ≡ p.moments.items ++ Act (entry_at counts m.clock p q x) hearing.Left ∷ [] =
-      marks.moments ∙ ap (heard_last hearing.Left) done.moments
-      ∙ heard_last-act hearing.Left p.moments.items (entry_at counts m.clock p q x) hearing.Whole in
+  entered_by counts h p m k q x done marks =
+      let stamped : k.moments.items ≡ p.moments.items ++ Act (entry_at counts m.clock p q x) h ∷ [] =
+      marks.moments ∙ ap (heard_last h) done.moments
+      ∙ heard_last-act h p.moments.items (entry_at counts m.clock p q x) hearing.Whole in
       record {
         moments = rw marks.clock stamped;
         later = rw marks.clock done.later;
         actor = marks.actor ∙ done.actor;
         running = marks.running ∙ done.running;
       }
-
-  marked_clock : (h : Heard) (m k : Pass) → Marks h m k → k.clock ≡ m.clock
-  marked_clock hearing.Whole m k marks = ap (λ (z : Pass). z.clock) marks
-  marked_clock hearing.Unkept m k marks = absurd marks
-  marked_clock hearing.Left m k marks = marks.clock
 
   -- ---- the steps
 
@@ -146,8 +153,7 @@ module _ {S : Type 0} (P : Programs S) where
           tried = Did q x hears.heard;
           middle = hears.middle;
           asks = sym (looked_asks P a) ∙ asks;
-          there = subst (λ (n : ℕ). done w v p.clock q (Ok (entry_at a.counts n p q x)))
-              (sym (marked_clock hears.heard m hears.middle hears.marks)) did;
+          there = subst (λ (n : ℕ). done w v p.clock q (Ok (entry_at a.counts n p q x))) (sym hears.marks.clock) did;
           tries = (room, entered_by a.counts hears.heard p m hears.middle q x committed hears.marks);
           ends = did_ends q x hears.heard answer (subst (λ (z : ActorState S). EndsHere P z answer) same hears.ends);
           finishes = subst (λ (z : ActorState S). Finishes P z b hears.middle r answer) same hears.finishes;

@@ -14,10 +14,9 @@ use Rattle.program_forms.specs.declared.standing.Standing.TheVariants.{Goes, Lef
 use Rattle.program_forms.specs.Lacks.{no_room, IsLack}
 use Rattle.program_forms.specs.Memories.{Memory, kept_of, learnt, always}
 use Rattle.program_forms.specs.Kinds.{Does, Says, Programs, turned}
-use Rattle.program_calls.specs.Hearing.{IsPlain}
+use Rattle.program_calls.specs.Hearing.{IsPlain, heard_if_kept}
 use Rattle.world_runs.specs.Actors.{Actor, Running, asked_in, answer_in, has_ended, memory_at_end}
-use Rattle.program_calls.specs.declared.turned.Turned.{Turned}
-use Rattle.program_calls.specs.declared.turned.Turned.TheVariants.{Going, Done}
+use Rattle.program_calls.specs.declared.went.Went.{Went}
 use Rattle.clients.specs.ActorState.{ActorState}
 
 -- ---- its look-ups
@@ -102,9 +101,12 @@ at_left (Some r) = Some record { op = r.op; at = Left }
 abbrev pub left_behind : {S : Type 0} → ActorState S → ActorState S
 left_behind a = record a { state = record a.state { running = at_left a.state.running } }
 
--- It went on, and stands there; or came to that answer, and is let go; or memory was wanting, and it goes on no more.
-abbrev pub Advances : {S : Type 0} → Programs S → ActorState S → ActorState S → AnyReq → AnyReply → Result Turned NoMemory → Type 0
-Advances P a b q x (Ok Going) = (b ≡ gone_on P a q x hearing.Whole) × (has_ended P b.counts b.state.memory b.state.running ≡ false)
-Advances P a b q x (Ok (Done y)) = (b ≡ let_go (gone_on P a q x hearing.Whole))
-    × (says_now P (gone_on P a q x hearing.Whole) ≡ Some y) × ¬ IsLack y
+-- It stands where it went on to, and goes on; or it came to that answer there, and is let go.
+abbrev pub ComesTo : {S : Type 0} → Programs S → ActorState S → ActorState S → Option Answer → Type 0
+ComesTo P there b None = (b ≡ there) × (has_ended P b.counts b.state.memory b.state.running ≡ false)
+ComesTo P there b (Some y) = (b ≡ let_go there) × (says_now P there ≡ Some y) × ¬ IsLack y
+
+-- It went on, and kept all of the reply, or only what has to be kept; or memory was wanting, and it goes on no more.
+abbrev pub Advances : {S : Type 0} → Programs S → ActorState S → ActorState S → AnyReq → AnyReply → Result Went NoMemory → Type 0
+Advances P a b q x (Ok w) = ComesTo P (gone_on P a q x (heard_if_kept w.kept)) b w.answer
 Advances P a b q x (Err e) = b ≡ gone_on P a q x hearing.Left

@@ -7,7 +7,6 @@ use Rattle.store_rules.specs.declared.any.AnyReq.{AnyReq}
 use Rattle.store_rules.specs.declared.any.AnyReply.{AnyReply}
 use Rattle.store_rules.specs.Places.{request_place}
 use Rattle.program_forms.specs.declared.heard.Heard.{Heard}
-use Rattle.program_forms.specs.declared.heard.Heard.TheVariants as hearing
 use Rattle.program_forms.specs.Lacks.{IsLack}
 use Rattle.program_forms.specs.Kinds.{Programs}
 use Rattle.entry_words.specs.declared.entry.Entry.{Entry}
@@ -43,18 +42,12 @@ Finishes P a b p r (Some x) = (b ≡ ended_by P a) × NotedEnd p r (Ended (op_of
 
 -- ---- in the words of its calls
 
--- the last moment of the pass is marked as left
-pub record MarkedLeft (old new : Pass) : Type 0 where
-  pub moments : new.moments.items ≡ heard_last hearing.Left old.moments.items
+-- the pass's last moment says that the command heard the reply so
+pub record Marks (h : Heard) (old new : Pass) : Type 0 where
+  pub moments : new.moments.items ≡ heard_last h old.moments.items
   pub clock : new.clock ≡ old.clock
   pub actor : new.actor ≡ old.actor
   pub running : new.running ≡ old.running
-
--- where the command did not hear the reply, its pass is told
-abbrev pub Marks : Heard → Pass → Pass → Type 0
-Marks hearing.Whole p m = m ≡ p
-Marks hearing.Unkept p m = ⊥
-Marks hearing.Left p m = MarkedLeft p m
 
 -- as it stands it has that answer, which is no want of memory or of room unless its op was refused; or memory is wanting
 abbrev pub SettlesSo : {S : Type 0} → Programs S → ActorState S → Answer → Type 0

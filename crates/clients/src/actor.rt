@@ -8,7 +8,7 @@ ghost use Rattle.clients.specs.ActorState.{op_of, next_op_of};
 ghost use Rattle.clients.specs.ActorCalls.{looked, asks_now, says_now, IsPlainOf, Advances, let_go, left_behind};
 
 use memories::Memory;
-use program_calls::{Programs, Turned};
+use program_calls::{Programs, Went};
 use program_forms::Standing;
 use std::alloc::Global;
 use std::marker::Model;
@@ -142,10 +142,10 @@ impl<P: Programs + Drop> Actor<P> {
         }
     }
 
-    /// Its command goes on at the reply to the request that `next` gave. `Done` comes where the reply ended it: then it is let go.
-    /// For want of memory to go on it stands at `Left`, and has no answer. In each case a serial is taken where an object was
-    /// made.
-    pub fn advance(&mut self, reply: &AnyReply) -> Result<Turned, NoMemory>
+    /// Its command goes on at the reply to the request that `next` gave, and is let go where that gave its answer. What the reply
+    /// told is kept: all of it, or for want of memory only what has to be kept. For want of memory to go on it stands at `Left`,
+    /// and has no answer. In each case a serial is taken where an object was made.
+    pub fn advance(&mut self, reply: &AnyReply) -> Result<Went, NoMemory>
         requires asked { IsSome (asks_now P.rules self.old) }
         requires few { self.old.state.memory.serial + 1 < 2 ^ 32 }
         ensures { (req : AnyReq) → asks_now P.rules self.old ≡ Some req → Advances P.rules self.old self.new req reply.now result }
@@ -155,11 +155,11 @@ impl<P: Programs + Drop> Actor<P> {
             unreachable!()
         };
         match state.hear(&mut self.memory, op, reply) {
-            Ok(None) => {
+            Ok(Went { answer: None, kept }) => {
                 self.running = Some(Standing::Goes { state });
-                Ok(Turned::Going)
+                Ok(Went { answer: None, kept })
             }
-            Ok(Some(answer)) => Ok(Turned::Done(answer)),
+            Ok(went) => Ok(went),
             Err(NoMemory) => {
                 self.running = Some(Standing::Left);
                 Err(NoMemory)

@@ -12,7 +12,7 @@ ghost use Rattle.clients.specs.PassSteps.{TookStep, LostStep, HearsSo, SettlesSo
 use crate::actor::Actor;
 use entry_words::{Note, Refused};
 use passes::{Astray, Commits, Pass};
-use program_calls::{Programs, Turned};
+use program_calls::Programs;
 use program_forms::Heard;
 use store_rules::AnyReply;
 use tect_calls::Asked;
@@ -82,7 +82,7 @@ fn settle<P: Programs + Drop>(actor: &mut Actor<P>, pass: &mut Pass) -> Answer
 }
 
 /// The command goes on at the reply to its request, whose entry the pass noted last, and ends where that gave its answer. For want
-/// of memory to go on it ends too, and the entry is marked.
+/// of memory to go on it ends too. The entry is marked with how the command heard the reply.
 fn hear<P: Programs + Drop>(
     actor: &mut Actor<P>,
     pass: &mut Pass,
@@ -95,8 +95,12 @@ fn hear<P: Programs + Drop>(
         → HearsSo P.rules actor.old actor.new pass.old pass.new req reply.now result }
 {
     match actor.advance(reply) {
-        Ok(Turned::Going) => None,
-        Ok(Turned::Done(answer)) => Some(end_with(actor, pass, answer)),
+        Ok(went) => {
+            let heard = went.heard();
+            pass.set_heard(heard);
+            let answer = went.answer?;
+            Some(end_with(actor, pass, answer))
+        }
         Err(NoMemory) => {
             pass.set_heard(Heard::Left);
             end(actor, pass, Answer::NoMemory);

@@ -8,7 +8,7 @@ ghost use Rattle.op_names.specs.OneBlock.{RunsWithOneBlock};
 use crate::start::start;
 use crate::walk::{self, Going};
 use memories::Memory;
-use program_calls::Programs;
+use program_calls::{Programs, Went};
 use program_parts::Next;
 use std::alloc::Global;
 use std::marker::Model;
@@ -147,16 +147,14 @@ impl Programs for Running {
         }
     }
 
-    fn hear(
-        &mut self,
-        memory: &mut Memory,
-        op: OpId,
-        reply: &AnyReply,
-    ) -> Result<Option<Answer>, NoMemory> {
+    fn hear(&mut self, memory: &mut Memory, op: OpId, reply: &AnyReply) -> Result<Went, NoMemory> {
         match self.go_on(memory, op, reply) {
             Ok(()) => {
                 count_made(memory, reply);
-                Ok(self.take_answer())
+                Ok(Went {
+                    answer: self.take_answer(),
+                    kept: true,
+                })
             }
             Err(NoMemory) => {
                 count_made(memory, reply);

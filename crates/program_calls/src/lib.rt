@@ -3,6 +3,8 @@
 
 mod programs;
 mod turned;
+mod went;
 
 pub use programs::Programs;
 pub use turned::Turned;
+pub use went::Went;

@@ -5,6 +5,7 @@ ghost use Rattle.program_forms.specs.Kinds.{Programs as Rules, asked_by, next_do
 ghost use Rattle.program_calls.specs.Hearing.{Hears, IsPlain, SaysIn};
 ghost use Rattle.program_calls.specs.Keeping.{KeepsSerial};
 
+use crate::went::Went;
 use memories::Memory;
 use std::alloc::Global;
 use store_rules::AnyReply;
@@ -34,14 +35,10 @@ pub trait Programs: Sized {
         ensures says { SaysIn rules self.now (option_copied result) }
         ensures plain { IsPlain (option_copied result) };
 
-    /// Goes on at the reply to the request that `next` gave, and gives the answer where that ends the command. The actor's
-    /// serial is taken where the reply says that an object was made. For want of memory all else is as before.
-    fn hear(
-        &mut self,
-        memory: &mut Memory,
-        op: OpId,
-        reply: &AnyReply,
-    ) -> Result<Option<Answer>, NoMemory>
+    /// Goes on at the reply to the request that `next` gave, and gives the answer where that ends the command. The actor keeps
+    /// what the reply told: all of it, or for want of memory only what it has to keep. Its serial is taken where the reply says
+    /// that an object was made. Where memory is wanting to go on, or for what has to be kept, all else is as before.
+    fn hear(&mut self, memory: &mut Memory, op: OpId, reply: &AnyReply) -> Result<Went, NoMemory>
         requires asked { IsSome (asked_by (rules.kind.does memory.old.counts memory.old.memory op self.old)) }
         requires serial { memory.old.memory.serial + 1 < 2 ^ 32 }
         ensures heard { (req : AnyReq) → asked_by (rules.kind.does memory.old.counts memory.old.memory op self.old) ≡ Some req
