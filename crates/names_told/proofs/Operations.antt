@@ -86,8 +86,8 @@ read_came h op n d c came = of_command
     (λ k. Walked root (way k) (of_op op (tree_steps h)) d [] → ReadBefore h op k (read_starts n d)) (operation.Read n)
     (λ p last walked. (p, record { is = refl; walked = walked; last = last })) c came.fits came.walked
 
-begins_came : (h : List Event) (op : OpId) (c : Command) (o : Operation) (d : DirId) → CameTo h op c d o
-    → OperationBefore h op c (begins_in o d)
+begins_came : {counts : Counts} (h : List Event) (op : OpId) (c : Command) (o : Operation) (d : DirId) → CameTo h op c d o
+    → OperationBefore counts h op c (begins_in o d)
 begins_came h op c (operation.Look None) d came = came
 begins_came h op c (operation.Look (Some n)) d came = came
 begins_came h op c operation.List d came = came

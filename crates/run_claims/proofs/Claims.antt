@@ -18,7 +18,7 @@ use Rattle.telling_laws.specs.View.{Shows}
 use Rattle.telling_laws.specs.Telling.{tree_of}
 use Rattle.whole_runs.proofs.Owns.{store_is_after}
 use Rattle.store_rules.specs.Store.{Store}
-use Rattle.attached_blocks.proofs.Laws.{stand_so, last_so}
+use Rattle.attached_blocks.proofs.Laws.{stand_so, opened_so, last_so, opens_so}
 use Rattle.tree_runs.proofs.Headlines.{shown_so, no_end_is_odd, run_headline}
 use Rattle.run_claims.proofs.RunsKeep.{sound_at_each_moment, granted_at_each_moment}
 use Rattle.run_claims.proofs.RunsShort.{each_is_short}
@@ -39,7 +39,9 @@ every_run_is_claimed counts history run limits = record {
   granted = granted_at_each_moment counts history run;
   shown = shown_at_each_moment counts history run;
   attached = λ n. stand_so counts (take n history) (front_runs programs n history (opening counts) run);
+  opened = opened_so counts history run;
   tokens = last_so counts history run;
+  opens = opens_so counts history run;
   answers = run_headline counts history run;
   not_odd = no_end_is_odd counts history run;
   short = each_is_short counts history run;
