@@ -1,2 +1,3 @@
+pub mod SameDirs
 pub mod SameFiles
 pub mod Trees
