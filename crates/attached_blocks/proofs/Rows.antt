@@ -43,6 +43,7 @@ module _ (f : FileId) (i : ℕ) (r : FileRow) where
   file_row_stays s (files.Attach g t b n h) changed is =
       grind (arith, block_maps, more_stays (get s.files g) record { blk = b; len = n; hold = h }, is)
   file_row_stays s (files.ListBlocks g) changed is = is
+  file_row_stays s (files.SealFile g) changed is = grind (arith, block_maps, is)
 
   change_row_stays : (s : Store) (q : AnyReq) → store_changes s q ≡ true → row_at s f i ≡ Some r → row_at (store_change s q) f i ≡ Some r
   change_row_stays s (any.Name q) changed is = is

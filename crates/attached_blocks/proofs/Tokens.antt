@@ -52,6 +52,7 @@ module _ (s : Store) (k : FileId) where
   asked_token (files.TakeToken f t) = grind (arith, maps)
   asked_token (files.Attach f t b n h) = grind (arith, maps)
   asked_token (files.ListBlocks f) = grind arith
+  asked_token (files.SealFile f) = grind (arith, maps)
 
   event_token : (e : Event) → ReplyIs s e → token_of (stored_next s e) k ≡ token_by (token_of s k) e k
   event_token (Own op (Acted (any.File q) x how)) is =

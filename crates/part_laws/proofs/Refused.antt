@@ -12,7 +12,7 @@ use Rattle.store_rules.specs.declared.names.NameReq.TheVariants as names
 use Rattle.store_rules.specs.declared.files.FileReq.TheVariants as files
 use Rattle.store_rules.specs.declared.any.AnyReq.TheVariants as any
 use Rattle.store_rules.specs.Store.{Store, store_reply}
-use Rattle.store_rules.specs.Views.{as_found, as_parent, as_listing, is_granted, as_bound, as_unbound, as_swapped}
+use Rattle.store_rules.specs.Views.{as_found, as_parent, as_listing, is_granted, as_bound, as_unbound, as_swapped, is_sealed}
 use Rattle.program_parts.specs.Refused.{refusal, dir_refusal}
 use Rattle.program_laws.specs.Known.{is_odd}
 
@@ -25,6 +25,10 @@ module _ (s : Store) (place : Place) (d : DirId) where
   pub list_not_odd : as_listing (store_reply s (any.Name (names.List d))) ≡ None
       → is_odd (dir_refusal place (store_reply s (any.Name (names.List d)))) ≡ false
   list_not_odd none = grind arith
+
+  pub seal_not_odd : is_sealed (store_reply s (any.Name (names.SealDir d))) ≡ false
+      → is_odd (dir_refusal place (store_reply s (any.Name (names.SealDir d)))) ≡ false
+  seal_not_odd none = grind arith
 
 -- of requests that concern an entry, or a hold for one
 module _ (s : Store) (place : Place) (l : Key) where

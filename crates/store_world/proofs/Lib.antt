@@ -8,6 +8,7 @@ pub mod Binding
 pub mod Holding
 pub mod Reading
 pub mod Attaching
+pub mod Sealing
 pub mod Blocks
 pub mod BlockHolds
 pub mod Chunks

@@ -23,6 +23,7 @@ use Rattle.store_world.proofs.Making.{make_dir_row, make_file_row}
 use Rattle.store_world.proofs.Binding.{bind_row, swap_row, unbind_row}
 use Rattle.store_world.proofs.Holding.{grant_dir_row, grant_file_row, release_dir_row, release_file_row}
 use Rattle.store_world.proofs.Attaching.{take_token_row, attach_row, list_blocks_row}
+use Rattle.store_world.proofs.Sealing.{seal_dir_row, seal_file_row}
 use Rattle.store_world.proofs.Blocks.{make_block_row, seal_block_row, get_block_row}
 use Rattle.store_world.proofs.BlockHolds.{grant_block_row, release_block_row}
 use Rattle.store_world.proofs.Chunks.{put_row, get_row}
@@ -37,6 +38,7 @@ name_row (names.Swap d from to n h) = swap_row d from to n h
 name_row (names.Unbind k want) = unbind_row k want
 name_row (names.Grant d h k) = grant_dir_row d h k
 name_row (names.Release d h) = release_dir_row d h
+name_row (names.SealDir d) = seal_dir_row d
 
 file_row : (q : FileReq) → Row (any.File q)
 file_row (files.MakeFile f h k t) = make_file_row f h k t
@@ -45,6 +47,7 @@ file_row (files.Release f h) = release_file_row f h
 file_row (files.TakeToken f t) = take_token_row f t
 file_row (files.Attach f t b n h) = attach_row f t b n h
 file_row (files.ListBlocks f) = list_blocks_row f
+file_row (files.SealFile f) = seal_file_row f
 
 block_row : (q : BlockReq) → Row (any.Block q)
 block_row (blocks.MakeBlock b c n f h rs) = make_block_row b c n f h rs

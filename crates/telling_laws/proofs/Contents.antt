@@ -111,6 +111,7 @@ module _ (s : Store) (f : FileId) (i : ℕ) (r : FileRow) where
       told (inl e) = inl e
       told (inr e) = inr (ap (λ (x : FileRow). Some (row_part x)) e)
   file_row_then (files.ListBlocks g) is = inl is
+  file_row_then (files.SealFile g) is = inl (grind (arith, maps))
 
   change_row_then : (q : AnyReq) → RowThen s q (store_change s q) f i r
   change_row_then (any.Name q) is = inl is

@@ -46,6 +46,8 @@ change_made t op (step.Open f token) h = record { dirs = h.dirs; files = λ e is
 change_made t op (step.Attach f token b bytes) h = record { dirs = h.dirs; files = λ e is. grind (arith, maps, h.files e) }
 change_made t op (step.Blocks f) h = h
 change_made t op (step.Read f n) h = h
+change_made t op (step.SealDir d) h = record { dirs = λ e is. grind (arith, maps, h.dirs e); files = h.files }
+change_made t op (step.SealFile f) h = record { dirs = h.dirs; files = λ e is. grind (arith, maps, h.files e) }
 
 pub next_made : (t : Tree) (op : OpId) (st : TreeStep) (x : TreeReply) → TreeMade t → TreeMade (tree_next t op st x)
 next_made t op st (Ok shown) h = change_made t op st h

@@ -31,14 +31,16 @@ use Rattle.store_rules.specs.declared.blocks.BlockReq.{BlockReq}
 use Rattle.store_rules.specs.declared.disks.DiskReq.{DiskReq}
 use Rattle.store_rules.specs.declared.any.AnyReq.{AnyReq}
 use Rattle.store_rules.specs.declared.any.AnyReq.TheVariants as any
-use Rattle.store_rules.specs.Names.{key_in, listed, dir_with_hold}
-use Rattle.store_rules.specs.Files.{file_with_hold, file_with_token, file_with_row, row_part}
+use Rattle.store_rules.specs.Names.{key_in, listed, dir_with_hold, dir_sealed}
+use Rattle.store_rules.specs.Files.{file_with_hold, file_with_token, file_with_row, file_sealed, row_part}
 use Rattle.store_rules.specs.declared.files.File.{File}
+use Rattle.store_rules.specs.declared.names.Directory.{Directory}
 use Rattle.store_rules.specs.Store.{Store, store_reply, store_change, store_changes}
 use Rattle.tree_model.specs.declared.step.TreeStep.{TreeStep}
 use Rattle.tree_model.specs.declared.step.TreeStep.TheVariants as step
 use Rattle.tree_model.specs.declared.step.TreeReply.{TreeReply}
 use Rattle.tree_model.specs.Tree.{Tree, tree_change, tree_reply, is_ok, as_listed, file_with_token as tree_with_token, file_with_block, block_part}
+use Rattle.tree_model.specs.Tree.{dir_sealed as tree_dir_sealed, file_sealed as tree_file_sealed}
 use Rattle.claim_words.specs.TreeSteps.{tree_step, says}
 use Rattle.telling_laws.specs.MapValues.{map_values, seen_by}
 use Rattle.telling_laws.specs.View.{Made, view, Shows, AllMade, AllLong, MakesNew, StepShows, shown_dir, shown_row, shown_file, shown_entry}
@@ -247,6 +249,36 @@ module _ (s : Store) (content : BlkId → List ℕ) (made : Made) (op : OpId) wh
   list_blocks_shows : (f : FileId) → AllLong s content → StepShows s content made op (any.File (files.ListBlocks f))
   list_blocks_shows f long = by_reading (any.File (files.ListBlocks f)) (step.Blocks f) refl (list_blocks_said f _ refl long) (grind arith) refl
 
+  -- a directory and a file, sealed
+  dir_sealed_shown : (x : Option Directory) → option_map shown_dir (dir_sealed x) ≡ tree_dir_sealed (option_map shown_dir x)
+  dir_sealed_shown None = refl
+  dir_sealed_shown (Some x) = refl
+
+  file_sealed_shown : (x : Option File)
+      → option_map (shown_file content) (file_sealed x) ≡ tree_file_sealed (option_map (shown_file content) x)
+  file_sealed_shown None = refl
+  file_sealed_shown (Some x) = refl
+
+  seal_dir_shows : (d : DirId) → StepShows s content made op (any.Name (names.SealDir d))
+  seal_dir_shows d = by_step (any.Name (names.SealDir d)) (step.SealDir d) refl
+      (grind (arith, get-map_values)) (grind arith)
+      (λ ok i. record (view s content made) {
+        dirs =
+            (dir_put shown_dir s.names.dirs d (dir_sealed (get s.names.dirs d))
+            ∙ ap (set_at (map_values shown_dir s.names.dirs) d)
+            (dir_sealed_shown (get s.names.dirs d) ∙ ap tree_dir_sealed (sym (get-map_values shown_dir s.names.dirs d)))) i;
+      })
+
+  seal_file_shows : (f : FileId) → StepShows s content made op (any.File (files.SealFile f))
+  seal_file_shows f = by_step (any.File (files.SealFile f)) (step.SealFile f) refl
+      (grind (arith, get-map_values)) (grind arith)
+      (λ ok i. record (view s content made) {
+        files =
+            (file_put (shown_file content) s.files f (file_sealed (get s.files f))
+            ∙ ap (set_at (map_values (shown_file content) s.files) f)
+            (file_sealed_shown (get s.files f) ∙ ap tree_file_sealed (sym (get-map_values (shown_file content) s.files f)))) i;
+      })
+
   -- the tree shows no blocks and no chunks
   block_shows : (q : BlockReq) → StepShows s content made op (any.Block q)
   block_shows q = unseen (any.Block q) _ (λ ok. refl)
@@ -265,6 +297,7 @@ module _ (s : Store) (content : BlkId → List ℕ) (made : Made) (op : OpId) wh
   name_shows (names.Unbind k w) all new = unbind_shows k w
   name_shows (names.Grant d h k) all new = grant_dir_shows d h k
   name_shows (names.Release d h) all new = release_dir_shows d h
+  name_shows (names.SealDir d) all new = seal_dir_shows d
 
   file_shows : (q : FileReq) → AllMade s made → AllLong s content → MakesNew content made (any.File q) → StepShows s content made op (any.File q)
   file_shows (files.MakeFile f h k t) all long new = make_file_shows f h k t all (new.new (nodes.File f) refl)
@@ -273,6 +306,7 @@ module _ (s : Store) (content : BlkId → List ℕ) (made : Made) (op : OpId) wh
   file_shows (files.TakeToken f t) all long new = take_token_shows f t
   file_shows (files.Attach f t b n h) all long new = attach_shows f t b n h
   file_shows (files.ListBlocks f) all long new = list_blocks_shows f long
+  file_shows (files.SealFile f) all long new = seal_file_shows f
 
   pub request_shows : (q : AnyReq) → AllMade s made → AllLong s content → MakesNew content made q → StepShows s content made op q
   request_shows (any.Name q) all long new = name_shows q all new

@@ -122,12 +122,14 @@ module _ (s : Store) (g : Ghost) where
   change_said (any.Name (names.Unbind k w)) x = refl
   change_said (any.Name (names.Grant d h k)) x = refl
   change_said (any.Name (names.Release d h)) x = refl
+  change_said (any.Name (names.SealDir d)) x = refl
   change_said (any.File (files.MakeFile f h k t)) x = refl
   change_said (any.File (files.Grant f h k)) x = refl
   change_said (any.File (files.Release f h)) x = refl
   change_said (any.File (files.TakeToken f t)) x = refl
   change_said (any.File (files.Attach f t b n h)) x = refl
   change_said (any.File (files.ListBlocks f)) x = refl
+  change_said (any.File (files.SealFile f)) x = refl
   change_said (any.Block (blocks.MakeBlock b c n f h rs)) x = refl
   change_said (any.Block (blocks.SealBlock b)) x = refl
   change_said (any.Block (blocks.GetBlock b)) x = refl
@@ -188,6 +190,7 @@ born_so w op m (any.Name (names.Swap d from to n h)) meets =
 born_so w op m (any.Name (names.Unbind k t)) meets = born_none w.store w.ghost op (any.Name (names.Unbind k t)) (λ b. refl) (λ b. refl)
 born_so w op m (any.Name (names.Grant d h k)) meets = born_none w.store w.ghost op (any.Name (names.Grant d h k)) (λ b. refl) (λ b. refl)
 born_so w op m (any.Name (names.Release d h)) meets = born_none w.store w.ghost op (any.Name (names.Release d h)) (λ b. refl) (λ b. refl)
+born_so w op m (any.Name (names.SealDir d)) meets = born_none w.store w.ghost op (any.Name (names.SealDir d)) (λ b. refl) (λ b. refl)
 born_so w op m (any.File (files.MakeFile f h k t)) meets =
     born_none w.store w.ghost op (any.File (files.MakeFile f h k t)) (λ b. refl) (λ b. refl)
 born_so w op m (any.File (files.Grant f h k)) meets = born_none w.store w.ghost op (any.File (files.Grant f h k)) (λ b. refl) (λ b. refl)
@@ -197,6 +200,7 @@ born_so w op m (any.File (files.TakeToken f t)) meets =
 born_so w op m (any.File (files.Attach f t b n h)) meets =
     born_none w.store w.ghost op (any.File (files.Attach f t b n h)) (λ b. refl) (λ b. refl)
 born_so w op m (any.File (files.ListBlocks f)) meets = born_none w.store w.ghost op (any.File (files.ListBlocks f)) (λ b. refl) (λ b. refl)
+born_so w op m (any.File (files.SealFile f)) meets = born_none w.store w.ghost op (any.File (files.SealFile f)) (λ b. refl) (λ b. refl)
 born_so w op m (any.Block (blocks.MakeBlock b c n f h rs)) meets =
     born_new w.store w.ghost op b c n f h rs (own_hold_of w op m b c n f h rs meets) (meets.needs).unborn
 born_so w op m (any.Block (blocks.SealBlock b)) meets =

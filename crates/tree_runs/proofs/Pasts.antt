@@ -120,6 +120,8 @@ module _ (content : BlkId → List ℕ) (s : Store) (g : Ghost) (t : Tree) (op :
   name_within (names.Grant d h k) = makes_none (any.Name (names.Grant d h k)) refl
       (same_refused t op (step.GrantDir d) (says (store_reply s (any.Name (names.Grant d h k)))) refl)
   name_within (names.Release d h) = makes_none (any.Name (names.Release d h)) refl refl
+  name_within (names.SealDir d) =
+      makes_none (any.Name (names.SealDir d)) refl (said_next (step.SealDir d) (any.Name (names.SealDir d)) refl)
 
   file_request_within : (q : FileReq) → StaysWithin content s g t op (any.File q)
   file_request_within (files.MakeFile f h k token) = file_within f h k token
@@ -132,6 +134,8 @@ module _ (content : BlkId → List ℕ) (s : Store) (g : Ghost) (t : Tree) (op :
       (said_next (step.Attach f token b (content b)) (any.File (files.Attach f token b n h)) refl)
   file_request_within (files.ListBlocks f) = makes_none (any.File (files.ListBlocks f)) refl
       (said_next (step.Blocks f) (any.File (files.ListBlocks f)) refl)
+  file_request_within (files.SealFile f) =
+      makes_none (any.File (files.SealFile f)) refl (said_next (step.SealFile f) (any.File (files.SealFile f)) refl)
 
   block_request_within : (q : BlockReq) → StaysWithin content s g t op (any.Block q)
   block_request_within (blocks.MakeBlock b c n f h rs) = makes_none (any.Block (blocks.MakeBlock b c n f h rs)) refl refl
