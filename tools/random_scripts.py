@@ -32,7 +32,9 @@ def contents_command(choose):
 
 
 def command(choose, contents):
-    """In so many of four cases one on the contents of files, and else one on names."""
+    """In so many of four cases one on the contents of files, and else one on names. A seal is rare, for behind it less is done."""
+    if choose.randrange(32) == 0:
+        return f"seal {path(choose)}"
     if choose.randrange(4) < contents:
         return contents_command(choose)
     verb = choose.choice(["look", "list", "create", "create", "mkdir", "delete", "rename", "rename"])

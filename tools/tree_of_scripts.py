@@ -37,6 +37,7 @@ class Store:
         self.rows = {}
         self.blocks = {}
         self.chunks = {}
+        self.sealed = set()
 
     def holds(self, node):
         kind, number = node
@@ -63,16 +64,20 @@ class Store:
         if holds is not None:
             holds.discard(hold)
 
+    def state(self, node):
+        return "sealed" if node in self.sealed else "open"
+
     def dump(self):
         for folder in sorted(self.parents):
             entries = self.entries[folder]
-            yield f"dir {folder} parent {self.parents[folder]} open entries {len(entries)} holds {len(self.dir_holds[folder])}"
+            parent, state = self.parents[folder], self.state(("dir", folder))
+            yield f"dir {folder} parent {parent} {state} entries {len(entries)} holds {len(self.dir_holds[folder])}"
             for name in sorted(entries):
                 (kind, number), _ = entries[name]
                 yield f"entry {folder} {name} {kind} {number}"
         for number in sorted(self.file_holds):
-            token = op_text(self.tokens.get(number))
-            yield f"file {number} open token {token} blocks {len(self.rows[number])} holds {len(self.file_holds[number])}"
+            token, state = op_text(self.tokens.get(number)), self.state(("file", number))
+            yield f"file {number} {state} token {token} blocks {len(self.rows[number])} holds {len(self.file_holds[number])}"
         for number in sorted(self.blocks):
             block = self.blocks[number]
             version = 1 if block.sealed else 0
@@ -155,14 +160,24 @@ def make(store, client, hold, path, kind):
     node = (kind, number)
     yield
     old = store.entries[folder].get(names[-1])
+    refusal = bind_refusal(store, folder, kind, old)
+    if refusal:
+        yield
+        store.release(node, hold)
+        return refusal
+    store.entries[folder][names[-1]] = (node, hold)
+    if old:
+        yield
+        store.release(*old)
+    return f"ok {kind} {number}"
+
+
+def bind_refusal(store, folder, kind, old):
+    """A file replaces a file; nothing else replaces. A sealed directory takes no name."""
+    if ("dir", folder) in store.sealed:
+        return "sealed"
     if old is None or (kind == "file" and old[0][0] == "file"):
-        store.entries[folder][names[-1]] = (node, hold)
-        if old:
-            yield
-            store.release(*old)
-        return f"ok {kind} {number}"
-    yield
-    store.release(node, hold)
+        return None
     return "is-dir" if kind == "file" else "exists"
 
 
@@ -182,6 +197,8 @@ def delete(store, client, hold, path):
     if refusal:
         return refusal
     yield
+    if ("dir", folder) in store.sealed:
+        return "sealed"
     found, refusal = store.look(folder, names[-1])
     if refusal:
         return refusal
@@ -215,7 +232,9 @@ def rename(store, client, hold, path, to):
     entries = store.entries[folder]
     now = entries.get(names[-1])
     over = entries.get(new[-1])
-    if now is None or now[0] != node:
+    if ("dir", folder) in store.sealed:
+        refusal = "sealed"
+    elif now is None or now[0] != node:
         refusal = f"changed {folder} {names[-1]} now " + ("none" if now is None else "%s %d" % now[0])
     elif over is not None:
         refusal = over_refusal(node, over[0])
@@ -263,6 +282,8 @@ def open_file(store, client, op, path):
     yield
     if file not in store.file_holds:
         return "no-file"
+    if ("file", file) in store.sealed:
+        return "sealed"
     store.tokens[file] = op
     client.opened[path] = file, op
     return f"ok file {file} token {op_text(op)}"
@@ -301,9 +322,11 @@ def append(store, client, op, path, text):
 
 
 def attach_refusal(store, file, token):
-    """A file takes a block of the client alone that opened it last, and as long as it has room."""
+    """A file takes a block of the client alone that opened it last, as long as it is not sealed and has room."""
     if file not in store.file_holds:
         return "no-file"
+    if ("file", file) in store.sealed:
+        return "sealed"
     if store.tokens[file] != token:
         return f"token-changed {op_text(store.tokens[file])}"
     return f"full {file}" if len(store.rows[file]) >= MOST_ROWS else None
@@ -338,6 +361,25 @@ def read(store, client, op, path):
     return f"ok {len(content)}" + (f" {content.hex()}" if content else "")
 
 
+def seal(store, client, op, path):
+    names = names_of(path)
+    folder, refusal = yield from walk(store, names[:-1])
+    if refusal:
+        return refusal
+    node = "dir", ROOT
+    if names:
+        yield
+        found, refusal = store.look(folder, names[-1])
+        if refusal:
+            return refusal
+        node = found[0]
+    yield
+    if store.holds(node) is None:
+        return "no-dir" if node[0] == "dir" else "no-file"
+    store.sealed.add(node)
+    return "ok"
+
+
 COMMANDS = {
     "look": look,
     "list": list_entries,
@@ -349,6 +391,7 @@ COMMANDS = {
     "append": append,
     "blocks": list_blocks,
     "read": read,
+    "seal": seal,
 }
 
 

@@ -96,6 +96,7 @@ module _ (c : Counts) (w : World) (op : OpId) (m : Memory) (k : Command) (rooted
       (append_begins c w op m (commands.Append p bytes) p bytes refl new (subst (λ (b : Command). HasSaid w op b) (sym e) said) remembers left)
   starts_knows (commands.Blocks p) e = walks_for_file p (last_of p) (λ n. operation.Blocks n)
   starts_knows (commands.Read p) e = walks_for_file p (last_of p) (λ n. operation.Read n)
+  starts_knows (commands.Seal p) e = walks (but_last p) (operation.Seal (last_of p))
   starts_knows b e = refl
 
 pub names_program_laws : ProgramLaws programs names_deciding names_known

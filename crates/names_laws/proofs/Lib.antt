@@ -4,5 +4,6 @@ pub mod Look
 pub mod Make
 pub mod Delete
 pub mod Rename
+pub mod Seal
 pub mod Operations
 pub mod Laws

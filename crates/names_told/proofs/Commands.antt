@@ -27,6 +27,8 @@ OfItsCommands F (operation.Delete n) = (p : List (List ℕ)) → last_name p ≡
 OfItsCommands F (operation.Open p n) = last_name p ≡ n → F (commands.Open p)
 OfItsCommands F (operation.Blocks n) = (p : List (List ℕ)) → last_name p ≡ n → F (commands.Blocks p)
 OfItsCommands F (operation.Read n) = (p : List (List ℕ)) → last_name p ≡ n → F (commands.Read p)
+OfItsCommands F (operation.Seal None) = F (commands.Seal [])
+OfItsCommands F (operation.Seal (Some n)) = (m : List ℕ) (ms : List (List ℕ)) → last_name (m ∷ ms) ≡ n → F (commands.Seal (m ∷ ms))
 OfItsCommands F (operation.Rename from to) = (p q : List (List ℕ)) → last_name p ≡ from → last_name q ≡ to → F (commands.Rename p q)
 
 same_operation : (p q : List (List ℕ)) (o u : Operation) → Walks p o ≡ Walks q u → u ≡ o
@@ -71,6 +73,8 @@ module _ (F : Command → Type 0) (o : Operation) (of : OfItsCommands F o) where
   of_command (commands.Blocks (n ∷ ns)) fit = is_of (but_last (n ∷ ns)) _ (operation.Blocks (last_name (n ∷ ns))) fit (n ∷ ns) refl
   of_command (commands.Read []) fit = absurd (wants_none _ o fit)
   of_command (commands.Read (n ∷ ns)) fit = is_of (but_last (n ∷ ns)) _ (operation.Read (last_name (n ∷ ns))) fit (n ∷ ns) refl
+  of_command (commands.Seal []) fit = is_of _ _ _ fit
+  of_command (commands.Seal (n ∷ ns)) fit = is_of (but_last (n ∷ ns)) _ (operation.Seal (Some (last_name (n ∷ ns)))) fit n ns refl
   of_command _ fit = absurd (lacks_none _ o fit)
 
 -- a served command walks its way, or appends, or lacks a name that it needs, or wants the contents of the root
@@ -99,4 +103,5 @@ begins_so (commands.Blocks []) s = λ counts h op. (refl, refl)
 begins_so (commands.Blocks (n ∷ ns)) s = refl
 begins_so (commands.Read []) s = λ counts h op. inl (refl, refl)
 begins_so (commands.Read (n ∷ ns)) s = refl
+begins_so (commands.Seal p) s = refl
 begins_so _ s = absurd (let k : false ≡ true = s in cc)

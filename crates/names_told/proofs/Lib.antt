@@ -5,6 +5,8 @@ pub mod Look
 pub mod Make
 pub mod Delete
 pub mod Rename
+pub mod Seal
 pub mod Operations
+pub mod NamesFall
 pub mod Falls
 pub mod NamesTell

@@ -31,6 +31,7 @@ use Rattle.names_told.proofs.Look.{look_tells, list_tells}
 use Rattle.names_told.proofs.Make.{make_tells}
 use Rattle.names_told.proofs.Delete.{delete_tells}
 use Rattle.names_told.proofs.Rename.{rename_tells}
+use Rattle.names_told.proofs.Seal.{seal_tells}
 
 operations_at : (counts : Counts) (s : OperationState) → TellsIn counts operations operation_deciding (operation_telling counts) s
 operations_at counts (states.Look s) =
@@ -51,6 +52,8 @@ operations_at counts (states.Blocks s) =
     tells_within states.Blocks record { decided = λ t. refl; before = λ h op c t b. b; because = λ h op c a b. b } (tells_in (blocks_tell counts) s)
 operations_at counts (states.Read s) =
     tells_within states.Read record { decided = λ t. refl; before = λ h op c t b. b; because = λ h op c a b. b } (tells_in (read_tells counts) s)
+operations_at counts (states.Seal s) =
+    tells_within states.Seal record { decided = λ t. refl; before = λ h op c t b. b; because = λ h op c a b. inl b } (tells_in (seal_tells counts) s)
 
 pub operations_tell : (counts : Counts) → PartTells counts operations operation_deciding (operation_telling counts)
 operations_tell counts = part_tells (operations_at counts) (why_lasts counts)
@@ -66,6 +69,7 @@ begins_undecided (operation.Rename from to) d = refl
 begins_undecided (operation.Open path n) d = refl
 begins_undecided (operation.Blocks n) d = refl
 begins_undecided (operation.Read n) d = refl
+begins_undecided (operation.Seal n) d = refl
 
 -- an operation on a file's contents is of its command
 open_came : (h : List Event) (op : OpId) (p : List (List ℕ)) (n : List ℕ) (d : DirId) (c : Command)
@@ -97,6 +101,8 @@ begins_came h op c (operation.Rename from to) d came = came
 begins_came h op c (operation.Open path n) d came = open_came h op path n d c came
 begins_came h op c (operation.Blocks n) d came = blocks_came h op n d c came
 begins_came h op c (operation.Read n) d came = read_came h op n d c came
+begins_came h op c (operation.Seal None) d came = inl record { dir = d; here = refl; came = came }
+begins_came h op c (operation.Seal (Some n)) d came = came
 
 pub walks_tell : (counts : Counts) → WalkTells begins_in Fits operation_deciding (operation_telling counts)
 walks_tell counts = record {

@@ -1,6 +1,7 @@
 -- what a program makes of a reply, against what the reply says to the tree
 use Rattle.std.proofs.Common.{◌≡◌, ℕ, true, false, is_some, Option, Some, None, List, refl, arith}
 use Rattle.tect_ids.specs.declared.ids.DirId.{DirId}
+use Rattle.tect_ids.specs.declared.ids.FileId.{FileId}
 use Rattle.tect_ids.specs.declared.ids.Hold.{Hold}
 use Rattle.tect_ids.specs.declared.ids.Place.{Place}
 use Rattle.tect_ids.specs.declared.ids.Node.{Node}
@@ -13,10 +14,11 @@ use Rattle.tect_ids.specs.declared.values.Over.{Over}
 use Rattle.tect_ids.specs.declared.values.Want.TheVariants.{AnyFile}
 use Rattle.tect_ids.specs.Refusals.{refusal_answer}
 use Rattle.store_rules.specs.declared.names.NameReq.TheVariants as names
+use Rattle.store_rules.specs.declared.files.FileReq.TheVariants as files
 use Rattle.store_rules.specs.declared.any.AnyReq.TheVariants as any
 use Rattle.store_rules.specs.declared.any.AnyReply.{AnyReply}
 use Rattle.store_rules.specs.declared.names.Replaced.{Replaced}
-use Rattle.store_rules.specs.Views.{as_parent, as_listing, as_bound, as_unbound, as_swapped, is_granted}
+use Rattle.store_rules.specs.Views.{as_parent, as_listing, as_bound, as_unbound, as_swapped, is_granted, is_sealed}
 use Rattle.store_rules.specs.Store.{Store, store_reply}
 use Rattle.tree_model.specs.declared.step.StepValue.TheVariants as shown
 use Rattle.tree_model.specs.declared.step.TreeReply.{TreeReply}
@@ -27,6 +29,7 @@ use Rattle.program_rules.specs.Rename.{grant_ask}
 use Rattle.claim_words.specs.TreeSteps.{says}
 use Rattle.claim_words.specs.Points.{done_answer, Finds, Lists, FindsSource, IsRefusal}
 use Rattle.telling_laws.proofs.Replies.{why_of, RefusesSo}
+use Rattle.files_told.proofs.Replies.{RefusesFile}
 
 -- the same as RefusesSo where the request concerns a directory and no entry
 abbrev pub RefusesDir : Place → Key → AnyReply → Type 0
@@ -144,3 +147,19 @@ module _ (s : Store) (place : Place) where
       → RefusesSo place k (store_reply s (grant_ask n h j))
   grant_none (nodes.Dir d) h j k e = (grind arith, grind arith)
   grant_none (nodes.File f) h j k e = (grind arith, grind arith)
+
+  pub seal_dir_yes : (d : DirId) → is_sealed (store_reply s (any.Name (names.SealDir d))) ≡ true
+      → says (store_reply s (any.Name (names.SealDir d))) ≡ Ok shown.Done
+  seal_dir_yes d e = grind arith
+
+  pub seal_dir_no : (d : DirId) (k : Key) → is_sealed (store_reply s (any.Name (names.SealDir d))) ≡ false
+      → RefusesDir place k (store_reply s (any.Name (names.SealDir d)))
+  seal_dir_no d k e = (grind arith, grind arith)
+
+  pub seal_file_yes : (f : FileId) → is_sealed (store_reply s (any.File (files.SealFile f))) ≡ true
+      → says (store_reply s (any.File (files.SealFile f))) ≡ Ok shown.Done
+  seal_file_yes f e = grind arith
+
+  pub seal_file_no : (f : FileId) → is_sealed (store_reply s (any.File (files.SealFile f))) ≡ false
+      → RefusesFile place f (store_reply s (any.File (files.SealFile f)))
+  seal_file_no f e = (grind arith, grind arith)

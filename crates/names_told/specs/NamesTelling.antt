@@ -104,7 +104,7 @@ RenameBefore h op c (renaming.Release r) = Unit {0}
 -- the root, to which a path without names led, or what was seen under the path's last name
 abbrev pub SealBefore : List Event → OpId → Command → Seal → Type 0
 SealBefore h op c (sealing.Find k) = CameTo h op c k.dir (operation.Seal (Some k.name))
-SealBefore h op c (sealing.Node n) = SealsDir h op c n ⊎ SealsFound h op c n
+SealBefore h op c (sealing.Close n) = SealsDir h op c n ⊎ SealsFound h op c n
 
 -- ---- all of them
 
@@ -160,7 +160,7 @@ rename_left (renaming.Release r) = release_left r
 -- a look, and the seal
 abbrev pub seal_left : Seal → Many
 seal_left (sealing.Find k) = record { looks = 1; others = 1 }
-seal_left (sealing.Node n) = others 1
+seal_left (sealing.Close n) = others 1
 
 -- ---- all of them
 

@@ -77,7 +77,7 @@ plain_file_answer place f (TokenChanged None) l = l
 plain_file_answer place f (TokenChanged (Some now)) l = l
 plain_file_answer place f _ l = l
 
-plain_file_refused : (place : Place) (f : FileId) (x : AnyReply) → ¬ IsLack (file_refusal place f x)
+pub plain_file_refused : (place : Place) (f : FileId) (x : AnyReply) → ¬ IsLack (file_refusal place f x)
 plain_file_refused place f (any.File (files.Refused why)) = plain_file_answer place f why
 plain_file_refused place f _ = λ l. l
 

@@ -64,6 +64,7 @@ operation_so c m op (states.Append s) q x so =
     append_so (append_hears (request_place c q) op number s x) (stays_of_one_block (request_place c q) op number x s so)
 operation_so c m op (states.Blocks s) q x so = any_so states.Blocks (λ t. tt) _
 operation_so c m op (states.Read s) q x so = any_so states.Read (λ t. tt) _
+operation_so c m op (states.Seal s) q x so = any_so states.Seal (λ t. tt) _
 
 begin_so : (o : Operation) (d : DirId) → IsOfOneBlock (begins_in o d)
 begin_so (operation.Look n) d = tt
@@ -74,6 +75,7 @@ begin_so (operation.Rename from to) d = tt
 begin_so (operation.Open path n) d = tt
 begin_so (operation.Blocks n) d = tt
 begin_so (operation.Read n) d = tt
+begin_so (operation.Seal n) d = tt
 
 walk_so : (d : DirId) (ns : List (List ℕ)) (o : Operation) → RunsWithOneBlock (Goes (walk_on begins_in d ns o))
 walk_so d [] o = begin_so o d

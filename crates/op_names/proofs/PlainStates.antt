@@ -20,7 +20,7 @@ use Rattle.store_rules.specs.declared.any.AnyReply.{AnyReply}
 use Rattle.store_rules.specs.declared.any.AnyReply.TheVariants as any
 use Rattle.store_rules.specs.Names.{key_in}
 use Rattle.store_rules.specs.Places.{request_place}
-use Rattle.store_rules.specs.Views.{as_found, as_parent, as_listing, is_made, is_granted, as_bound, as_unbound, as_swapped}
+use Rattle.store_rules.specs.Views.{as_found, as_parent, as_listing, is_made, is_granted, is_sealed, as_bound, as_unbound, as_swapped}
 use Rattle.tect_calls.specs.declared.tokens.Freed.{Freed}
 use Rattle.tect_calls.specs.Readings.{bound_freed, unbound_freed, swapped_freed}
 use Rattle.program_forms.specs.Lacks.{IsLack}
@@ -40,6 +40,8 @@ use Rattle.program_rules.specs.declared.states.Delete.{Delete}
 use Rattle.program_rules.specs.declared.states.Delete.TheVariants as deleting
 use Rattle.program_rules.specs.declared.states.Rename.{Rename}
 use Rattle.program_rules.specs.declared.states.Rename.TheVariants as renaming
+use Rattle.program_rules.specs.declared.states.Seal.{Seal}
+use Rattle.program_rules.specs.declared.states.Seal.TheVariants as sealing
 use Rattle.program_rules.specs.declared.operation.Operation.{Operation}
 use Rattle.program_rules.specs.declared.operation.Operation.TheVariants as operation
 use Rattle.program_rules.specs.declared.operation.OperationState.{OperationState}
@@ -50,10 +52,11 @@ use Rattle.program_rules.specs.List.{listed}
 use Rattle.program_rules.specs.Make.{bound, make_hears}
 use Rattle.program_rules.specs.Delete.{unbound, delete_hears}
 use Rattle.program_rules.specs.Rename.{to_grant, found_old, swapped, rename_hears}
+use Rattle.program_rules.specs.Seal.{found, seal_refusal, sealed, seal_hears}
 use Rattle.program_rules.specs.Operations.{begins_in, operations, operation_hears}
 use Rattle.program_rules.specs.Served.{Program, Begun, Walks, Appends, LacksName, WantsFile, begun, started}
 use Rattle.op_files.specs.Plain.{IsPlainNext, IsPlainOpen, IsPlainAppend, IsPlainBlocks, IsPlainRead}
-use Rattle.op_files.proofs.PlainStates.{plain_refused, plain_open, plain_append, plain_append_start, plain_blocks, plain_read}
+use Rattle.op_files.proofs.PlainStates.{plain_refused, plain_file_refused, plain_open, plain_append, plain_append_start, plain_blocks, plain_read}
 use Rattle.op_names.specs.Going.{went_on}
 use Rattle.op_names.specs.Plain.{IsPlainMake, IsPlainDelete, IsPlainRename, IsPlainOperation, IsPlainWalking, IsPlainState}
 
@@ -150,6 +153,22 @@ module _ (place : Place) (x : AnyReply) where
   plain_rename op (renaming.Swap d p n h) plain = plain_swapped d p n h (swapped_freed n (as_swapped x))
   plain_rename op (renaming.Release r) plain = renamed_released r.second r.answer plain
 
+  plain_seal_refused : (n : Node) → ¬ IsLack (seal_refusal place n x)
+  plain_seal_refused (nodes.Dir d) = plain_dir_refused place x
+  plain_seal_refused (nodes.File f) = plain_file_refused place f x
+
+  plain_to_close : (k : Key) (o : Option Node) → IsPlainNext IsAny (found place k x o)
+  plain_to_close k None = plain_refused place k x
+  plain_to_close k (Some n) = tt
+
+  plain_sealed : (n : Node) (b : Bool) → IsPlainNext IsAny (sealed place n x b)
+  plain_sealed n true = λ l. l
+  plain_sealed n false = plain_seal_refused n
+
+  plain_seal : (s : Seal) → IsPlainNext IsAny (seal_hears place s x)
+  plain_seal (sealing.Find k) = plain_to_close k (as_found x)
+  plain_seal (sealing.Close n) = plain_sealed n (is_sealed x)
+
 plain_operation : (c : Counts) (m : Memory) (op : OpId) (s : OperationState) (q : AnyReq) (x : AnyReply) → IsPlainOperation s
     → IsPlainNext IsPlainOperation (operation_hears c m op s q x)
 plain_operation c m op (states.Look s) q x plain =
@@ -172,6 +191,8 @@ plain_operation c m op (states.Blocks s) q x plain =
     plain_within states.Blocks IsPlainBlocks IsPlainOperation (λ t p. tt) _ (plain_blocks (request_place c q) x s)
 plain_operation c m op (states.Read s) q x plain =
     plain_within states.Read IsPlainRead IsPlainOperation (λ t p. tt) _ (plain_read (request_place c q) x s)
+plain_operation c m op (states.Seal s) q x plain =
+    plain_within states.Seal IsAny IsPlainOperation (λ t p. tt) _ (plain_seal (request_place c q) x s)
 
 -- ---- walks
 
@@ -184,6 +205,7 @@ plain_begin (operation.Rename from to) d = tt
 plain_begin (operation.Open path n) d = tt
 plain_begin (operation.Blocks n) d = tt
 plain_begin (operation.Read n) d = tt
+plain_begin (operation.Seal n) d = tt
 
 plain_walk : (d : DirId) (ns : List (List ℕ)) (o : Operation) → IsPlainWalking (walk_on begins_in d ns o)
 plain_walk d [] o = plain_begin o d

@@ -17,7 +17,7 @@ pub fn start(name: Option<Name>, dir: DirId) -> Seal
     ensures { result ≡ seal_starts name dir }
 {
     match name {
-        None => Seal::Node {
+        None => Seal::Close {
             node: Node::Dir(dir),
         },
         Some(name) => Seal::Find {
@@ -32,7 +32,7 @@ pub fn ask(seal: &Seal) -> Result<Asked, NoMemory>
 {
     match seal {
         Seal::Find { key } => Ok(name_look(key.clone()?)),
-        Seal::Node { node } => Ok(ask_node(*node)),
+        Seal::Close { node } => Ok(ask_node(*node)),
     }
 }
 
@@ -54,7 +54,7 @@ pub fn hear(seal: Seal, memory: &Memory, reply: &AnyReply) -> Next<Seal, Answer>
             let place = place_of_dir(memory, key.dir);
             hear_look(key, place, reply)
         }
-        Seal::Node { node } => hear_seal(node, place_of_node(memory, node), reply),
+        Seal::Close { node } => hear_seal(node, place_of_node(memory, node), reply),
     }
 }
 
@@ -66,7 +66,7 @@ fn hear_look(key: Key, place: Place, reply: &AnyReply) -> Next<Seal, Answer>
             result: refused(place, key, reply),
         },
         Some(node) => Next::Goes {
-            state: Seal::Node { node },
+            state: Seal::Close { node },
         },
     }
 }

@@ -69,9 +69,9 @@ pub enum Rename {
     Release(Releasing),
 }
 
-/// A directory or a file is found and sealed; of a path without names the root.
+/// A directory or a file is found by its name, and sealed; of a path without names the root is sealed.
 #[derive(Drop)]
 pub enum Seal {
     Find { key: Key },
-    Node { node: Node },
+    Close { node: Node },
 }

@@ -40,7 +40,7 @@ use Rattle.claim_words.specs.Points.{way, of_op, Walked, StopsWalk, Finds, Lists
 use Rattle.claim_words.specs.TreeSteps.{Told, tree_steps}
 use Rattle.claim_words.specs.Points as looks
 use Rattle.claim_words.specs.Points.{OpenDecides, AppendDecides, BlocksDecides, ReadDecides, ListsBlocks, Attaches, file_key}
-use Rattle.claim_words.specs.Points.{MkdirDecides, DeleteDecides, RenameDecides, Decides, DecidesAt, Point, LacksName}
+use Rattle.claim_words.specs.Points.{MkdirDecides, DeleteDecides, RenameDecides, SealDecides, Decides, DecidesAt, Point, LacksName}
 use Rattle.claim_words.specs.Because.{because}
 use Rattle.claim_words.specs.FilesBecause.{files_because}
 use Rattle.claim_words.specs.Headline.{command_of, Explains, HadNoRoom, Headline}
@@ -166,6 +166,14 @@ append_well : (bytes : List ℕ) (s : TreeStep) (v : StepValue) (a : Answer) →
 append_well bytes (step.Attach f token b content) v a h = attaches_well (file_key f) b v a h.1
 append_well bytes s v a h = absurd h
 
+seal_well : (own : List Told) (d : DirId) (p : List (List ℕ)) (s : TreeStep) (v : StepValue) (a : Answer) → SealDecides own d p s (Ok v) a
+    → Succeeds a
+seal_well own d [] (step.SealDir e) v a h = succeeds_as a answers.Done h.1 tt
+seal_well own d (n ∷ ns) (step.Look k) v a h = absurd h.1
+seal_well own d (n ∷ ns) (step.SealDir e) v a h = succeeds_as a answers.Done h.1 tt
+seal_well own d (n ∷ ns) (step.SealFile f) v a h = succeeds_as a answers.Done h.1 tt
+seal_well own d p s v a h = absurd h
+
 -- where it leads to a file, what it was shown is no directory
 abbrev NoDirShown : Command → StepValue → Type 0
 NoDirShown (commands.Open p) v = ShowsNoDir v
@@ -185,6 +193,7 @@ decides_well (commands.Open p) own d s v a clear h = open_well own d p s v a cle
 decides_well (commands.Append p bytes) own d s v a clear h = append_well bytes s v a h
 decides_well (commands.Blocks p) own d s v a clear h = blocks_well own d p s v a clear h
 decides_well (commands.Read p) own d s v a clear h = read_well own d p s v a clear h
+decides_well (commands.Seal p) own d s v a clear h = seal_well own d p s v a h
 decides_well _ own d s v a clear h = absurd h
 
 -- ---- the point among the op's own steps

@@ -45,6 +45,8 @@ use Rattle.program_rules.specs.declared.states.Delete.{Delete}
 use Rattle.program_rules.specs.declared.states.Delete.TheVariants as deleting
 use Rattle.program_rules.specs.declared.states.Rename.{Rename}
 use Rattle.program_rules.specs.declared.states.Rename.TheVariants as renaming
+use Rattle.program_rules.specs.declared.states.Seal.{Seal}
+use Rattle.program_rules.specs.declared.states.Seal.TheVariants as sealing
 use Rattle.program_rules.specs.declared.operation.Operation.{Operation}
 use Rattle.program_rules.specs.declared.operation.Operation.TheVariants as operation
 use Rattle.program_rules.specs.declared.operation.OperationState.{OperationState}
@@ -53,6 +55,7 @@ use Rattle.program_rules.specs.Look.{look_asks}
 use Rattle.program_rules.specs.Make.{make_asks, new_ask}
 use Rattle.program_rules.specs.Delete.{delete_asks}
 use Rattle.program_rules.specs.Rename.{rename_asks, grant_ask}
+use Rattle.program_rules.specs.Seal.{seal_ask, seal_asks}
 use Rattle.program_rules.specs.Operations.{begins_in}
 use Rattle.program_rules.specs.Served.{Begun, Walks, Program, programs, begun, started, last_of, walks_to, walks_to_file, renames}
 use Rattle.fall_laws.specs.Bounding.{one_if}
@@ -93,6 +96,7 @@ begins_none (operation.Delete n) d is = refl
 begins_none (operation.Rename from to) d is = refl
 begins_none (operation.Open path n) d is = refl
 begins_none (operation.Blocks n) d is = refl
+begins_none (operation.Seal n) d is = refl
 begins_none (operation.Read n) d is = absurd (let k : false ≡ true = is in cc)
 
 walks_none : (d : DirId) (ns : List (List ℕ)) (o : Operation) → walks_to_no_read o ≡ true
@@ -125,6 +129,7 @@ module _ (counts : Counts) (m : Memory) where
   starts_none (commands.Open p) is = file_none p (last_of p) (λ n. operation.Open p n) (λ n. refl)
   starts_none (commands.Append p bytes) is = within_reads_none states.Append (λ s. refl) (append_starts counts m p bytes)
   starts_none (commands.Blocks p) is = file_none p (last_of p) (λ n. operation.Blocks n) (λ n. refl)
+  starts_none (commands.Seal p) is = walks_none root (but_last p) (operation.Seal (last_of p)) refl
   starts_none (commands.Read p) is = absurd (let k : false ≡ true = is in cc)
   starts_none c is = refl
 
@@ -148,6 +153,7 @@ stays_none counts m op (Goes (There (states.Rename s))) q x asks is = within_rea
 stays_none counts m op (Goes (There (states.Open s))) q x asks is = within_reads_none states.Open (λ t. refl) _
 stays_none counts m op (Goes (There (states.Append s))) q x asks is = within_reads_none states.Append (λ t. refl) _
 stays_none counts m op (Goes (There (states.Blocks s))) q x asks is = within_reads_none states.Blocks (λ t. refl) _
+stays_none counts m op (Goes (There (states.Seal s))) q x asks is = within_reads_none states.Seal (λ t. refl) _
 stays_none counts m op (Goes (There (states.Read s))) q x asks is = absurd (let k : false ≡ true = is in cc)
 
 -- ---- what it asks
@@ -198,6 +204,14 @@ blocks_none : (s : Blocks) → reads_block (blocks_asks s) ≡ false
 blocks_none (listing.Find k) = refl
 blocks_none (listing.List f) = refl
 
+sealed_none : (n : Node) → reads_block (seal_ask n) ≡ false
+sealed_none (nodes.Dir d) = refl
+sealed_none (nodes.File f) = refl
+
+seal_none : (s : Seal) → reads_block (seal_asks s) ≡ false
+seal_none (sealing.Find k) = refl
+seal_none (sealing.Close n) = sealed_none n
+
 by_ask : (r q : AnyReq) → Some r ≡ Some q → reads_block r ≡ false → one_if (reads_block q) ≡ 0
 by_ask r q asks none = let same : r ≡ q = cc in rw (← same) (rw none refl)
 
@@ -216,4 +230,5 @@ adds_none counts m op p q x asks is = by p (ap (λ (d : Does Answer). asked_by d
     by (Goes (There (states.Open s))) asks is = by_ask _ q asks (open_none op s)
     by (Goes (There (states.Append s))) asks is = by_ask _ q asks (append_none op (object_number op.actor m.serial) s)
     by (Goes (There (states.Blocks s))) asks is = by_ask _ q asks (blocks_none s)
+    by (Goes (There (states.Seal s))) asks is = by_ask _ q asks (seal_none s)
     by (Goes (There (states.Read s))) asks is = absurd (let k : false ≡ true = is in cc)

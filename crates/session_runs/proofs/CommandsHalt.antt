@@ -24,10 +24,11 @@ use Rattle.program_rules.specs.List.{list}
 use Rattle.program_rules.specs.Make.{make}
 use Rattle.program_rules.specs.Delete.{delete}
 use Rattle.program_rules.specs.Rename.{rename}
+use Rattle.program_rules.specs.Seal.{seal}
 use Rattle.program_rules.specs.Operations.{begins_in, operations}
 use Rattle.session_runs.proofs.Standings.{command_part}
 use Rattle.session_runs.proofs.Halting.{Halts, halts, NextHalts, comes_halts, goes_halts, within_halts}
-use Rattle.session_runs.proofs.NamesHalt.{look_halts, list_halts, make_halts, delete_halts, rename_halts}
+use Rattle.session_runs.proofs.NamesHalt.{look_halts, list_halts, make_halts, delete_halts, rename_halts, seal_halts}
 use Rattle.session_runs.proofs.FilesHalt.{open_halts, append_halts, blocks_halts, read_halts}
 
 operation_halts : (s : OperationState) → Halts operations s
@@ -40,6 +41,7 @@ operation_halts (states.Open s) = within_halts opening operations (λ t. states.
 operation_halts (states.Append s) = within_halts append operations (λ t. states.Append t) (λ c m op t q x. refl) s (append_halts s)
 operation_halts (states.Blocks s) = within_halts blocks operations (λ t. states.Blocks t) (λ c m op t q x. refl) s (blocks_halts s)
 operation_halts (states.Read s) = within_halts read operations (λ t. states.Read t) (λ c m op t q x. refl) s (read_halts s)
+operation_halts (states.Seal s) = within_halts seal operations (λ t. states.Seal t) (λ c m op t q x. refl) s (seal_halts s)
 
 there_halts : (s : OperationState) → Halts command_part (There s)
 there_halts s = within_halts operations command_part (λ t. There t) (λ c m op t q x. refl) s (operation_halts s)

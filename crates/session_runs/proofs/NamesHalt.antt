@@ -1,4 +1,4 @@
--- Each operation on names halts.
+-- Each operation on names halts, and a seal.
 use Rattle.std.proofs.Common.{◌≡◌, Bool, true, false, if◌then◌else◌, is_some, ℕ, Option, Some, None, List, refl}
 use Rattle.tect_ids.specs.declared.ids.DirId.{DirId}
 use Rattle.tect_ids.specs.declared.ids.Hold.{Hold}
@@ -13,7 +13,7 @@ use Rattle.tect_ids.specs.Numbers.{own_hold, object_number}
 use Rattle.store_rules.specs.declared.any.AnyReply.{AnyReply}
 use Rattle.store_rules.specs.Names.{key_in}
 use Rattle.store_rules.specs.Places.{request_place}
-use Rattle.store_rules.specs.Views.{as_parent, as_found, as_listing, as_bound, as_unbound, as_swapped, is_made, is_granted}
+use Rattle.store_rules.specs.Views.{as_parent, as_found, as_listing, as_bound, as_unbound, as_swapped, is_made, is_granted, is_sealed}
 use Rattle.tect_calls.specs.declared.tokens.Freed.{Freed}
 use Rattle.tect_calls.specs.Readings.{bound_freed, unbound_freed, swapped_freed}
 use Rattle.program_parts.specs.declared.releasing.Releasing.{Releasing}
@@ -28,12 +28,15 @@ use Rattle.program_rules.specs.declared.states.Delete.{Delete}
 use Rattle.program_rules.specs.declared.states.Delete.TheVariants as deleting
 use Rattle.program_rules.specs.declared.states.Rename.{Rename}
 use Rattle.program_rules.specs.declared.states.Rename.TheVariants as renaming
+use Rattle.program_rules.specs.declared.states.Seal.{Seal}
+use Rattle.program_rules.specs.declared.states.Seal.TheVariants as sealing
 use Rattle.program_rules.specs.NamePairs.{OldAndNew, pair_of}
 use Rattle.program_rules.specs.Look.{look, checked, looked}
 use Rattle.program_rules.specs.List.{list, listed}
 use Rattle.program_rules.specs.Make.{make, node_of, made, bound}
 use Rattle.program_rules.specs.Delete.{delete, unbound}
 use Rattle.program_rules.specs.Rename.{rename, to_grant, found_old, granted, swapped}
+use Rattle.program_rules.specs.Seal.{seal, found, sealed}
 use Rattle.session_runs.proofs.Halting.{Halts, halts, NextHalts, comes_halts, goes_halts, within_halts, releasing_halts, released_halts}
 
 -- ---- look and list
@@ -130,3 +133,20 @@ rename_halts (renaming.Find d from to) = halts _ (λ c m op q x. found_halts (re
 rename_halts (renaming.Grant d p n) = grant_halts d p n
 rename_halts (renaming.Swap d p n h) = swap_halts d p n h
 rename_halts (renaming.Release r) = rename_releases r
+
+-- ---- seal
+
+sealed_halts : (place : Place) (n : Node) (x : AnyReply) (b : Bool) → NextHalts seal (sealed place n x b)
+sealed_halts place n x true = comes_halts seal _
+sealed_halts place n x false = comes_halts seal _
+
+close_halts : (n : Node) → Halts seal (sealing.Close n)
+close_halts n = halts _ (λ c m op q x. sealed_halts (request_place c q) n x (is_sealed x))
+
+to_close_halts : (place : Place) (k : Key) (x : AnyReply) (o : Option Node) → NextHalts seal (found place k x o)
+to_close_halts place k x None = comes_halts seal _
+to_close_halts place k x (Some n) = goes_halts seal _ (close_halts n)
+
+pub seal_halts : (s : Seal) → Halts seal s
+seal_halts (sealing.Find k) = halts _ (λ c m op q x. to_close_halts (request_place c q) k x (as_found x))
+seal_halts (sealing.Close n) = close_halts n

@@ -40,6 +40,7 @@ module _ (counts : Counts) (m : Memory) (op : OpId) where
   turned_same (next.Goes (walks.There (states.Append s))) = refl
   turned_same (next.Goes (walks.There (states.Blocks s))) = refl
   turned_same (next.Goes (walks.There (states.Read s))) = refl
+  turned_same (next.Goes (walks.There (states.Seal s))) = refl
 
   none_kept : (h : Heard) (ls : List Learnt) → ls ≡ [] → kept_of h ls ≡ []
   none_kept hearing.Whole ls e = e
