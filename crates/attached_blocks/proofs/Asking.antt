@@ -106,8 +106,8 @@ module _ (counts : Counts) (h : List Event) (op : OpId) (c : Command) where
 
   seal_owes : (s : Seal) → Owes counts h op c (seal_asks s)
   seal_owes (sealing.Find k) = tt
-  seal_owes (sealing.Node (nodes.Dir d)) = tt
-  seal_owes (sealing.Node (nodes.File f)) = tt
+  seal_owes (sealing.Close (nodes.Dir d)) = tt
+  seal_owes (sealing.Close (nodes.File f)) = tt
 
   -- ---- of a running command
 
