@@ -64,12 +64,15 @@ module _ {S : Type 0} (P : Programs S) (knows : RequestsOwe P) (counts : Counts)
 
   rows_after : (h es : List Event) → IsWorldRun P counts (h ++ es) → rows_of es b ≡ Some rows → Enough counts b rows
   rows_after h [] run is = no_rows counts b rows is
-  rows_after h (e ∷ es) run is = by (rows_by e b) refl is
+  rows_after h (e ∷ es) run is =
+      let again : IsWorldRun P counts ((h ++ e ∷ []) ++ es) =
+      subst (λ (l : List Event). IsWorldRun P counts l) (sym (append_assoc h (e ∷ []) es)) run in
+      by (rows_after (h ++ e ∷ []) es again) (rows_by e b) refl is
     where
-      by : (o : Option (List NewRow)) → rows_by e b ≡ o → or_later o (rows_of es b) ≡ Some rows → Enough counts b rows
-      by None now later =
-          rows_after (h ++ e ∷ []) es (subst (λ (l : List Event). IsWorldRun P counts l) (sym (append_assoc h (e ∷ []) es)) run) later
-      by (Some found) now first = event_rows h es e run (now ∙ first)
+      by : (rows_of es b ≡ Some rows → Enough counts b rows) → (o : Option (List NewRow)) → rows_by e b ≡ o
+          → or_later o (rows_of es b) ≡ Some rows → Enough counts b rows
+      by rest None now later = rest later
+      by rest (Some found) now first = event_rows h es e run (now ∙ first)
 
   pub made_with_copies : (es : List Event) → IsWorldRun P counts es → rows_of es b ≡ Some rows → length rows ≡ copies_needed counts
   made_with_copies es run is = rows_after [] es run is
