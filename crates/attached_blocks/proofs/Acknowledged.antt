@@ -31,7 +31,7 @@ use Rattle.world_runs.specs.OwnRuns.{RepliesAre, stored_after}
 use Rattle.whole_runs.proofs.Owns.{replies_from_run, store_is_after}
 use Rattle.claim_words.specs.Attached.{HasRow, IsWhole, AttachedBlocksStand, rows_of}
 use Rattle.claim_words.specs.Commands.{begun_by, or_later, command_of, content_of}
-use Rattle.run_laws.specs.Pasts.{ghosts, world}
+use Rattle.run_laws.specs.Pasts.{world}
 use Rattle.run_laws.proofs.RunsKeep.{run_world_sound}
 use Rattle.telling_laws.specs.Telling.{tree_of}
 use Rattle.telling_laws.proofs.Contents.{content_stays}

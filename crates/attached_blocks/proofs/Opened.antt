@@ -1,5 +1,5 @@
 -- a block is to be attached to the file, and with the token, that its op's actor had opened last at its path as the op began
-use Rattle.std.proofs.Common.{◌≡◌, Some, List, ◌∷◌, ◌++◌, sym, ap, subst, ◌∙◌}
+use Rattle.std.proofs.Common.{Some, List, ◌∷◌, ◌++◌, sym, ap, subst, ◌∙◌}
 use Rattle.tect_ids.specs.declared.ids.Counts.{Counts}
 use Rattle.tect_ids.specs.declared.command.Command.{Command}
 use Rattle.tect_ids.specs.declared.command.Command.TheVariants as commands

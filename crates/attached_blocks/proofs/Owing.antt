@@ -1,5 +1,5 @@
 -- what is owed of each request of a running op: of one that attaches a block, that writes a token, or that makes a block
-use Rattle.std.proofs.Common.{◌≡◌, ℕ, Some, None, List, [], ◌∷◌, ◌++◌, length}
+use Rattle.std.proofs.Common.{◌≡◌, ℕ, Some, None, List, ◌∷◌, ◌++◌, length}
 use Rattle.tect_ids.specs.declared.ids.BlkId.{BlkId}
 use Rattle.tect_ids.specs.declared.ids.Counts.{Counts}
 use Rattle.tect_ids.specs.declared.ids.FileId.{FileId}

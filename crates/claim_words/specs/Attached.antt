@@ -1,6 +1,6 @@
 -- Blocks that were attached to files: their rows stand, and each block is whole. To which file, and with which token, a block is attached;
 -- and which token a file has.
-use Rattle.std.specs.Prelude.{◌≡◌, ℕ, Bool, true, false, if◌then◌else◌, Option, Some, None, List, [], ◌∷◌, ◌++◌, length}
+use Rattle.std.specs.Prelude.{◌≡◌, ℕ, Bool, true, if◌then◌else◌, Option, Some, None, List, [], ◌∷◌, ◌++◌, length}
 use Rattle.std.specs.List.{slice_get}
 use Rattle.std.specs.FinMap.{get, len}
 use Rattle.tect_ids.specs.declared.ids.BlkId.{BlkId}

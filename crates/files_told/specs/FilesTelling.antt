@@ -1,7 +1,7 @@
 -- What the history tells of each command on the contents of files before its answer is decided, and what explains the answer; and how many
 -- transactions such a command takes behind its walk.
-use Rattle.std.specs.Prelude.{◌≡◌, ℕ, ◌+◌, ◌-◌, true, Option, Some, None, is_some, List, [], take, length, ◌⊎◌}
-use Rattle.std.specs.List.{slice_get, filter, flat_map}
+use Rattle.std.specs.Prelude.{◌≡◌, ℕ, ◌+◌, ◌-◌, true, Some, is_some, List, [], take, length, ◌⊎◌}
+use Rattle.std.specs.List.{slice_get, flat_map}
 use Rattle.tect_ids.specs.declared.ids.BlkId.{BlkId}
 use Rattle.tect_ids.specs.declared.ids.Counts.{Counts}
 use Rattle.tect_ids.specs.declared.ids.DirId.{DirId}

@@ -1,17 +1,10 @@
 -- a run within its limits is all that is claimed of a history
-use Rattle.std.proofs.Common.{◌≡◌, ◌≢◌, ℕ, Some, List, take, ap, subst, ◌∙◌}
-use Rattle.std.specs.List.{slice_get}
+use Rattle.std.proofs.Common.{List, take, subst}
 use Rattle.tect_ids.specs.declared.ids.Counts.{Counts}
-use Rattle.tect_ids.specs.declared.ids.OpId.{OpId}
-use Rattle.tect_ids.specs.declared.ids.Place.{Place}
-use Rattle.tect_ids.specs.declared.answer.Answer.{Answer}
-use Rattle.tect_ids.specs.declared.answer.Answer.TheVariants.{Odd}
-use Rattle.program_rules.specs.Served.{Program, programs}
+use Rattle.program_rules.specs.Served.{programs}
 use Rattle.world_runs.specs.declared.event.Event.{Event}
-use Rattle.world_runs.specs.declared.event.Event.TheVariants.{Own}
-use Rattle.world_runs.specs.declared.event.Happening.TheVariants.{Ended}
-use Rattle.world_runs.specs.Moments.{WorldState, May, IsWorldRun, moment, opening}
-use Rattle.whole_runs.proofs.Fronts.{front_runs, may_at}
+use Rattle.world_runs.specs.Moments.{IsWorldRun, opening}
+use Rattle.whole_runs.proofs.Fronts.{front_runs}
 use Rattle.claim_words.specs.Commands.{content_in}
 use Rattle.claim_words.specs.Sound.{AfterEachFront}
 use Rattle.telling_laws.specs.View.{Shows}
