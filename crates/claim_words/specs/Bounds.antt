@@ -9,8 +9,8 @@ use Rattle.tect_ids.specs.declared.command.Command.TheVariants as commands
 use Rattle.store_rules.specs.declared.any.AnyReply.{AnyReply}
 use Rattle.store_rules.specs.Views.{as_block_list, as_location}
 
--- An open, a listing of blocks and a seal take one: what was found is asked. An append makes its block, puts each copy, seals and attaches it, and may
--- release its hold. A read takes one, and then what the blocks that it lists take. Others take at most four.
+-- An open, a listing of blocks and a seal take one: what was found is asked. An append makes its block, puts each copy, seals and attaches
+-- it, and may release its hold. A read takes one, and then what the blocks that it lists take. Others take at most four.
 abbrev pub most_others : Counts → Command → ℕ
 most_others counts (commands.Open p) = 1
 most_others counts (commands.Blocks p) = 1

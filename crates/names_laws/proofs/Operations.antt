@@ -6,7 +6,8 @@ use Rattle.program_forms.specs.Memories.{Memory}
 use Rattle.program_rules.specs.declared.operation.Operation.{Operation}
 use Rattle.program_rules.specs.declared.operation.Operation.TheVariants as operation
 use Rattle.program_rules.specs.declared.operation.OperationState.{OperationState}
-use Rattle.program_rules.specs.declared.operation.OperationState.TheVariants.{Look, List, Make, Delete, Rename, Open, Append, Blocks, Read, Seal}
+use Rattle.program_rules.specs.declared.operation.OperationState.TheVariants.{Look, List, Make, Delete, Rename, Open, Append, Blocks, Read}
+use Rattle.program_rules.specs.declared.operation.OperationState.TheVariants.{Seal}
 use Rattle.program_rules.specs.Operations.{begins_in, operations, operation_decided}
 use Rattle.store_pasts.specs.Worlds.{World}
 use Rattle.part_laws.specs.Parts.{PartLaws}

@@ -1,7 +1,5 @@
 -- sealing: what the name leads to is found, and then sealed; that needs no hold
-use Rattle.std.proofs.Common.{◌≡◌, Bool, true, false, Option, Some, None, refl, arith}
-use Rattle.tect_ids.specs.declared.ids.DirId.{DirId}
-use Rattle.tect_ids.specs.declared.ids.FileId.{FileId}
+use Rattle.std.proofs.Common.{◌≡◌, Bool, true, false, Option, Some, None, refl}
 use Rattle.tect_ids.specs.declared.ids.Node.{Node}
 use Rattle.tect_ids.specs.declared.ids.Node.TheVariants as nodes
 use Rattle.tect_ids.specs.declared.ids.OpId.{OpId}
@@ -14,11 +12,10 @@ use Rattle.store_rules.specs.declared.any.AnyReq.{AnyReq}
 use Rattle.store_rules.specs.declared.any.AnyReq.TheVariants as any
 use Rattle.store_rules.specs.declared.any.AnyReply.{AnyReply}
 use Rattle.store_rules.specs.Places.{request_place}
-use Rattle.store_rules.specs.Store.{Store, store_reply}
+use Rattle.store_rules.specs.Store.{store_reply}
 use Rattle.store_rules.specs.Views.{as_found, is_sealed}
 use Rattle.program_forms.specs.Memories.{Memory}
-use Rattle.program_parts.specs.Refused.{refusal, dir_refusal}
-use Rattle.file_rules.specs.Finds.{file_refusal}
+use Rattle.program_parts.specs.Refused.{refusal}
 use Rattle.program_rules.specs.declared.states.Seal.{Seal}
 use Rattle.program_rules.specs.declared.states.Seal.TheVariants.{Find, Close}
 use Rattle.program_rules.specs.Seal.{seal, seal_decided, found, seal_refusal, sealed}
@@ -28,7 +25,8 @@ use Rattle.program_laws.specs.Known.{Deciding, Known, IsNewOp, is_odd}
 use Rattle.part_laws.specs.Parts.{PartLaws, NextKnows, next_decided}
 use Rattle.part_laws.proofs.States.{LawsIn, WaitsAt, part_laws, waits}
 use Rattle.part_laws.proofs.Own.{nothing_own, plain, no_hold, new_stays, new_untouched}
-use Rattle.part_laws.proofs.Refused.{look_not_odd}
+use Rattle.part_laws.proofs.Refused.{look_not_odd, seal_not_odd as dir_not_odd}
+use Rattle.file_laws.proofs.Finds.{seal_not_odd as file_not_odd}
 
 -- its op has no hold
 abbrev pub seal_known : Known Seal Answer
@@ -36,17 +34,6 @@ seal_known = record { Knows = λ w op m s. IsNewOp w op; Ends = λ w a. is_odd a
 
 abbrev pub seal_deciding : Deciding Seal Answer
 seal_deciding = record { decided = seal_decided }
-
--- ---- no refusal is odd
-
-module _ (s : Store) (place : Place) where
-  dir_not_odd : (d : DirId) → is_sealed (store_reply s (any.Name (names.SealDir d))) ≡ false
-      → is_odd (dir_refusal place (store_reply s (any.Name (names.SealDir d)))) ≡ false
-  dir_not_odd d none = grind arith
-
-  file_not_odd : (f : FileId) → is_sealed (store_reply s (any.File (files.SealFile f))) ≡ false
-      → is_odd (file_refusal place f (store_reply s (any.File (files.SealFile f)))) ≡ false
-  file_not_odd f none = grind arith
 
 -- ---- at the reply
 
@@ -102,7 +89,7 @@ close_waits (nodes.File f) = record {
   goes_on = λ c w op m n r a new kept serial.
       let q : AnyReq = any.File (files.SealFile f) in
       let x : AnyReply = store_reply w.store q in
-      sealed_knows (next w q) op n (request_place c q) x (nodes.File f) (is_sealed x) (file_not_odd w.store (request_place c q) f);
+      sealed_knows (next w q) op n (request_place c q) x (nodes.File f) (is_sealed x) (file_not_odd w.store (request_place c q) f f);
   learns = λ c w op m r a new kept. tt;
   spends = λ c w op m r a new x h g now own is live. absurd (no_hold w op new h g own is);
   grants = λ c w op m r a new kept h free touched granted. absurd (let f : false ≡ true = touched in cc);

@@ -51,7 +51,8 @@ use Rattle.fall_laws.proofs.PartsFall.{falls_within, walk_on_left, walk_falls, p
 use Rattle.files_told.specs.FilesTelling.{open_left, append_left, blocks_left, read_left, read_grows}
 use Rattle.files_told.proofs.Begins.{append_leaves_as_it_begins}
 use Rattle.files_told.proofs.Falls.{open_falls, append_falls, blocks_fall, read_falls}
-use Rattle.names_told.specs.NamesTelling.{others, look_left, list_left, make_left, delete_left, rename_left, seal_left, asked_left, reads_block}
+use Rattle.names_told.specs.NamesTelling.{others, look_left, list_left, make_left, delete_left, rename_left, seal_left, asked_left}
+use Rattle.names_told.specs.NamesTelling.{reads_block}
 use Rattle.names_told.specs.NamesTelling.{reading_adds, operation_left, most_of, commands_bounding, names_bounding, reading_bounding}
 use Rattle.names_told.proofs.NamesFall.{nothing, look_at, list_at, make_at, delete_at, rename_at, seal_at}
 

@@ -137,7 +137,8 @@ module _ (counts : Counts) where
     here_tells (Dir d) here run =
         let same : d ≡ here.dir = let is : Dir d ≡ Dir here.dir = here.here in cc in
         dir_sealed d (key_in here.dir []) _ refl
-        (λ a is. decided_now counts h op c (seal_ask (Dir d)) how (step.SealDir d) refl here.dir (operation.Seal None) a here.came run (same, is))
+        (λ a is. decided_now counts h op c (seal_ask (Dir d)) how (step.SealDir d) refl here.dir (operation.Seal None) a here.came run
+        (same, is))
     here_tells (File f) here run = absurd (let is : File f ≡ Dir here.dir = here.here in cc)
 
     -- it was found
@@ -145,12 +146,12 @@ module _ (counts : Counts) where
         → NextTells seal_deciding seal_telling (then_sealed n) op c (sealed place n (sealing n) (is_sealed (sealing n)))
     seen_tells (Dir d) was run =
         dir_sealed d (key_in was.dir was.name) _ refl
-        (λ a is. decided_now counts h op c (seal_ask (Dir d)) how (step.SealDir d) refl was.dir (operation.Seal (Some was.name)) a was.came run
-        (λ m ms last. rw last (was.seen, is)))
+        (λ a is. decided_now counts h op c (seal_ask (Dir d)) how (step.SealDir d) refl was.dir (operation.Seal (Some was.name)) a
+        was.came run (λ m ms last. rw last (was.seen, is)))
     seen_tells (File f) was run =
         file_sealed f _ refl
-        (λ a is. decided_now counts h op c (seal_ask (File f)) how (step.SealFile f) refl was.dir (operation.Seal (Some was.name)) a was.came run
-        (λ m ms last. rw last (was.seen, is)))
+        (λ a is. decided_now counts h op c (seal_ask (File f)) how (step.SealFile f) refl was.dir (operation.Seal (Some was.name)) a
+        was.came run (λ m ms last. rw last (was.seen, is)))
 
     sealed_tells : (n : Node) → SealBefore h op c (Close n) → Allows h (act_at h op (seal_ask n) how)
         → NextTells seal_deciding seal_telling (then_sealed n) op c (sealed place n (sealing n) (is_sealed (sealing n)))

@@ -56,7 +56,8 @@ use Rattle.program_rules.specs.Seal.{found, seal_refusal, sealed, seal_hears}
 use Rattle.program_rules.specs.Operations.{begins_in, operations, operation_hears}
 use Rattle.program_rules.specs.Served.{Program, Begun, Walks, Appends, LacksName, WantsFile, begun, started}
 use Rattle.op_files.specs.Plain.{IsPlainNext, IsPlainOpen, IsPlainAppend, IsPlainBlocks, IsPlainRead}
-use Rattle.op_files.proofs.PlainStates.{plain_refused, plain_file_refused, plain_open, plain_append, plain_append_start, plain_blocks, plain_read}
+use Rattle.op_files.proofs.PlainStates.{plain_refused, plain_file_refused}
+use Rattle.op_files.proofs.PlainStates.{plain_open, plain_append, plain_append_start, plain_blocks, plain_read}
 use Rattle.op_names.specs.Going.{went_on}
 use Rattle.op_names.specs.Plain.{IsPlainMake, IsPlainDelete, IsPlainRename, IsPlainOperation, IsPlainWalking, IsPlainState}
 

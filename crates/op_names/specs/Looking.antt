@@ -7,7 +7,8 @@ use Rattle.program_forms.specs.Kinds.{Turned, turned}
 use Rattle.program_calls.specs.Keeping.{KeepsSerial}
 use Rattle.program_parts.specs.declared.next.Next.TheVariants.{Goes, Comes}
 use Rattle.program_parts.specs.declared.walking.Walking.TheVariants.{Way, There}
-use Rattle.program_rules.specs.declared.operation.OperationState.TheVariants.{Look, List, Make, Delete, Rename, Open, Append, Blocks, Read, Seal}
+use Rattle.program_rules.specs.declared.operation.OperationState.TheVariants.{Look, List, Make, Delete, Rename, Open, Append, Blocks, Read}
+use Rattle.program_rules.specs.declared.operation.OperationState.TheVariants.{Seal}
 use Rattle.program_rules.specs.Served.{Program, programs}
 
 -- what an actor knows, and where its command stands
