@@ -1,11 +1,10 @@
 -- a block that was attached stands, whole, in every run of programs whose attaches are of appends
-use Rattle.std.proofs.Common.{◌≡◌, ◌≤◌, ℕ, Option, Some, None, List, [], ◌∷◌, ◌++◌, length, refl, sym, ap, subst, ◌∙◌, append_assoc}
+use Rattle.std.proofs.Common.{◌≡◌, ℕ, Option, Some, None, List, [], ◌∷◌, ◌++◌, length, refl, sym, ap, subst, ◌∙◌, append_assoc}
 use Rattle.std.proofs.lemmas.List.{append-nil}
 use Rattle.std.specs.FinMap.{get, len}
 use Rattle.tect_ids.specs.declared.ids.BlkId.{BlkId}
 use Rattle.tect_ids.specs.declared.ids.Counts.{Counts}
 use Rattle.tect_ids.specs.declared.ids.FileId.{FileId}
-use Rattle.tect_ids.specs.declared.ids.Hold.{Hold}
 use Rattle.tect_ids.specs.declared.ids.OpId.{OpId}
 use Rattle.tect_ids.specs.declared.values.NewRow.{NewRow}
 use Rattle.tect_ids.specs.declared.command.Command.{Command}
@@ -13,31 +12,26 @@ use Rattle.tect_ids.specs.declared.command.Command.TheVariants as commands
 use Rattle.tect_ids.specs.declared.answer.Answer.{Answer}
 use Rattle.store_rules.specs.declared.blocks.Block.{Block}
 use Rattle.store_rules.specs.declared.files.File.{File}
-use Rattle.store_rules.specs.declared.files.FileReq.TheVariants as files
 use Rattle.store_rules.specs.declared.file_rows.FileRow.{FileRow}
-use Rattle.store_rules.specs.declared.any.AnyReq.TheVariants as any
-use Rattle.store_rules.specs.declared.any.AnyReply.{AnyReply}
+use Rattle.store_rules.specs.declared.any.AnyReq.{AnyReq}
 use Rattle.store_rules.specs.Store.{Store, opening_store}
-use Rattle.store_pasts.specs.Contents.{Born, born_count, row_in}
+use Rattle.store_pasts.specs.Contents.{row_in}
 use Rattle.store_pasts.specs.Ghosts.{World}
 use Rattle.store_pasts.specs.Pasts.{row_at}
 use Rattle.store_world.specs.Acknowledged.{IsWholeBlock}
 use Rattle.store_world.specs.Sound.{Sound}
 use Rattle.store_world.proofs.Acknowledged.{row_is_whole}
 use Rattle.tree_model.specs.Tree.{opening_tree}
-use Rattle.program_forms.specs.declared.heard.Heard.{Heard}
 use Rattle.program_forms.specs.Kinds.{Programs}
 use Rattle.program_laws.specs.Known.{Deciding, Known}
 use Rattle.program_laws.specs.Laws.{ProgramLaws}
 use Rattle.world_runs.specs.declared.event.Event.{Event}
-use Rattle.world_runs.specs.declared.event.Event.TheVariants.{Own}
-use Rattle.world_runs.specs.declared.event.Happening.TheVariants.{Acted}
 use Rattle.world_runs.specs.Moments.{opening, IsWorldRun, moment}
 use Rattle.world_runs.specs.OwnRuns.{RepliesAre, stored_after}
 use Rattle.whole_runs.proofs.Owns.{replies_from_run, store_is_after}
 use Rattle.claim_words.specs.Attached.{HasRow, IsWhole, AttachedBlocksStand, rows_of}
 use Rattle.claim_words.specs.Commands.{begun_by, or_later, command_of, content_of}
-use Rattle.run_laws.specs.Pasts.{ghosts, world}
+use Rattle.run_laws.specs.Pasts.{world}
 use Rattle.run_laws.proofs.RunsKeep.{run_world_sound}
 use Rattle.telling_laws.specs.Telling.{tree_of}
 use Rattle.telling_laws.proofs.Contents.{content_stays}
@@ -45,26 +39,13 @@ use Rattle.telling_laws.proofs.Histories.{command_more}
 use Rattle.tree_runs.proofs.Contents.{told_content}
 use Rattle.tree_runs.proofs.Tracks.{Tracks, opening_tracks, run_tracked}
 use Rattle.attached_blocks.proofs.Born.{born_rows, rows_told}
-use Rattle.attached_blocks.proofs.Rows.{attaching, row_stands}
-
--- ---- what an attach tells
-
--- the op's command appends these bytes, and they are the block's
-pub record Appends (h : List Event) (op : OpId) (b : BlkId) : Type 0 where
-  pub path : List (List ℕ)
-  pub bytes : List ℕ
-  pub command : command_of h op ≡ Some (commands.Append path bytes)
-  pub content : content_of h b ≡ Some bytes
-
--- in each run, an op that attaches a block appends its bytes
-abbrev pub AttachesAreAppends : {S : Type 0} → Programs S → Type 0
-AttachesAreAppends P =
-    (counts : Counts) (h es : List Event) (op : OpId) (f : FileId) (t : OpId) (b : BlkId) (n : ℕ) (hold : Hold) (x : AnyReply) (how : Heard)
-    → IsWorldRun P counts (h ++ Own op (Acted (any.File (files.Attach f t b n hold)) x how) ∷ es) → Appends h op b
+use Rattle.attached_blocks.proofs.Copies.{made_with_copies}
+use Rattle.attached_blocks.proofs.Owing.{IsAppend, Owing, RequestsOwe}
+use Rattle.attached_blocks.proofs.Rows.{asked, attaching, row_stands}
 
 -- ---- command and content are the same later
 
-command_lasts : (h es : List Event) (op : OpId) (c : Command) → command_of h op ≡ Some c → command_of (h ++ es) op ≡ Some c
+pub command_lasts : (h es : List Event) (op : OpId) (c : Command) → command_of h op ≡ Some c → command_of (h ++ es) op ≡ Some c
 command_lasts h [] op c is = rw append-nil is
 command_lasts h (e ∷ es) op c is =
     subst (λ (l : List Event). command_of l op ≡ Some c) (append_assoc h (e ∷ []) es)
@@ -75,14 +56,6 @@ content_lasts h [] b bytes is = rw append-nil is
 content_lasts h (e ∷ es) b bytes is =
     subst (λ (l : List Event). content_of l b ≡ Some bytes) (append_assoc h (e ∷ []) es)
     (content_lasts (h ++ e ∷ []) es b bytes (content_stays h e b bytes is))
-
-appends_last : (h es : List Event) (op : OpId) (b : BlkId) → Appends h op b → Appends (h ++ es) op b
-appends_last h es op b k = record {
-  path = k.path;
-  bytes = k.bytes;
-  command = command_lasts h es op (commands.Append k.path k.bytes) k.command;
-  content = content_lasts h es b k.bytes k.content;
-}
 
 -- ---- the row
 
@@ -144,38 +117,33 @@ module _ {S : Type 0} (P : Programs S) (D : Deciding S Answer) (N : Known S Answ
         };
       }
 
-  -- no block is made without rows
-  pub made_with_rows : (b : BlkId) (rows : List NewRow) → rows_of es b ≡ Some rows → 1 ≤ length rows
-  made_with_rows b rows is = by ((ghosts P D counts es).born b) refl (rows_told P D N laws counts es run b)
-    where
-      by : (o : Option Born) → (ghosts P D counts es).born b ≡ o → born_rows o ≡ rows_of es b → 1 ≤ length rows
-      by None was told = absurd (let z : None ≡ Some rows = told ∙ is in cc)
-      by (Some m) was told =
-          let found : Some m.rows ≡ Some rows = told ∙ is in
-          let same : m.rows ≡ rows = cc in
-          subst (λ (l : List NewRow). 1 ≤ length l) same
-          (((run_world_sound P D N laws counts es run).blocks).some b (length m.rows) (ap born_count was))
-
-  module _ (knows : AttachesAreAppends P) where
-    pub attached_stand : AttachedBlocksStand es
+  module _ (knows : RequestsOwe P) where
+    pub attached_stand : AttachedBlocksStand counts es
     attached_stand op f token b n i a =
         let replies : RepliesAre opening_store es = replies_from_run P (opening counts) es run in
         let e : Event = attaching es replies op f token b n i a in
+        let q : AnyReq = asked es replies op f token b n i a in
         let whole : IsWorldRun P counts (a.before ++ e ∷ a.rest) = subst (λ (l : List Event). IsWorldRun P counts l) a.there run in
-        let k : Appends es op b = subst (λ (l : List Event). Appends l op b) (sym a.there)
-        (appends_last a.before (e ∷ a.rest) op b (knows counts a.before a.rest op f token b n a.hold _ a.heard whole)) in
+        let own : Owing counts a.before op q = knows counts a.before a.rest op q _ a.heard whole in
+        let k : IsAppend a.before op own.command f token b = own.owes in
+        let c : Command = commands.Append k.path k.bytes in
+        let command : command_of es op ≡ Some c = subst (λ (l : List Event). command_of l op ≡ Some c) (sym a.there)
+        (command_lasts a.before (e ∷ a.rest) op c (own.begun ∙ ap (λ (d : Command). Some d) k.is)) in
+        let content : content_of es b ≡ Some k.bytes = subst (λ (l : List Event). content_of l b ≡ Some k.bytes) (sym a.there)
+        (content_lasts a.before (e ∷ a.rest) b k.bytes k.content) in
         let is : row_at store f i ≡ Some record { blk = b; len = n; hold = a.hold } = row_stands es replies op f token b n i a in
         let told : ToldBlock es b n = told_block f i record { blk = b; len = n; hold = a.hold } is in
-        let found : Some told.bytes ≡ Some k.bytes = sym told.content ∙ k.content in
+        let found : Some told.bytes ≡ Some k.bytes = sym told.content ∙ content in
         let same : told.bytes ≡ k.bytes = cc in
         record {
           path = k.path;
           bytes = told.bytes;
           rows = told.rows;
-          command = subst (λ (bytes : List ℕ). command_of es op ≡ Some (commands.Append k.path bytes)) (sym same) k.command;
+          command = subst (λ (bytes : List ℕ). command_of es op ≡ Some (commands.Append k.path bytes)) (sym same) command;
           content = told.content;
           full = told.full;
           made = told.made;
+          copies = made_with_copies P knows counts b told.rows es run told.made;
           row = has_row store f i record { blk = b; len = n; hold = a.hold } is;
           whole = told.whole;
         }

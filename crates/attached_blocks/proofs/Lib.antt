@@ -1,6 +1,9 @@
+pub mod Owing
 pub mod Rows
-pub mod Tokens
 pub mod Born
+pub mod Copies
 pub mod Acknowledged
-pub mod Appending
+pub mod Tokens
+pub mod Opened
+pub mod Asking
 pub mod Laws

@@ -1,8 +1,10 @@
--- Blocks that were attached to files: their rows stand, and each block is whole. And which token a file has.
-use Rattle.std.specs.Prelude.{◌≡◌, ℕ, Bool, true, false, if◌then◌else◌, Option, Some, None, List, [], ◌∷◌, ◌++◌, length}
+-- Blocks that were attached to files: their rows stand, and each block is whole. To which file, and with which token, a block is attached;
+-- and which token a file has.
+use Rattle.std.specs.Prelude.{◌≡◌, ℕ, Bool, true, if◌then◌else◌, Option, Some, None, List, [], ◌∷◌, ◌++◌, length}
 use Rattle.std.specs.List.{slice_get}
 use Rattle.std.specs.FinMap.{get, len}
 use Rattle.tect_ids.specs.declared.ids.BlkId.{BlkId}
+use Rattle.tect_ids.specs.declared.ids.Counts.{Counts}
 use Rattle.tect_ids.specs.declared.ids.DiskId.{DiskId}
 use Rattle.tect_ids.specs.declared.ids.FileId.{FileId}
 use Rattle.tect_ids.specs.declared.ids.Hold.{Hold}
@@ -31,6 +33,7 @@ use Rattle.world_runs.specs.declared.event.Event.TheVariants.{Own, Dumped}
 use Rattle.world_runs.specs.declared.event.Happening.TheVariants.{Began, NotBegun, Acted, Ended, Stopped, Failed}
 use Rattle.world_runs.specs.OwnRuns.{stored_after}
 use Rattle.claim_words.specs.Commands.{or_later, command_of, content_of}
+use Rattle.claim_words.specs.FilesBecause.{WasOpen, copies_needed}
 
 -- ---- what a history tells
 
@@ -91,8 +94,9 @@ pub record HasRow (s : Store) (f : FileId) (b : BlkId) (n i : ℕ) : Type 0 wher
   pub blk : row.blk ≡ b
   pub long : row.len ≡ n
 
--- The op's command appends these bytes, which are the block's content, and as many; the row stands, and the block is whole.
-pub record IsAcknowledged (events : List Event) (op : OpId) (f : FileId) (b : BlkId) (n i : ℕ) : Type 0 where
+-- The op's command appends these bytes, which are the block's content, and as many; the block was made with a row for each copy; the file's
+-- row stands, and the block is whole.
+pub record IsAcknowledged (counts : Counts) (events : List Event) (op : OpId) (f : FileId) (b : BlkId) (n i : ℕ) : Type 0 where
   pub path : List (List ℕ)
   pub bytes : List ℕ
   pub rows : List NewRow
@@ -100,13 +104,38 @@ pub record IsAcknowledged (events : List Event) (op : OpId) (f : FileId) (b : Bl
   pub content : content_of events b ≡ Some bytes
   pub full : length bytes ≡ n
   pub made : rows_of events b ≡ Some rows
+  pub copies : length rows ≡ copies_needed counts
   pub row : HasRow (stored_after opening_store events) f b n i
   pub whole : IsWhole (stored_after opening_store events) b n rows bytes
 
 -- so is each block that was attached by these events; whether the append's client still runs, or was told, does not matter
-abbrev pub AttachedBlocksStand : List Event → Type 0
-AttachedBlocksStand events = (op : OpId) (f : FileId) (token : OpId) (b : BlkId) (n i : ℕ) → HasAttached events op f token b n i
-    → IsAcknowledged events op f b n i
+abbrev pub AttachedBlocksStand : Counts → List Event → Type 0
+AttachedBlocksStand counts events = (op : OpId) (f : FileId) (token : OpId) (b : BlkId) (n i : ℕ) → HasAttached events op f token b n i
+    → IsAcknowledged counts events op f b n i
+
+-- ---- to which file
+
+-- by these events the op asked to attach a block to that file with that token, whatever was replied
+pub record AskedToAttach (events : List Event) (op : OpId) (f : FileId) (token : OpId) : Type 0 where
+  pub before : List Event
+  pub b : BlkId
+  pub n : ℕ
+  pub hold : Hold
+  pub reply : AnyReply
+  pub heard : Heard
+  pub rest : List Event
+  pub there : events ≡ before ++ Own op (Acted (any.File (files.Attach f token b n hold)) reply heard) ∷ rest
+
+-- the op's command is an append, and as it began, what its actor had opened last at its path was that file, with that token
+pub record AppendsToOpened (events : List Event) (op : OpId) (f : FileId) (token : OpId) : Type 0 where
+  pub path : List (List ℕ)
+  pub bytes : List ℕ
+  pub command : command_of events op ≡ Some (commands.Append path bytes)
+  pub opened : WasOpen events op (commands.Append path bytes) path f token
+
+-- so it is whenever a block is to be attached
+abbrev pub AttachesAreToOpened : List Event → Type 0
+AttachesAreToOpened events = (op : OpId) (f : FileId) (token : OpId) → AskedToAttach events op f token → AppendsToOpened events op f token
 
 -- ---- tokens
 
@@ -144,3 +173,21 @@ last_token events k = token_after None events k
 abbrev pub TokensAreLast : List Event → Type 0
 TokensAreLast events = (op : OpId) (f : FileId) (token : OpId) (b : BlkId) (n i : ℕ) → (a : HasAttached events op f token b n i)
     → last_token a.before f ≡ Some token
+
+-- by these events the op wrote that token into that file
+pub record WroteToken (events : List Event) (op : OpId) (f : FileId) (token : OpId) : Type 0 where
+  pub before : List Event
+  pub request : FileReq
+  pub reply : AnyReply
+  pub heard : Heard
+  pub rest : List Event
+  pub there : events ≡ before ++ Own op (Acted (any.File request) reply heard) ∷ rest
+  pub wrote : file_token None request reply f ≡ Some token
+
+-- the op's command is an open
+abbrev pub IsOpen : List Event → OpId → Type 0
+IsOpen events op = (path : List (List ℕ)) × (command_of events op ≡ Some (commands.Open path))
+
+-- each token that was written into a file is the op that wrote it, and the op is an open
+abbrev pub TokensAreOpens : List Event → Type 0
+TokensAreOpens events = (op : OpId) (f : FileId) (token : OpId) → WroteToken events op f token → (token ≡ op) × IsOpen events op

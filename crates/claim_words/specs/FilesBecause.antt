@@ -21,22 +21,21 @@ use Rattle.world_runs.specs.declared.event.Event.{Event}
 use Rattle.world_runs.specs.declared.event.Event.TheVariants.{Own}
 use Rattle.world_runs.specs.declared.event.Happening.TheVariants.{Began}
 use Rattle.claim_words.specs.TreeSteps.{Told, tree_steps, tree_after}
-use Rattle.claim_words.specs.Points.{of_op, Walked, Seen, FoundSource}
+use Rattle.claim_words.specs.Points.{of_op, Walked, FoundSource}
 use Rattle.claim_words.specs.Opened.{opened_in}
 
--- The bytes are those that the tree says of the first blocks of the file, as many as the op's listing had, at a moment from that listing
--- on: its walk had led to the file's directory, and it had found the file there.
+-- The bytes are those that the tree says of all blocks that the op's listing showed, at the moment of that listing: its walk had led to
+-- the file's directory, and it had found the file there.
 pub record ReadPoint (history : List Told) (op : OpId) (p : List (List ℕ)) (bytes : List ℕ) : Type 0 where
   pub before : List Told
-  pub later : List Told
-  pub there : history ≡ before ++ later
-  pub dir : DirId
-  pub walked : Walked root (but_last p) (of_op op before) dir []
   pub file : FileId
-  pub found : FoundSource (of_op op before) dir p (File file)
   pub sealed : Bool
   pub rows : List RowPart
-  pub listed : Seen (of_op op before) (step.Blocks file) (Ok (shown.Blocks sealed rows))
+  pub later : List Told
+  pub there : history ≡ before ++ record { op = op; does = step.Blocks file; says = Ok (shown.Blocks sealed rows) } ∷ later
+  pub dir : DirId
+  pub walked : Walked root (but_last p) (of_op op before) dir []
+  pub found : FoundSource (of_op op before) dir p (File file)
   pub by_tree : tree_reply (tree_after opening_tree before) op (step.Read file (length rows)) ≡ Ok (shown.Bytes bytes)
 
 abbrev pub IsRead : List Told → OpId → List (List ℕ) → Answer → Type 0
@@ -48,6 +47,13 @@ pub record WasNotOpen (history : List Event) (op : OpId) (c : Command) (p : List
   pub later : List Event
   pub there : history ≡ before ++ Own op (Began c) ∷ later
   pub never : get (opened_in before op.actor) p ≡ None
+
+-- as the op began, what its actor had opened last at that path was this file, with this token
+pub record WasOpen (history : List Event) (op : OpId) (c : Command) (p : List (List ℕ)) (f : FileId) (token : OpId) : Type 0 where
+  pub before : List Event
+  pub later : List Event
+  pub there : history ≡ before ++ Own op (Began c) ∷ later
+  pub last : get (opened_in before op.actor) p ≡ Some record { file = f; token = token }
 
 -- on how many disks a block lies, at least one
 abbrev pub copies_needed : Counts → ℕ

@@ -195,7 +195,7 @@ RenameDecides own d p to s r a = ⊥
 abbrev pub file_key : FileId → Key
 file_key f = key_in record { 0 = f.0 } []
 
--- the file was found by the op, which then opens it with itself as token
+-- the file was found by the op, which then opens it; that the token is the op itself, Attached says (TokensAreOpens)
 abbrev pub OpenDecides : List Told → DirId → List (List ℕ) → TreeStep → TreeReply → Answer → Type 0
 OpenDecides own d p (step.Look k) r a = (k ≡ key_in d (last_name p)) × FindsNoFile k r a
 OpenDecides own d p (step.Open f token) r a =
@@ -222,7 +222,7 @@ SealDecides own d (n ∷ ns) (step.SealDir e) r a =
 SealDecides own d (n ∷ ns) (step.SealFile f) r a = FoundSource own d (n ∷ ns) (File f) × (a ≡ done_answer (file_key f) answers.Done r)
 SealDecides own d p s r a = ⊥
 
--- what is attached are the command's bytes
+-- what is attached are the command's bytes; to which file, and with which token, Attached says (AttachesAreToOpened)
 abbrev pub AppendDecides : List ℕ → TreeStep → TreeReply → Answer → Type 0
 AppendDecides bytes (step.Attach f token b content) r a = (content ≡ bytes) × Attaches (file_key f) b r a
 AppendDecides bytes s r a = ⊥

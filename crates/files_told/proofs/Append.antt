@@ -51,7 +51,7 @@ use Rattle.telling_laws.proofs.PartsTell.{TellsIn, part_tells, waits_tell}
 use Rattle.file_laws.specs.Known.{append_deciding}
 use Rattle.files_told.specs.FilesTelling.{Appends, AppendsBlock, append_telling, files_why}
 use Rattle.files_told.proofs.Finding.{decided_now}
-use Rattle.files_told.proofs.Lasting.{why_lasts}
+use Rattle.files_told.proofs.Lasting.{was_open_lasts, why_lasts}
 use Rattle.files_told.proofs.Replies.{RefusesFile, attaches_no, attaches_yes, attach_some, attach_none, put_not_lost}
 
 -- ---- a command without a way is at the root
@@ -63,16 +63,17 @@ no_way (s ∷ ss) = no_way ss
 -- ---- after any event more
 
 module _ (h : List Event) (e : Event) (op : OpId) (c : Command) where
-  still_appends : (bytes : List ℕ) → Appends h op c bytes → Appends (h ++ e ∷ []) op c bytes
-  still_appends bytes a = record {
+  still_appends : (f : FileId) (token : OpId) (bytes : List ℕ) → Appends h op c f token bytes → Appends (h ++ e ∷ []) op c f token bytes
+  still_appends f token bytes a = record {
     path = a.path;
     is = a.is;
     said = said_more h e op ∙ ap (λ (o : Option (List ℕ)). or_later o (said_by e op)) a.said;
+    opened = was_open_lasts h (e ∷ []) op c a.path f token a.opened;
   }
 
   still_block : (a : Appending) (b : BlkId) → AppendsBlock h op c a b → AppendsBlock (h ++ e ∷ []) op c a b
   still_block a b t = record {
-    appends = still_appends a.bytes t.appends;
+    appends = still_appends (a.hold).file a.token a.bytes t.appends;
     made = content_stays h e b a.bytes t.made;
     hold = t.hold;
   }
@@ -96,8 +97,8 @@ module _ (counts : Counts) where
       → NextTells append_deciding (append_telling counts) h op c (block_made place token bytes (given_if n (is_made x)))
   made_tells h op c place token bytes n x e t = rw e (put_on_tells h op c record { token = token; bytes = bytes; hold = n.1 } n.0 0 t)
 
-  module _ (h : List Event) (op : OpId) (c : Command) (how : Heard) (b : BlkId) (f : FileId) (hold : Hold) (rows : List NewRow)
-      (bytes : List ℕ) where
+  module _ (h : List Event) (op : OpId) (c : Command) (how : Heard) (b : BlkId) (f : FileId) (token : OpId) (hold : Hold)
+      (rows : List NewRow) (bytes : List ℕ) where
     -- the request, and the event
     abbrev making : AnyReq
     making = any.Block (blocks.MakeBlock b Copies (length bytes) f hold rows)
@@ -111,12 +112,12 @@ module _ (counts : Counts) where
     made_by_it : is_made (reply_at h making) ≡ true → maker_by event b ≡ Some op
     made_by_it e = rw (itself, e) refl
 
-    block_made_so : is_made (reply_at h making) ≡ true → maker_of h b ≡ None → Appends h op c bytes
+    block_made_so : is_made (reply_at h making) ≡ true → maker_of h b ≡ None → Appends h op c f token bytes
         → content_of (h ++ event ∷ []) b ≡ Some bytes
     block_made_so e unmade a =
         ap (bytes_by (h ++ event ∷ []))
         (maker_more h event b ∙ ap (λ (o : Option OpId). or_later o (maker_by event b)) unmade ∙ made_by_it e)
-        ∙ (still_appends h event op c bytes a).said
+        ∙ (still_appends h event op c f token bytes a).said
 
   -- ---- a chunk is put
 
@@ -196,12 +197,12 @@ module _ (counts : Counts) where
         let e : Event = act_at h op q how in
         made_tells (h ++ e ∷ []) op c (request_place counts q) token bytes (new_block b f (own_hold op) rows) (reply_at h q)
         ((seen.fresh).made refl) record {
-          appends = still_appends h e op c bytes a;
-          made = block_made_so h op c how b f (own_hold op) rows bytes ((seen.fresh).made refl)
-              ((seen.fresh).unmade b (itself h op c how b f (own_hold op) rows bytes)) a;
+          appends = still_appends h e op c f token bytes a.0;
+          made = block_made_so h op c how b f token (own_hold op) rows bytes ((seen.fresh).made refl)
+              ((seen.fresh).unmade b (itself h op c how b f token (own_hold op) rows bytes)) a.0;
           hold = refl;
         };
-    stays = λ h e op c other a. still_appends h e op c bytes a;
+    stays = λ h e op c other a. (still_appends h e op c f token bytes a.0, a.1);
     learns = λ h op c m x a. refl;
   }
   append_at (Put a p) = waits_tell append append_deciding (append_telling counts) (Put a p) record {

@@ -88,10 +88,12 @@ module _ (counts : Counts) (h : List Event) (op : OpId) (p : List (List ℕ)) (b
   abbrev then_begun : List Event
   then_begun = h ++ Own op (Began c) ∷ []
 
-  appends : command_of h op ≡ None → Appends then_begun op c bytes
-  appends new = record {
+  appends : command_of h op ≡ None → (o : OpenedFile) → get (opened_in h op.actor) p ≡ Some o
+      → Appends then_begun op c o.file o.token bytes
+  appends new o last = record {
     path = p;
     is = refl;
+    opened = record { before = h; later = []; there = refl; last = last };
     said = said_more h (Own op (Began c)) op ∙ ap (λ (o : Option (List ℕ)). or_later o (said_by (Own op (Began c)) op))
         (nothing_said h op new)
         ∙ said_now;
@@ -115,7 +117,7 @@ module _ (counts : Counts) (h : List Event) (op : OpId) (p : List (List ℕ)) (b
           → NextTells append_deciding (append_telling counts) then_begun op c
           (if b then Comes few else Goes (appending.Make o.file o.token bytes (spread_of counts)))
       spread_tells true is = inl (inr (inr (few_disks is, refl)))
-      spread_tells false is = appends new
+      spread_tells false is = (appends new o e, refl)
 
   pub append_tells_as_it_begins : (m : Memory) → command_of h op ≡ None → m.opened ≡ opened_in h op.actor
       → NextTells append_deciding (append_telling counts) then_begun op c (append_starts counts m p bytes)

@@ -1,15 +1,19 @@
 -- what explains an answer explains it later too
 use Rattle.std.proofs.Common.{◌≡◌, ℕ, List, [], ◌∷◌, ◌++◌, ap, ◌∙◌, append_assoc, inl, inr}
 use Rattle.tect_ids.specs.declared.ids.Counts.{Counts}
+use Rattle.tect_ids.specs.declared.ids.FileId.{FileId}
 use Rattle.tect_ids.specs.declared.ids.OpId.{OpId}
 use Rattle.tect_ids.specs.declared.command.Command.{Command}
 use Rattle.tect_ids.specs.declared.command.Command.TheVariants as commands
 use Rattle.tect_ids.specs.declared.answer.Answer.{Answer}
+use Rattle.tree_model.specs.declared.step.StepValue.TheVariants as shown
+use Rattle.tree_model.specs.declared.step.TreeReply.TheVariants.{Ok}
+use Rattle.tree_model.specs.declared.step.TreeStep.TheVariants as step
 use Rattle.world_runs.specs.declared.event.Event.{Event}
 use Rattle.world_runs.specs.declared.event.Event.TheVariants.{Own}
 use Rattle.world_runs.specs.declared.event.Happening.TheVariants.{Began}
 use Rattle.claim_words.specs.Because.{because}
-use Rattle.claim_words.specs.FilesBecause.{IsRead, ReadPoint, WasNotOpen, files_because}
+use Rattle.claim_words.specs.FilesBecause.{IsRead, ReadPoint, WasNotOpen, WasOpen, files_because}
 use Rattle.claim_words.specs.TreeSteps.{Told, steps_after, tree_steps}
 use Rattle.telling_laws.proofs.Histories.{steps_after-append}
 use Rattle.telling_laws.proofs.Walks.{point_stays}
@@ -19,15 +23,15 @@ pub read_point_lasts : (t u : List Told) (op : OpId) (p : List (List ℕ)) (byte
     → ReadPoint (t ++ u) op p bytes
 read_point_lasts t u op p bytes k = record {
   before = k.before;
-  later = k.later ++ u;
-  there = ap (λ l. l ++ u) k.there ∙ append_assoc k.before k.later u;
-  dir = k.dir;
-  walked = k.walked;
   file = k.file;
-  found = k.found;
   sealed = k.sealed;
   rows = k.rows;
-  listed = k.listed;
+  later = k.later ++ u;
+  there = ap (λ l. l ++ u) k.there
+      ∙ append_assoc k.before (record { op = op; does = step.Blocks k.file; says = Ok (shown.Blocks k.sealed k.rows) } ∷ k.later) u;
+  dir = k.dir;
+  walked = k.walked;
+  found = k.found;
   by_tree = k.by_tree;
 }
 
@@ -40,6 +44,15 @@ not_open_lasts h es op c p w = record {
   later = w.later ++ es;
   there = ap (λ l. l ++ es) w.there ∙ append_assoc w.before (Own op (Began c) ∷ w.later) es;
   never = w.never;
+}
+
+pub was_open_lasts : (h es : List Event) (op : OpId) (c : Command) (p : List (List ℕ)) (f : FileId) (token : OpId)
+    → WasOpen h op c p f token → WasOpen (h ++ es) op c p f token
+was_open_lasts h es op c p f token w = record {
+  before = w.before;
+  later = w.later ++ es;
+  there = ap (λ l. l ++ es) w.there ∙ append_assoc w.before (Own op (Began c) ∷ w.later) es;
+  last = w.last;
 }
 
 pub steps_grow : (h es : List Event) → tree_steps (h ++ es) ≡ tree_steps h ++ steps_after h es

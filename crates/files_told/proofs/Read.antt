@@ -1,14 +1,13 @@
 -- reading: the look, or the listing, decides where it is refused, and else the tree says the bytes that were read at the listing
 use Rattle.std.proofs.Common.{◌≡◌, ℕ, ◌+◌, List as Items, [], ◌∷◌, ◌++◌, length, Option, Some, None}
 use Rattle.std.proofs.Common.{refl, sym, ap, subst, ◌∙◌, inl, inr}
-use Rattle.std.proofs.lemmas.List.{append-nil, length-map}
+use Rattle.std.proofs.lemmas.List.{length-map}
 use Rattle.std.specs.FinMap.{get}
 use Rattle.std.specs.List.{slice_get, filter}
 use Rattle.std.specs.Option.{option_map}
 use Rattle.tect_ids.specs.declared.ids.BlkId.{BlkId}
 use Rattle.tect_ids.specs.declared.ids.Counts.{Counts}
 use Rattle.tect_ids.specs.declared.ids.FileId.{FileId}
-use Rattle.tect_ids.specs.declared.ids.Node.TheVariants.{File}
 use Rattle.tect_ids.specs.declared.ids.OpId.{OpId}
 use Rattle.tect_ids.specs.declared.ids.Place.{Place}
 use Rattle.tect_ids.specs.declared.key.ChunkKey.{ChunkKey}
@@ -19,7 +18,6 @@ use Rattle.tect_ids.specs.declared.command.Command.TheVariants as commands
 use Rattle.tect_ids.specs.declared.answer.Answer.{Answer}
 use Rattle.tect_ids.specs.declared.answer.Answer.TheVariants as answers
 use Rattle.tect_ids.specs.Numbers.{root}
-use Rattle.tect_ids.specs.Paths.{last_name}
 use Rattle.store_rules.specs.declared.blocks.BlockReq.TheVariants as blocks
 use Rattle.store_rules.specs.declared.disks.DiskReq.TheVariants as disks
 use Rattle.store_rules.specs.declared.files.FileReq.TheVariants as files
@@ -27,14 +25,14 @@ use Rattle.store_rules.specs.declared.any.AnyReq.{AnyReq}
 use Rattle.store_rules.specs.declared.any.AnyReq.TheVariants as any
 use Rattle.store_rules.specs.declared.any.AnyReply.{AnyReply}
 use Rattle.store_rules.specs.Files.{row_part}
-use Rattle.store_rules.specs.Names.{key_in}
 use Rattle.store_rules.specs.Places.{request_place}
 use Rattle.store_rules.specs.Store.{Store, opening_store}
 use Rattle.store_rules.specs.Views.{as_block_list, as_location, as_bytes}
 use Rattle.tree_model.specs.declared.step.TreeStep.TheVariants as step
 use Rattle.tree_model.specs.declared.step.StepValue.TheVariants as shown
+use Rattle.tree_model.specs.declared.step.TreeReply.{TreeReply}
 use Rattle.tree_model.specs.declared.step.TreeReply.TheVariants.{Ok}
-use Rattle.tree_model.specs.Tree.{Tree, opening_tree, tree_next, tree_reply}
+use Rattle.tree_model.specs.Tree.{Tree, tree_reply}
 use Rattle.program_forms.specs.declared.heard.Heard.{Heard}
 use Rattle.file_rules.specs.declared.states.Read.{Read}
 use Rattle.file_rules.specs.declared.states.Read.TheVariants.{Find, List, Locate, Fetch}
@@ -46,13 +44,13 @@ use Rattle.world_runs.specs.OwnRuns.{stored_after}
 use Rattle.claim_words.specs.Commands.{content_of, content_in, or_nothing}
 use Rattle.claim_words.specs.FilesBecause.{ReadPoint}
 use Rattle.claim_words.specs.Points.{way, of_op, Walked, file_key, IsRefusal}
-use Rattle.claim_words.specs.TreeSteps.{says, told_of, tree_steps, tree_after}
+use Rattle.claim_words.specs.TreeSteps.{says, told_as, told_of, tree_steps}
 use Rattle.telling_laws.specs.Parts.{NextTells, PartTells}
 use Rattle.telling_laws.specs.Telling.{IsSeen, tree_of}
 use Rattle.telling_laws.specs.View.{shown_file}
 use Rattle.telling_laws.proofs.Contents.{known_stays}
-use Rattle.telling_laws.proofs.Histories.{steps_more, tree_after-append}
-use Rattle.telling_laws.proofs.Steps.{reply_at, act_at, Allows, over_then, saw_then, saw_now}
+use Rattle.telling_laws.proofs.Histories.{steps_more}
+use Rattle.telling_laws.proofs.Steps.{reply_at, act_at, Allows}
 use Rattle.telling_laws.proofs.PartsTell.{TellsIn, part_tells, waits_tell}
 use Rattle.telling_laws.proofs.ValuesSeen.{get-map_values}
 use Rattle.files_told.specs.FilesTelling.{FoundFile, Reads, IsReadNow, AreChunks, Fetches, ReadBefore, bytes_of}
@@ -124,15 +122,6 @@ module _ (counts : Counts) where
           subst (λ (l : Items RowPart). AllPartsKnown h l) so.rows
           (rows_known h (so.file).rows (λ i r is. seen.known f i r (rw so.is is)))
 
-      -- the tree is the same after it
-      tree_same : tree_of more ≡ tree_of h
-      tree_same =
-          ap (tree_after opening_tree) (steps_more h event) ∙ tree_after-append opening_tree (tree_steps h) (told_of h event)
-          ∙ next_same
-        where
-          next_same : tree_next (tree_of h) op (step.Blocks f) (says x) ≡ tree_of h
-          next_same = rw so.said refl
-
       in_tree : get (tree_of h).files f ≡ Some (shown_file (content_in h) so.file)
       in_tree =
           ap (λ (t : Tree). get t.files f) (sym seen.shows) ∙ get-map_values (shown_file (content_in h)) store.files f
@@ -141,30 +130,26 @@ module _ (counts : Counts) where
       as_many : length (shown_file (content_in h) so.file).blocks ≡ length parts
       as_many = length-map (so.file).rows _ ∙ sym (length-map (so.file).rows row_part) ∙ ap length so.rows
 
-      by_tree : tree_reply (tree_of more) op (step.Read f (length parts)) ≡ Ok (shown.Bytes (bytes_of more parts))
+      by_tree : tree_reply (tree_of h) op (step.Read f (length parts)) ≡ Ok (shown.Bytes (bytes_of more parts))
       by_tree =
-          ap (λ (t : Tree). tree_reply t op (step.Read f (length parts))) tree_same
-          ∙ reads_all (tree_of h) f (shown_file (content_in h) so.file) (length parts) in_tree as_many
+          reads_all (tree_of h) f (shown_file (content_in h) so.file) (length parts) in_tree as_many
           ∙ ap (λ (b : Items ℕ). Ok (shown.Bytes b)) (shown_bytes h (so.file).rows ∙ ap (λ (l : Items RowPart). bytes_of h l) so.rows
           ∙ sym (bytes_same h event parts known))
 
-      walked_read : Walked root (way (commands.Read p)) (of_op op (tree_steps more)) was.dir []
-      walked_read =
-          subst (λ (k : Command). Walked root (way k) (of_op op (tree_steps more)) was.dir []) was.is
-          (over_then h event op c was.dir was.walked)
+      walked_read : Walked root (way (commands.Read p)) (of_op op (tree_steps h)) was.dir []
+      walked_read = subst (λ (k : Command). Walked root (way k) (of_op op (tree_steps h)) was.dir []) was.is was.walked
 
       point : ReadPoint (tree_steps more) op p (bytes_of more parts)
       point = record {
-        before = tree_steps more;
-        later = [];
-        there = sym (append-nil (tree_steps more));
-        dir = was.dir;
-        walked = walked_read;
+        before = tree_steps h;
         file = f;
-        found = saw_then h event op c (step.Look (key_in was.dir (last_name p))) (Ok (shown.Node (File f))) was.found;
         sealed = (so.file).sealed;
         rows = parts;
-        listed = saw_now h op c q x how (step.Blocks f) refl (Ok (shown.Blocks (so.file).sealed parts)) so.said;
+        later = [];
+        there = steps_more h event ∙ ap (λ (r : TreeReply). tree_steps h ++ told_as op (Some (step.Blocks f)) r) so.said;
+        dir = was.dir;
+        walked = walked_read;
+        found = was.found;
         by_tree = by_tree;
       }
 

@@ -1,7 +1,7 @@
 -- What the history tells of each command on the contents of files before its answer is decided, and what explains the answer; and how many
 -- transactions such a command takes behind its walk.
-use Rattle.std.specs.Prelude.{◌≡◌, ℕ, ◌+◌, ◌-◌, true, Option, Some, None, is_some, List, [], take, length, ◌⊎◌}
-use Rattle.std.specs.List.{slice_get, filter, flat_map}
+use Rattle.std.specs.Prelude.{◌≡◌, ℕ, ◌+◌, ◌-◌, true, Some, is_some, List, [], take, length, ◌⊎◌}
+use Rattle.std.specs.List.{slice_get, flat_map}
 use Rattle.tect_ids.specs.declared.ids.BlkId.{BlkId}
 use Rattle.tect_ids.specs.declared.ids.Counts.{Counts}
 use Rattle.tect_ids.specs.declared.ids.DirId.{DirId}
@@ -34,7 +34,7 @@ use Rattle.world_runs.specs.declared.event.Event.{Event}
 use Rattle.claim_words.specs.Because.{because}
 use Rattle.claim_words.specs.Bounds.{lists}
 use Rattle.claim_words.specs.Commands.{said_in, content_of, content_in}
-use Rattle.claim_words.specs.FilesBecause.{ReadPoint}
+use Rattle.claim_words.specs.FilesBecause.{ReadPoint, WasOpen, copies_needed}
 use Rattle.claim_words.specs.Points.{way, of_op, Walked, FoundSource}
 use Rattle.claim_words.specs.TreeSteps.{tree_steps}
 use Rattle.fall_laws.specs.Bounding.{Many, none}
@@ -75,24 +75,26 @@ BlocksBefore h op c (listing.List f) = (p : List (List ℕ)) × FoundFile comman
 
 -- ---- appending
 
--- the command appends these bytes, as its op said
-pub record Appends (h : List Event) (op : OpId) (c : Command) (bytes : List ℕ) : Type 0 where
+-- the command appends these bytes, as its op said, to the file that was open at its path, with the token
+pub record Appends (h : List Event) (op : OpId) (c : Command) (f : FileId) (token : OpId) (bytes : List ℕ) : Type 0 where
   pub path : List (List ℕ)
   pub is : c ≡ commands.Append path bytes
   pub said : said_in h op ≡ Some bytes
+  pub opened : WasOpen h op c path f token
 
 -- it made that block of its bytes, and has the block's hold
 pub record AppendsBlock (h : List Event) (op : OpId) (c : Command) (a : Appending) (b : BlkId) : Type 0 where
-  pub appends : Appends h op c a.bytes
+  pub appends : Appends h op c (a.hold).file a.token a.bytes
   pub made : content_of h b ≡ Some a.bytes
   pub hold : (a.hold).blk ≡ b
 
-abbrev pub AppendBefore : List Event → OpId → Command → Append → Type 0
-AppendBefore h op c (appending.Make f token bytes p) = Appends h op c bytes
-AppendBefore h op c (appending.Put a p) = AppendsBlock h op c a (p.made).blk
-AppendBefore h op c (appending.Seal a made) = AppendsBlock h op c a made.blk
-AppendBefore h op c (appending.Attach a b) = AppendsBlock h op c a b
-AppendBefore h op c (appending.Release b hold answer) = Unit {0}
+-- the block that it is to make lies on as many disks as there are copies
+abbrev pub AppendBefore : Counts → List Event → OpId → Command → Append → Type 0
+AppendBefore counts h op c (appending.Make f token bytes p) = Appends h op c f token bytes × (p.copies ≡ copies_needed counts)
+AppendBefore counts h op c (appending.Put a p) = AppendsBlock h op c a (p.made).blk
+AppendBefore counts h op c (appending.Seal a made) = AppendsBlock h op c a made.blk
+AppendBefore counts h op c (appending.Attach a b) = AppendsBlock h op c a b
+AppendBefore counts h op c (appending.Release b hold answer) = Unit {0}
 
 -- ---- reading
 
@@ -136,7 +138,7 @@ abbrev pub open_telling : Counts → Telling Open
 open_telling counts = record { Before = OpenBefore; because = files_why counts }
 
 abbrev pub append_telling : Counts → Telling Append
-append_telling counts = record { Before = AppendBefore; because = files_why counts }
+append_telling counts = record { Before = AppendBefore counts; because = files_why counts }
 
 abbrev pub blocks_telling : Counts → Telling Blocks
 blocks_telling counts = record { Before = BlocksBefore; because = files_why counts }

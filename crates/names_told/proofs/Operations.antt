@@ -90,23 +90,23 @@ read_came h op n d c came = of_command
     (λ k. Walked root (way k) (of_op op (tree_steps h)) d [] → ReadBefore h op k (read_starts n d)) (operation.Read n)
     (λ p last walked. (p, record { is = refl; walked = walked; last = last })) c came.fits came.walked
 
-begins_came : (h : List Event) (op : OpId) (c : Command) (o : Operation) (d : DirId) → CameTo h op c d o
-    → OperationBefore h op c (begins_in o d)
-begins_came h op c (operation.Look None) d came = came
-begins_came h op c (operation.Look (Some n)) d came = came
-begins_came h op c operation.List d came = came
-begins_came h op c (operation.Make kind n) d came = came
-begins_came h op c (operation.Delete n) d came = came
-begins_came h op c (operation.Rename from to) d came = came
-begins_came h op c (operation.Open path n) d came = open_came h op path n d c came
-begins_came h op c (operation.Blocks n) d came = blocks_came h op n d c came
-begins_came h op c (operation.Read n) d came = read_came h op n d c came
-begins_came h op c (operation.Seal None) d came = inl record { dir = d; here = refl; came = came }
-begins_came h op c (operation.Seal (Some n)) d came = came
+begins_came : (counts : Counts) (h : List Event) (op : OpId) (c : Command) (o : Operation) (d : DirId) → CameTo h op c d o
+    → OperationBefore counts h op c (begins_in o d)
+begins_came counts h op c (operation.Look None) d came = came
+begins_came counts h op c (operation.Look (Some n)) d came = came
+begins_came counts h op c operation.List d came = came
+begins_came counts h op c (operation.Make kind n) d came = came
+begins_came counts h op c (operation.Delete n) d came = came
+begins_came counts h op c (operation.Rename from to) d came = came
+begins_came counts h op c (operation.Open path n) d came = open_came h op path n d c came
+begins_came counts h op c (operation.Blocks n) d came = blocks_came h op n d c came
+begins_came counts h op c (operation.Read n) d came = read_came h op n d c came
+begins_came counts h op c (operation.Seal None) d came = inl record { dir = d; here = refl; came = came }
+begins_came counts h op c (operation.Seal (Some n)) d came = came
 
 pub walks_tell : (counts : Counts) → WalkTells begins_in Fits operation_deciding (operation_telling counts)
 walks_tell counts = record {
   undecided = begins_undecided;
-  before = λ h op c o d walked fits. begins_came h op c o d record { walked = walked; fits = fits };
+  before = λ h op c o d walked fits. begins_came counts h op c o d record { walked = walked; fits = fits };
   point = λ h op c a point. inl (inl (inl point));
 }

@@ -108,20 +108,20 @@ SealBefore h op c (sealing.Close n) = SealsDir h op c n ⊎ SealsFound h op c n
 
 -- ---- all of them
 
-abbrev pub OperationBefore : List Event → OpId → Command → OperationState → Type 0
-OperationBefore h op c (states.Look s) = LookBefore h op c s
-OperationBefore h op c (states.List s) = CameTo h op c s.dir operation.List
-OperationBefore h op c (states.Make s) = MakeBefore h op c s
-OperationBefore h op c (states.Delete s) = DeleteBefore h op c s
-OperationBefore h op c (states.Rename s) = RenameBefore h op c s
-OperationBefore h op c (states.Open s) = OpenBefore h op c s
-OperationBefore h op c (states.Append s) = AppendBefore h op c s
-OperationBefore h op c (states.Blocks s) = BlocksBefore h op c s
-OperationBefore h op c (states.Read s) = ReadBefore h op c s
-OperationBefore h op c (states.Seal s) = SealBefore h op c s
+abbrev pub OperationBefore : Counts → List Event → OpId → Command → OperationState → Type 0
+OperationBefore counts h op c (states.Look s) = LookBefore h op c s
+OperationBefore counts h op c (states.List s) = CameTo h op c s.dir operation.List
+OperationBefore counts h op c (states.Make s) = MakeBefore h op c s
+OperationBefore counts h op c (states.Delete s) = DeleteBefore h op c s
+OperationBefore counts h op c (states.Rename s) = RenameBefore h op c s
+OperationBefore counts h op c (states.Open s) = OpenBefore h op c s
+OperationBefore counts h op c (states.Append s) = AppendBefore counts h op c s
+OperationBefore counts h op c (states.Blocks s) = BlocksBefore h op c s
+OperationBefore counts h op c (states.Read s) = ReadBefore h op c s
+OperationBefore counts h op c (states.Seal s) = SealBefore h op c s
 
 abbrev pub operation_telling : Counts → Telling OperationState
-operation_telling counts = record { Before = OperationBefore; because = files_why counts }
+operation_telling counts = record { Before = OperationBefore counts; because = files_why counts }
 
 -- of a running command, which first walks
 abbrev pub names_telling : Counts → Telling Program

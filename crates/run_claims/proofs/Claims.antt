@@ -1,24 +1,17 @@
 -- a run within its limits is all that is claimed of a history
-use Rattle.std.proofs.Common.{◌≡◌, ◌≢◌, ℕ, Some, List, take, ap, subst, ◌∙◌}
-use Rattle.std.specs.List.{slice_get}
+use Rattle.std.proofs.Common.{List, take, subst}
 use Rattle.tect_ids.specs.declared.ids.Counts.{Counts}
-use Rattle.tect_ids.specs.declared.ids.OpId.{OpId}
-use Rattle.tect_ids.specs.declared.ids.Place.{Place}
-use Rattle.tect_ids.specs.declared.answer.Answer.{Answer}
-use Rattle.tect_ids.specs.declared.answer.Answer.TheVariants.{Odd}
-use Rattle.program_rules.specs.Served.{Program, programs}
+use Rattle.program_rules.specs.Served.{programs}
 use Rattle.world_runs.specs.declared.event.Event.{Event}
-use Rattle.world_runs.specs.declared.event.Event.TheVariants.{Own}
-use Rattle.world_runs.specs.declared.event.Happening.TheVariants.{Ended}
-use Rattle.world_runs.specs.Moments.{WorldState, May, IsWorldRun, moment, opening}
-use Rattle.whole_runs.proofs.Fronts.{front_runs, may_at}
+use Rattle.world_runs.specs.Moments.{IsWorldRun, opening}
+use Rattle.whole_runs.proofs.Fronts.{front_runs}
 use Rattle.claim_words.specs.Commands.{content_in}
 use Rattle.claim_words.specs.Sound.{AfterEachFront}
 use Rattle.telling_laws.specs.View.{Shows}
 use Rattle.telling_laws.specs.Telling.{tree_of}
 use Rattle.whole_runs.proofs.Owns.{store_is_after}
 use Rattle.store_rules.specs.Store.{Store}
-use Rattle.attached_blocks.proofs.Laws.{stand_so, last_so}
+use Rattle.attached_blocks.proofs.Laws.{stand_so, opened_so, last_so, opens_so}
 use Rattle.tree_runs.proofs.Headlines.{shown_so, no_end_is_odd, run_headline}
 use Rattle.run_claims.proofs.RunsKeep.{sound_at_each_moment, granted_at_each_moment}
 use Rattle.run_claims.proofs.RunsShort.{each_is_short}
@@ -39,7 +32,9 @@ every_run_is_claimed counts history run limits = record {
   granted = granted_at_each_moment counts history run;
   shown = shown_at_each_moment counts history run;
   attached = λ n. stand_so counts (take n history) (front_runs programs n history (opening counts) run);
+  opened = opened_so counts history run;
   tokens = last_so counts history run;
+  opens = opens_so counts history run;
   answers = run_headline counts history run;
   not_odd = no_end_is_odd counts history run;
   short = each_is_short counts history run;

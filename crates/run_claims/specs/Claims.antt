@@ -19,7 +19,7 @@ use Rattle.claim_words.specs.TreeSteps.{tree_steps, tree_after}
 use Rattle.claim_words.specs.Headline.{Headline, command_of}
 use Rattle.claim_words.specs.Sound.{IsSound, AfterEachFront}
 use Rattle.claim_words.specs.Granted.{GrantedHoldsAreListed}
-use Rattle.claim_words.specs.Attached.{AttachedBlocksStand, TokensAreLast}
+use Rattle.claim_words.specs.Attached.{AttachedBlocksStand, AttachesAreToOpened, TokensAreLast, TokensAreOpens}
 use Rattle.world_runs.specs.Moments.{IsWorldRun}
 use Rattle.world_runs.specs.Limits.{KeepsLimits}
 use Rattle.run_claims.specs.Bounds.{IsShort}
@@ -31,17 +31,20 @@ ShowsTree history = Shows (stored_after opening_store history) (content_in histo
 
 -- It is a run of the world, within the limits of its actors' histories. The store is sound at each moment, lists each hold that was
 -- granted and neither bound nor given up, and shows the small machine's tree; each block that was attached is whole, with the bytes that
--- were appended, and its file has its row; each was attached with the token that was written last; each answer is the one that the tree
--- gives at the command's point, or says that there was no room to begin; none says that a reply was odd; each command takes few
--- transactions; and one that met nothing that refused it has succeeded.
+-- were appended, in all copies, and its file has its row; a block is attached only to the file, and with the token, that its op's actor had
+-- opened last at its path, and this token was the last that was written into the file; each token was written by an open, and is that open;
+-- each answer is the one that the tree gives at the command's point, or says that there was no room to begin; none says that a reply was
+-- odd; each command takes few transactions; and one that met nothing that refused it has succeeded.
 pub record IsHistory (counts : Counts) (history : List Event) : Type 0 where
   pub run : IsWorldRun programs counts history
   pub limits : KeepsLimits programs counts history
   pub sound : AfterEachFront IsSound history
   pub granted : AfterEachFront GrantedHoldsAreListed history
   pub shown : AfterEachFront ShowsTree history
-  pub attached : AfterEachFront AttachedBlocksStand history
+  pub attached : AfterEachFront (AttachedBlocksStand counts) history
+  pub opened : AttachesAreToOpened history
   pub tokens : TokensAreLast history
+  pub opens : TokensAreOpens history
   pub answers : Headline counts history
   pub not_odd : (op : OpId) (a : Answer) (n : ℕ) → slice_get history n ≡ Some (Own op (Ended a)) → (place : Place) → a ≢ Odd place
   pub short : (op : OpId) (c : Command) → command_of history op ≡ Some c → IsShort counts history op c

@@ -20,8 +20,9 @@ ghost use Rattle.run_claims.specs.Claims.{EveryRunIsClaimed};
 
 /// Of every run of the world that keeps the limits of its actors' histories all of it holds: the store is sound at each moment,
 /// lists each hold that was granted and neither bound nor given up, and shows the small machine's tree; each block that was attached is
-/// whole, and was attached with its file's last token; each answer is the one that the tree gives at the command's point, none says that a
-/// reply was odd, each command takes few transactions, and one that met nothing that refused it has succeeded.
+/// whole in all copies, and was attached to the file that its op's actor had opened at its path, with its file's last token, which is an
+/// open; each answer is the one that the tree gives at the command's point, none says that a reply was odd, each command takes few
+/// transactions, and one that met nothing that refused it has succeeded.
 pub fn every_run_is_claimed()
     ensures { EveryRunIsClaimed }
 {}
