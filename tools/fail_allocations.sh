@@ -1,17 +1,20 @@
 #!/bin/sh
-# Runs the built program on the input of crates/tect with each allocation failing in turn, from the first to the last. Each such run has to end
+# Runs the built program on a script, that of crates/tect if none is named, with each allocation failing in turn, from the first to the last.
+# Each such run, of a script without `dump`, has to end
 # - with status 6 and a front of the whole output, cut between lines;
 # - with status 0 and a line for each command, one of which found no memory;
 # - or with status 0 and the whole output, where it got on without (as a race does by a thread that could not start).
-# fail_allocations.sh [WORDS..]: the program's words, `replay` if left out; also `race --workers 1`.
+# fail_allocations.sh [FILE.script] [WORDS..]: the program's words, `replay` if left out; also `race --workers 1`.
 # Build the program first: ./tect replay < examples/first.script
 cd "$(dirname "$0")/.." || exit 1
-[ $# -gt 0 ] || set -- replay
 program=crates/tect/out/tect
 input=crates/tect/stdin
-whole=crates/tect/stdout
+case "$1" in *.script) input=$1 && shift ;; esac
+[ $# -gt 0 ] || set -- replay
 scratch=$(mktemp -d) || exit 1
 trap 'rm -rf "$scratch"' EXIT
+whole=$scratch/whole
+"$program" "$@" <"$input" >"$whole" || exit 1
 
 # `malloc` and `realloc` that fail at the call whose number FAIL_ALLOCATION tells, and tell at the end how many calls there were.
 cat >"$scratch/fail.c" <<'C'

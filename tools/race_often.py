@@ -16,15 +16,18 @@ import sys
 PROGRAM = os.path.join(os.path.dirname(os.path.abspath(__file__)), "..", "tect")
 CLIENTS = 12
 NAMES = "abc"
+VERBS = ["look", "list", "create", "create", "mkdir", "delete", "rename", "rename", "open", "append", "append", "blocks", "read", "seal"]
 WORKERS = (1, 2, 4, 8)
 SECONDS = 120
 
 
 def command(choose):
     folder = choose.choice(["", "", "/a", "/b"])
-    verb = choose.choice(["look", "list", "create", "create", "mkdir", "delete", "rename", "rename"])
+    verb = choose.choice(VERBS)
     old = f"{folder}/{choose.choice(NAMES)}"
-    return f"rename {old} {folder}/{choose.choice(NAMES)}" if verb == "rename" else f"{verb} {old}"
+    if verb == "seal" and choose.randrange(8):
+        verb = "look"
+    return f"{verb} {old}" + {"rename": f" {folder}/{choose.choice(NAMES)}", "append": f" {choose.randbytes(3).hex()}"}.get(verb, "")
 
 
 def script(choose):
