@@ -5,7 +5,7 @@ and decoding that script (hex_decode.rs, which rustc builds here); the cost of a
 
 measure_appends.py [TIMES]: each run TIMES times (3 if left out), the fastest counts.
 """
-import os
+import pathlib
 import subprocess
 import sys
 import tempfile
@@ -14,7 +14,7 @@ from measuring import HERE, MEBIBYTE, fastest, make, table
 
 
 def decoder(room):
-    built = os.path.join(room, "hex_decode")
+    built = pathlib.Path(room) / "hex_decode"
     subprocess.run(["rustc", "-O", "-o", built, HERE / "hex_decode.rs"], check=True)
     return built
 
