@@ -1,7 +1,7 @@
 #!/usr/bin/env python3
 """How long the built program takes for appends, and how much memory: 1,000 blocks of 32,768 bytes with 3 copies, against reading, copying
-and decoding that script (hex_decode.rs, which rustc builds here); the cost of an append to a file of 100 blocks and of 4,096; and a race of
-16 writers by 4 workers, against their replay.
+and decoding that script (hex_decode.rs, which rustc builds here); the cost of an append to a file of 100 blocks and of 4,096; and races of
+16 writers by 4 workers, of large blocks and of small ones, against their replays.
 
 measure_appends.py [TIMES]: each run TIMES times (3 if left out), the fastest counts.
 """
@@ -34,12 +34,12 @@ def measured(times):
         many = fastest(times, make(room, "make_append_script.py", 4096, 1, 1, 1), "replay")
         yield row("100 appends of a byte to one file", few)
         yield row("4,096 appends of a byte to one file", many)
-        writers = make(room, "make_append_script.py", 1000, 32768, 16, 3)
-        replayed = fastest(times, writers, "replay")
-        raced = fastest(times, writers, "race", "--workers", "4")
-        yield row("replay of 16 writers, 1,000 appends of 32,768 bytes", replayed)
-        yield row("race of these by 4 workers", raced)
-        yield "race, of the replay's time", f"{raced.seconds / replayed.seconds:.2f}", "", "", ""
+        for appends, size in (1000, 32768), (62000, 100):
+            writers = make(room, "make_append_script.py", appends, size, 16, 3)
+            replayed = fastest(times, writers, "replay")
+            raced = fastest(times, writers, "race", "--workers", "4")
+            yield row(f"replay of 16 writers, {appends:,} appends of {size:,} bytes", replayed)
+            yield row(f"race of these by 4 workers, {raced.seconds / replayed.seconds:.2f} of the replay's time", raced)
 
 
 def main():
