@@ -12,6 +12,7 @@ use Rattle.telling_laws.specs.Telling.{tree_of}
 use Rattle.whole_runs.proofs.Owns.{store_is_after}
 use Rattle.store_rules.specs.Store.{Store}
 use Rattle.attached_blocks.proofs.Laws.{stand_so, opened_so, last_so, opens_so}
+use Rattle.sealed_objects.proofs.Stays.{objects_stay}
 use Rattle.tree_runs.proofs.Headlines.{shown_so, no_end_is_odd, run_headline}
 use Rattle.run_claims.proofs.RunsKeep.{sound_at_each_moment, granted_at_each_moment}
 use Rattle.run_claims.proofs.RunsShort.{each_is_short}
@@ -35,6 +36,7 @@ every_run_is_claimed counts history run limits = record {
   opened = opened_so counts history run;
   tokens = last_so counts history run;
   opens = opens_so counts history run;
+  sealed = λ n. objects_stay counts (take n history) (front_runs programs n history (opening counts) run);
   answers = run_headline counts history run;
   not_odd = no_end_is_odd counts history run;
   short = each_is_short counts history run;

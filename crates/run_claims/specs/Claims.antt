@@ -22,6 +22,7 @@ use Rattle.claim_words.specs.Granted.{GrantedHoldsAreListed}
 use Rattle.claim_words.specs.Attached.{AttachedBlocksStand, AttachesAreToOpened, TokensAreLast, TokensAreOpens}
 use Rattle.world_runs.specs.Moments.{IsWorldRun}
 use Rattle.world_runs.specs.Limits.{KeepsLimits}
+use Rattle.sealed_objects.specs.Sealed.{SealedObjectsStay}
 use Rattle.run_claims.specs.Bounds.{IsShort}
 use Rattle.run_claims.specs.Complete.{IsComplete}
 
@@ -33,8 +34,9 @@ ShowsTree history = Shows (stored_after opening_store history) (content_in histo
 -- granted and neither bound nor given up, and shows the small machine's tree; each block that was attached is whole, with the bytes that
 -- were appended, in all copies, and its file has its row; a block is attached only to the file, and with the token, that its op's actor had
 -- opened last at its path, and this token was the last that was written into the file; each token was written by an open, and is that open;
--- each answer is the one that the tree gives at the command's point, or says that there was no room to begin; none says that a reply was
--- odd; each command takes few transactions; and one that met nothing that refused it has succeeded.
+-- what a listing showed of a sealed directory or file stays as it is; each answer is the one that the tree gives at the command's
+-- point, or says that there was no room to begin; none says that a reply was odd; each command takes few transactions; and one that met
+-- nothing that refused it has succeeded.
 pub record IsHistory (counts : Counts) (history : List Event) : Type 0 where
   pub run : IsWorldRun programs counts history
   pub limits : KeepsLimits programs counts history
@@ -45,6 +47,7 @@ pub record IsHistory (counts : Counts) (history : List Event) : Type 0 where
   pub opened : AttachesAreToOpened history
   pub tokens : TokensAreLast history
   pub opens : TokensAreOpens history
+  pub sealed : AfterEachFront SealedObjectsStay history
   pub answers : Headline counts history
   pub not_odd : (op : OpId) (a : Answer) (n : ℕ) → slice_get history n ≡ Some (Own op (Ended a)) → (place : Place) → a ≢ Odd place
   pub short : (op : OpId) (c : Command) → command_of history op ≡ Some c → IsShort counts history op c
