@@ -9,12 +9,13 @@ ghost use Rattle.memories.specs.Knowing.{IsActor, number_for};
 
 use crate::opened_files::{OpenedFile, OpenedFiles};
 use crate::path_key::PathKey;
+use sealed_cache::{SealedBlocks, SealedCache, SealedListing};
 use std::alloc::Global;
 use std::marker::Model;
-use sealed_cache::{SealedBlocks, SealedCache, SealedListing};
 use tect_calls::MadeFile;
 use tect_ids::{
-    BlkId, Counts, DirId, FileId, Items, Listed, Location, Name, NoMemory, Node, OpId, RowPart, Token,
+    BlkId, Counts, DirId, FileId, Items, Listed, Location, Name, NoMemory, Node, OpId, RowPart,
+    Token,
 };
 
 /// What an actor knows between its commands: its number, the serial of the next object that it makes, how many shards there are, the
