@@ -126,29 +126,44 @@ impl Memory {
         self.caches.node_in(dir, name)
     }
 
-    /// The entries kept for the sealed directory, which are now the latest used ones. It is refused only where the count of their owners is
-    /// full, and they are used then too.
-    pub fn kept_listing(&mut self, dir: DirId) -> Result<Option<Items<Listed>>, NoMemory>
-        ensures value { IfOk result (λ items. items ≡ kept_listing self.old.memory dir) }
-        ensures used { self.new ≡ record self.old { memory = listing_used dir self.old.memory } }
+    /// What is kept for the directory is now the latest used listing. It takes no memory.
+    pub fn use_listing(&mut self, dir: DirId)
+        ensures { self.new ≡ record self.old { memory = listing_used dir self.old.memory } }
+    {
+        self.caches.use_listing(dir);
+    }
+
+    /// What is kept for the file is now the latest used list of blocks. It takes no memory.
+    pub fn use_blocks(&mut self, file: FileId)
+        ensures { self.new ≡ record self.old { memory = blocks_used file self.old.memory } }
+    {
+        self.caches.use_blocks(file);
+    }
+
+    /// What is kept for the block is now the latest used location. It takes no memory.
+    pub fn use_location(&mut self, blk: BlkId)
+        ensures { self.new ≡ record self.old { memory = location_used blk self.old.memory } }
+    {
+        self.caches.use_location(blk);
+    }
+
+    /// The entries kept for the sealed directory. It is refused only where the count of their owners is full.
+    pub fn kept_listing(&self, dir: DirId) -> Result<Option<Items<Listed>>, NoMemory>
+        ensures { IfOk result (λ items. items ≡ kept_listing self.now.memory dir) }
     {
         self.caches.share_listing(dir)
     }
 
-    /// The blocks kept for the sealed file, which are now the latest used ones. It is refused only where the count of their owners is full,
-    /// and they are used then too.
-    pub fn kept_blocks(&mut self, file: FileId) -> Result<Option<Items<RowPart>>, NoMemory>
-        ensures value { IfOk result (λ rows. rows ≡ kept_blocks self.old.memory file) }
-        ensures used { self.new ≡ record self.old { memory = blocks_used file self.old.memory } }
+    /// The blocks kept for the sealed file. It is refused only where the count of their owners is full.
+    pub fn kept_blocks(&self, file: FileId) -> Result<Option<Items<RowPart>>, NoMemory>
+        ensures { IfOk result (λ rows. rows ≡ kept_blocks self.now.memory file) }
     {
         self.caches.share_blocks(file)
     }
 
-    /// The location kept for the block, which is now the latest used one. It is refused only where the count of its owners is full, and it
-    /// is used then too.
-    pub fn kept_location(&mut self, blk: BlkId) -> Result<Option<Location>, NoMemory>
-        ensures value { IfOk result (λ location. location ≡ kept_location self.old.memory blk) }
-        ensures used { self.new ≡ record self.old { memory = location_used blk self.old.memory } }
+    /// The location kept for the block. It is refused only where the count of its owners is full.
+    pub fn kept_location(&self, blk: BlkId) -> Result<Option<Location>, NoMemory>
+        ensures { IfOk result (λ location. location ≡ kept_location self.now.memory blk) }
     {
         self.caches.share_location(blk)
     }
