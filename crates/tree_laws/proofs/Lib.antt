@@ -1,0 +1,2 @@
+pub mod TreeMade
+pub mod SealedStays
