@@ -1,2 +1,3 @@
 pub mod TreeMade
 pub mod SealedStays
+pub mod SealedKnown
