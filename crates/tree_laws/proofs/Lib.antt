@@ -1,0 +1,5 @@
+pub mod TreeMade
+pub mod SealedStays
+pub mod SealedKnown
+pub mod OwnSteps
+pub mod Walks
