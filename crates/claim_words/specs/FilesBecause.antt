@@ -21,7 +21,6 @@ use Rattle.world_runs.specs.declared.event.Event.{Event}
 use Rattle.world_runs.specs.declared.event.Event.TheVariants.{Own}
 use Rattle.world_runs.specs.declared.event.Happening.TheVariants.{Began}
 use Rattle.claim_words.specs.TreeSteps.{Told, tree_steps, tree_after}
-use Rattle.claim_words.specs.Shown.{WasShownBlocks}
 use Rattle.claim_words.specs.Points.{of_op, Walked, FoundSource}
 use Rattle.claim_words.specs.Opened.{opened_in}
 
@@ -35,25 +34,12 @@ pub record ReadPoint (history : List Told) (op : OpId) (p : List (List ℕ)) (by
   pub later : List Told
   pub there : history ≡ before ++ record { op = op; does = step.Blocks file; says = Ok (shown.Blocks sealed rows) } ∷ later
   pub dir : DirId
-  pub walked : Walked before op.actor root (but_last p) (of_op op before) dir []
-  pub found : FoundSource before op dir p (File file)
-  pub by_tree : tree_reply (tree_after opening_tree before) op (step.Read file (length rows)) ≡ Ok (shown.Bytes bytes)
-
--- Or they are those of all blocks of a sealed file that the op's actor knows, whose blocks stay as they are: at any moment from then on.
-pub record KnownRead (history : List Told) (op : OpId) (p : List (List ℕ)) (bytes : List ℕ) : Type 0 where
-  pub before : List Told
-  pub file : FileId
-  pub rows : List RowPart
-  pub later : List Told
-  pub there : history ≡ before ++ later
-  pub dir : DirId
-  pub walked : Walked before op.actor root (but_last p) (of_op op before) dir []
-  pub found : FoundSource before op dir p (File file)
-  pub known : WasShownBlocks before op.actor file rows
+  pub walked : Walked root (but_last p) (of_op op before) dir []
+  pub found : FoundSource (of_op op before) dir p (File file)
   pub by_tree : tree_reply (tree_after opening_tree before) op (step.Read file (length rows)) ≡ Ok (shown.Bytes bytes)
 
 abbrev pub IsRead : List Told → OpId → List (List ℕ) → Answer → Type 0
-IsRead history op p a = (bytes : List ℕ) × (a ≡ answers.Read bytes) × (ReadPoint history op p bytes ⊎ KnownRead history op p bytes)
+IsRead history op p a = (bytes : List ℕ) × (a ≡ answers.Read bytes) × ReadPoint history op p bytes
 
 -- as the op began, its actor had opened no file at that path
 pub record WasNotOpen (history : List Event) (op : OpId) (c : Command) (p : List (List ℕ)) : Type 0 where

@@ -2,7 +2,6 @@ pub mod Sound
 pub mod Granted
 pub mod Commands
 pub mod TreeSteps
-pub mod Shown
 pub mod Points
 pub mod Opened
 pub mod NamesBecause

@@ -1,5 +1,5 @@
 -- The paths of commands, and the point of a command: the step of the small machine at which its answer is decided.
-use Rattle.std.specs.Prelude.{◌≡◌, ℕ, Some, List, [], ◌∷◌, ◌++◌, ◌⊎◌, max, length}
+use Rattle.std.specs.Prelude.{◌≡◌, ℕ, if◌then◌else◌, List, [], ◌∷◌, ◌++◌, ◌⊎◌, max, length}
 use Rattle.tect_ids.specs.declared.ids.BlkId.{BlkId}
 use Rattle.tect_ids.specs.declared.ids.DirId.{DirId}
 use Rattle.tect_ids.specs.declared.ids.FileId.{FileId}
@@ -10,6 +10,7 @@ use Rattle.tect_ids.specs.declared.key.Key.{Key}
 use Rattle.tect_ids.specs.declared.values.Want.TheVariants.{AnyFile}
 use Rattle.tect_ids.specs.declared.command.Command.{Command}
 use Rattle.tect_ids.specs.declared.answer.Answer.{Answer}
+use Rattle.tect_ids.specs.Keys.{op_eq}
 use Rattle.tect_ids.specs.Paths.{last_name, but_last}
 use Rattle.tect_ids.specs.Numbers.{root}
 use Rattle.tect_ids.specs.Refusals.{refusal_answer}
@@ -24,8 +25,6 @@ use Rattle.tree_model.specs.Tree.{tree_reply, opening_tree}
 use Rattle.tree_model.specs.declared.step.TreeStep.TheVariants as step
 use Rattle.tree_model.specs.declared.step.StepValue.TheVariants as shown
 use Rattle.claim_words.specs.TreeSteps.{Told, tree_after}
-use Rattle.claim_words.specs.Shown.{KnowsName, Knows}
-pub use Rattle.claim_words.specs.Shown.{of_op, Seen}
 
 -- the names that a command walks; a listing, also the last
 abbrev pub way : Command → List (List ℕ)
@@ -62,19 +61,23 @@ most_looks c = max (length (first_path c)) 1
 
 -- ---- its point
 
--- the next own step is a look of the name that found a directory, and on from there
-abbrev pub LooksOn : DirId → List ℕ → (DirId → List Told → Type 0) → List Told → Type 0
-LooksOn d n on [] = ⊥
-LooksOn d n on (s ∷ ss) = (x : DirId) × (s.does ≡ step.Look (key_in d n)) × (s.says ≡ Ok (shown.Node (Dir x))) × on x ss
+-- the steps of one op
+abbrev pub of_op : OpId → List Told → List Told
+of_op op [] = []
+of_op op (s ∷ ss) = if op_eq s.op op then s ∷ of_op op ss else of_op op ss
 
--- By its own steps, and by what its actor knows of sealed directories by all these steps, an op's walk along the names comes from d to e,
--- and the names in rest are left: each look of the next name found the next directory, or the actor knows it.
-abbrev pub Walked : List Told → ℕ → DirId → List (List ℕ) → List Told → DirId → List (List ℕ) → Type 0
-Walked steps a d [] own e rest = (d ≡ e) × (rest ≡ [])
-Walked steps a d (n ∷ ns) own e rest =
-    ((own ≡ []) × (d ≡ e) × (n ∷ ns ≡ rest))
-    ⊎ (LooksOn d n (λ x ss. Walked steps a x ns ss e rest) own
-    ⊎ ((x : DirId) × KnowsName steps a (key_in d n) (Some (Dir x)) × Walked steps a x ns own e rest))
+-- By these steps a walk along the names comes from d to e, and the names in rest are left: each look of the next name found
+-- the next directory.
+abbrev pub Walked : DirId → List (List ℕ) → List Told → DirId → List (List ℕ) → Type 0
+Walked d names [] e rest = (d ≡ e) × (names ≡ rest)
+Walked d [] (s ∷ ss) e rest = Walked d [] ss e rest
+Walked d (n ∷ ns) (s ∷ ss) e rest =
+    (x : DirId) × (s.does ≡ step.Look (key_in d n)) × (s.says ≡ Ok (shown.Node (Dir x))) × Walked x ns ss e rest
+
+-- one of these steps was this, and this was said to it
+abbrev pub Seen : List Told → TreeStep → TreeReply → Type 0
+Seen [] does said = ⊥
+Seen (s ∷ ss) does said = ((s.does ≡ does) × (s.says ≡ said)) ⊎ Seen ss does said
 
 -- the answer that what was said makes, where Ok makes this one
 abbrev pub done_answer : Key → Answer → TreeReply → Answer
@@ -155,11 +158,9 @@ abbrev pub IsRefusal : Key → TreeReply → Answer → Type 0
 IsRefusal k (Ok x) a = ⊥
 IsRefusal k (Refused why) a = a ≡ refusal_answer k why
 
--- the op had found this node under the path's last name, or its actor knew it
-abbrev pub FoundSource : List Told → OpId → DirId → List (List ℕ) → Node → Type 0
-FoundSource steps op d p n =
-    Seen (of_op op steps) (step.Look (key_in d (last_name p))) (Ok (shown.Node n))
-    ⊎ KnowsName steps op.actor (key_in d (last_name p)) (Some n)
+-- the op had found this node under the path's last name
+abbrev pub FoundSource : List Told → DirId → List (List ℕ) → Node → Type 0
+FoundSource own d p n = Seen own (step.Look (key_in d (last_name p))) (Ok (shown.Node n))
 
 abbrev pub LookDecides : DirId → List (List ℕ) → TreeStep → TreeReply → Answer → Type 0
 LookDecides d [] (step.Check e) r a = (e ≡ d) × (a ≡ done_answer (key_in d []) (answers.Found (Dir d)) r)
@@ -182,70 +183,70 @@ abbrev pub DeleteDecides : DirId → List (List ℕ) → TreeStep → TreeReply 
 DeleteDecides d p (step.Unbind k AnyFile) r a = (k ≡ key_in d (last_name p)) × (a ≡ done_answer k answers.Done r)
 DeleteDecides d p s r a = ⊥
 
-abbrev pub RenameDecides : List Told → OpId → DirId → List (List ℕ) → List ℕ → TreeStep → TreeReply → Answer → Type 0
-RenameDecides steps op d p to (step.Look k) r a = (k ≡ key_in d (last_name p)) × FindsSource k to r a
-RenameDecides steps op d p to (step.GrantDir x) r a = FoundSource steps op d p (Dir x) × IsRefusal (key_in d (last_name p)) r a
-RenameDecides steps op d p to (step.GrantFile f) r a = FoundSource steps op d p (File f) × IsRefusal (key_in d (last_name p)) r a
-RenameDecides steps op d p to (step.Swap e old new n) r a =
-    FoundSource steps op d p n × (e ≡ d) × (old ≡ last_name p) × (new ≡ to) × (a ≡ done_answer (key_in d (last_name p)) answers.Done r)
-RenameDecides steps op d p to s r a = ⊥
+abbrev pub RenameDecides : List Told → DirId → List (List ℕ) → List ℕ → TreeStep → TreeReply → Answer → Type 0
+RenameDecides own d p to (step.Look k) r a = (k ≡ key_in d (last_name p)) × FindsSource k to r a
+RenameDecides own d p to (step.GrantDir x) r a = FoundSource own d p (Dir x) × IsRefusal (key_in d (last_name p)) r a
+RenameDecides own d p to (step.GrantFile f) r a = FoundSource own d p (File f) × IsRefusal (key_in d (last_name p)) r a
+RenameDecides own d p to (step.Swap e old new n) r a =
+    FoundSource own d p n × (e ≡ d) × (old ≡ last_name p) × (new ≡ to) × (a ≡ done_answer (key_in d (last_name p)) answers.Done r)
+RenameDecides own d p to s r a = ⊥
 
 -- of a file as a whole the name does not matter
 abbrev pub file_key : FileId → Key
 file_key f = key_in record { 0 = f.0 } []
 
 -- the file was found by the op, which then opens it; that the token is the op itself, Attached says (TokensAreOpens)
-abbrev pub OpenDecides : List Told → OpId → DirId → List (List ℕ) → TreeStep → TreeReply → Answer → Type 0
-OpenDecides steps op d p (step.Look k) r a = (k ≡ key_in d (last_name p)) × FindsNoFile k r a
-OpenDecides steps op d p (step.Open f token) r a =
-    FoundSource steps op d p (File f) × (a ≡ done_answer (file_key f) (answers.Opened f token) r)
-OpenDecides steps op d p s r a = ⊥
+abbrev pub OpenDecides : List Told → DirId → List (List ℕ) → TreeStep → TreeReply → Answer → Type 0
+OpenDecides own d p (step.Look k) r a = (k ≡ key_in d (last_name p)) × FindsNoFile k r a
+OpenDecides own d p (step.Open f token) r a =
+    FoundSource own d p (File f) × (a ≡ done_answer (file_key f) (answers.Opened f token) r)
+OpenDecides own d p s r a = ⊥
 
-abbrev pub BlocksDecides : List Told → OpId → DirId → List (List ℕ) → TreeStep → TreeReply → Answer → Type 0
-BlocksDecides steps op d p (step.Look k) r a = (k ≡ key_in d (last_name p)) × FindsNoFile k r a
-BlocksDecides steps op d p (step.Blocks f) r a = FoundSource steps op d p (File f) × ListsBlocks (file_key f) r a
-BlocksDecides steps op d p s r a = ⊥
+abbrev pub BlocksDecides : List Told → DirId → List (List ℕ) → TreeStep → TreeReply → Answer → Type 0
+BlocksDecides own d p (step.Look k) r a = (k ≡ key_in d (last_name p)) × FindsNoFile k r a
+BlocksDecides own d p (step.Blocks f) r a = FoundSource own d p (File f) × ListsBlocks (file_key f) r a
+BlocksDecides own d p s r a = ⊥
 
 -- where a read is refused; its bytes are explained by what the tree says to a reading (FilesBecause)
-abbrev pub ReadDecides : List Told → OpId → DirId → List (List ℕ) → TreeStep → TreeReply → Answer → Type 0
-ReadDecides steps op d p (step.Look k) r a = (k ≡ key_in d (last_name p)) × FindsNoFile k r a
-ReadDecides steps op d p (step.Blocks f) r a = FoundSource steps op d p (File f) × IsRefusal (file_key f) r a
-ReadDecides steps op d p s r a = ⊥
+abbrev pub ReadDecides : List Told → DirId → List (List ℕ) → TreeStep → TreeReply → Answer → Type 0
+ReadDecides own d p (step.Look k) r a = (k ≡ key_in d (last_name p)) × FindsNoFile k r a
+ReadDecides own d p (step.Blocks f) r a = FoundSource own d p (File f) × IsRefusal (file_key f) r a
+ReadDecides own d p s r a = ⊥
 
 -- the root is sealed as it is, and else what was found
-abbrev pub SealDecides : List Told → OpId → DirId → List (List ℕ) → TreeStep → TreeReply → Answer → Type 0
-SealDecides steps op d [] (step.SealDir e) r a = (e ≡ d) × (a ≡ done_answer (key_in d []) answers.Done r)
-SealDecides steps op d (n ∷ ns) (step.Look k) r a = (k ≡ key_in d (last_name (n ∷ ns))) × IsRefusal k r a
-SealDecides steps op d (n ∷ ns) (step.SealDir e) r a =
-    FoundSource steps op d (n ∷ ns) (Dir e) × (a ≡ done_answer (key_in d (last_name (n ∷ ns))) answers.Done r)
-SealDecides steps op d (n ∷ ns) (step.SealFile f) r a = FoundSource steps op d (n ∷ ns) (File f) × (a ≡ done_answer (file_key f) answers.Done r)
-SealDecides steps op d p s r a = ⊥
+abbrev pub SealDecides : List Told → DirId → List (List ℕ) → TreeStep → TreeReply → Answer → Type 0
+SealDecides own d [] (step.SealDir e) r a = (e ≡ d) × (a ≡ done_answer (key_in d []) answers.Done r)
+SealDecides own d (n ∷ ns) (step.Look k) r a = (k ≡ key_in d (last_name (n ∷ ns))) × IsRefusal k r a
+SealDecides own d (n ∷ ns) (step.SealDir e) r a =
+    FoundSource own d (n ∷ ns) (Dir e) × (a ≡ done_answer (key_in d (last_name (n ∷ ns))) answers.Done r)
+SealDecides own d (n ∷ ns) (step.SealFile f) r a = FoundSource own d (n ∷ ns) (File f) × (a ≡ done_answer (file_key f) answers.Done r)
+SealDecides own d p s r a = ⊥
 
 -- what is attached are the command's bytes; to which file, and with which token, Attached says (AttachesAreToOpened)
 abbrev pub AppendDecides : List ℕ → TreeStep → TreeReply → Answer → Type 0
 AppendDecides bytes (step.Attach f token b content) r a = (content ≡ bytes) × Attaches (file_key f) b r a
 AppendDecides bytes s r a = ⊥
 
--- the step that decides a command, in the directory d to which its walk led, and the answer that its reply makes; before it
--- come these steps of all
-abbrev pub Decides : Command → List Told → OpId → DirId → TreeStep → TreeReply → Answer → Type 0
-Decides (commands.Look p) steps op d s r a = LookDecides d p s r a
-Decides (commands.List p) steps op d s r a = ListDecides d s r a
-Decides (commands.Create p) steps op d s r a = CreateDecides d p s r a
-Decides (commands.Mkdir p) steps op d s r a = MkdirDecides d p s r a
-Decides (commands.Delete p) steps op d s r a = DeleteDecides d p s r a
-Decides (commands.Rename p to) steps op d s r a = RenameDecides steps op d p (last_name to) s r a
-Decides (commands.Open p) steps op d s r a = OpenDecides steps op d p s r a
-Decides (commands.Append p bytes) steps op d s r a = AppendDecides bytes s r a
-Decides (commands.Blocks p) steps op d s r a = BlocksDecides steps op d p s r a
-Decides (commands.Read p) steps op d s r a = ReadDecides steps op d p s r a
-Decides (commands.Seal p) steps op d s r a = SealDecides steps op d p s r a
-Decides _ steps op d s r a = ⊥
+-- the step that decides a command, in the directory d to which its walk led, and the answer that its reply makes; own are
+-- the op's steps before
+abbrev pub Decides : Command → List Told → DirId → TreeStep → TreeReply → Answer → Type 0
+Decides (commands.Look p) own d s r a = LookDecides d p s r a
+Decides (commands.List p) own d s r a = ListDecides d s r a
+Decides (commands.Create p) own d s r a = CreateDecides d p s r a
+Decides (commands.Mkdir p) own d s r a = MkdirDecides d p s r a
+Decides (commands.Delete p) own d s r a = DeleteDecides d p s r a
+Decides (commands.Rename p to) own d s r a = RenameDecides own d p (last_name to) s r a
+Decides (commands.Open p) own d s r a = OpenDecides own d p s r a
+Decides (commands.Append p bytes) own d s r a = AppendDecides bytes s r a
+Decides (commands.Blocks p) own d s r a = BlocksDecides own d p s r a
+Decides (commands.Read p) own d s r a = ReadDecides own d p s r a
+Decides (commands.Seal p) own d s r a = SealDecides own d p s r a
+Decides _ own d s r a = ⊥
 
 -- on the way, or where it led
-abbrev pub DecidesAt : Command → List Told → OpId → DirId → List (List ℕ) → TreeStep → TreeReply → Answer → Type 0
-DecidesAt c steps op d (n ∷ ns) s r a = (s ≡ step.Look (key_in d n)) × StopsWalk (key_in d n) r a
-DecidesAt c steps op d [] s r a = Decides c steps op d s r a
+abbrev pub DecidesAt : Command → List Told → DirId → List (List ℕ) → TreeStep → TreeReply → Answer → Type 0
+DecidesAt c own d (n ∷ ns) s r a = (s ≡ step.Look (key_in d n)) × StopsWalk (key_in d n) r a
+DecidesAt c own d [] s r a = Decides c own d s r a
 
 -- The answer is made at one of the op's own steps: its walk had led there, what was said to that step is what the tree
 -- says there, after all steps before it, and this decides the answer.
@@ -257,24 +258,9 @@ pub record Point (history : List Told) (op : OpId) (c : Command) (a : Answer) : 
   pub own : point.op ≡ op
   pub dir : DirId
   pub left : List (List ℕ)
-  pub walked : Walked before op.actor root (way c) (of_op op before) dir left
+  pub walked : Walked root (way c) (of_op op before) dir left
   pub by_tree : point.says ≡ tree_reply (tree_after opening_tree before) op point.does
-  pub decides : DecidesAt c before op dir left point.does point.says a
-
--- Or it is made by what the op's actor knows, at a moment after the op's own steps: what that says to a step is what the tree says to it
--- then, and this decides the answer.
-pub record KnownPoint (history : List Told) (op : OpId) (c : Command) (a : Answer) : Type 0 where
-  pub before : List Told
-  pub later : List Told
-  pub there : history ≡ before ++ later
-  pub dir : DirId
-  pub left : List (List ℕ)
-  pub walked : Walked before op.actor root (way c) (of_op op before) dir left
-  pub does : TreeStep
-  pub says : TreeReply
-  pub known : Knows before op.actor does says
-  pub by_tree : says ≡ tree_reply (tree_after opening_tree before) op does
-  pub decides : DecidesAt c before op dir left does says a
+  pub decides : DecidesAt c (of_op op before) dir left point.does point.says a
 
 -- a command that needs a last name is refused for want of one without any step
 abbrev pub LacksName : Command → Type 0

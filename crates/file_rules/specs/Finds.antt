@@ -17,12 +17,9 @@ use Rattle.store_rules.specs.declared.any.AnyReq.{AnyReq}
 use Rattle.store_rules.specs.declared.any.AnyReq.TheVariants as any
 use Rattle.store_rules.specs.declared.any.AnyReply.{AnyReply}
 use Rattle.store_rules.specs.declared.any.AnyReply.TheVariants.{File}
-use Rattle.program_forms.specs.Memories.{Memory}
-use Rattle.program_forms.specs.Kinds.{Turned}
 use Rattle.program_parts.specs.declared.next.Next.{Next}
 use Rattle.program_parts.specs.declared.next.Next.TheVariants.{Goes, Comes}
 use Rattle.program_parts.specs.Refused.{refusal}
-use Rattle.program_parts.specs.Kept.{finds_kept}
 
 -- an entry is looked up
 abbrev pub find_ask : Key → AnyReq
@@ -33,14 +30,6 @@ abbrev pub found_file : {S : Type 0} → Place → Key → AnyReply → (FileId 
 found_file place k x next None = Comes (refusal place k x)
 found_file place k x next (Some (nodes.Dir d)) = Comes answers.IsDir
 found_file place k x next (Some (nodes.File f)) = Goes (next f)
-
--- the same by look-ups in what is kept
-abbrev pub onto_file : {S : Type 0} → Memory → (FileId → Turned (Next S Answer)) → Node → Turned (Next S Answer)
-onto_file m on (nodes.Dir d) = record { memory = m; state = Comes answers.IsDir }
-onto_file m on (nodes.File f) = on f
-
-abbrev pub finds_kept_file : {S : Type 0} → Memory → Key → S → (Memory → FileId → Turned (Next S Answer)) → Turned (Next S Answer)
-finds_kept_file m k here on = finds_kept m k.dir k.name here (λ now. onto_file now (on now))
 
 -- what the refusal of a request for the file itself makes; it is refused for nothing else
 abbrev pub file_answer : Place → FileId → Refusal → Answer

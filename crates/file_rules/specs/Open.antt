@@ -13,14 +13,13 @@ use Rattle.store_rules.specs.declared.any.AnyReply.{AnyReply}
 use Rattle.store_rules.specs.Names.{key_in}
 use Rattle.store_rules.specs.Places.{request_place}
 use Rattle.store_rules.specs.Views.{as_found, is_opened}
-use Rattle.program_forms.specs.Memories.{Memory, Learnt, Opens}
-use Rattle.program_forms.specs.Kinds.{Turned}
+use Rattle.program_forms.specs.Memories.{Learnt, Opens}
 use Rattle.program_parts.specs.declared.next.Next.{Next}
-use Rattle.program_parts.specs.declared.next.Next.TheVariants.{Goes, Comes}
-use Rattle.program_parts.specs.Parts.{Part}
+use Rattle.program_parts.specs.declared.next.Next.TheVariants.{Comes}
+use Rattle.program_parts.specs.Parts.{Part, looks_nothing}
 use Rattle.file_rules.specs.declared.states.Open.{Open}
 use Rattle.file_rules.specs.declared.states.Open.TheVariants.{Find, Take}
-use Rattle.file_rules.specs.Finds.{find_ask, found_file, file_refusal, finds_kept_file}
+use Rattle.file_rules.specs.Finds.{find_ask, found_file, file_refusal}
 
 -- in the directory to which the path leads
 abbrev pub open_starts : List (List ℕ) → List ℕ → DirId → Open
@@ -29,11 +28,6 @@ open_starts path n d = Find (key_in d n) path
 abbrev pub open_asks : OpId → Open → AnyReq
 open_asks op (Find k path) = find_ask k
 open_asks op (Take f path) = any.File (files.TakeToken f op)
-
--- the file is looked up in a kept listing of its directory
-abbrev pub open_turns : Memory → Open → Turned (Next Open Answer)
-open_turns m (Find k path) = finds_kept_file m k (Find k path) (λ now f. record { memory = now; state = Goes (Take f path) })
-open_turns m (Take f path) = record { memory = m; state = Goes (Take f path) }
 
 abbrev pub taken : Place → OpId → FileId → AnyReply → Bool → Next Open Answer
 taken place op f x opened = if opened then Comes (Opened f op) else Comes (file_refusal place f x)
@@ -48,7 +42,7 @@ open_learns op (Take f path) x = if is_opened x then Opens path f op ∷ [] else
 
 abbrev pub opening : Part Open Answer
 opening = record {
-  turns = λ c m op s. open_turns m s;
+  turns = looks_nothing;
   asks = λ c m op s. open_asks op s;
   hears = λ c m op s q x. open_hears (request_place c q) op s x;
   learns = λ op s q x. open_learns op s x;

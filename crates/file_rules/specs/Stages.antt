@@ -1,5 +1,5 @@
 -- How far an append, or a read, has come.
-use Rattle.std.specs.Prelude.{ℕ, Bool, List}
+use Rattle.std.specs.Prelude.{ℕ, List}
 use Rattle.tect_ids.specs.declared.key.ChunkKey.{ChunkKey}
 use Rattle.tect_ids.specs.declared.values.RowPart.{RowPart}
 use Rattle.tect_calls.specs.MadeBlocks.{NewBlock}
@@ -16,10 +16,8 @@ pub record Reading : Type 0 where
   pub at : ℕ
   pub bytes : List ℕ
 
--- the chunks of a block's rows, how many of them were asked for in vain, the one that is asked for now, and whether the block's location
--- was kept
+-- the chunks of a block's rows, how many of them were asked for in vain, and the one that is asked for now
 pub record Fetching : Type 0 where
   pub chunks : List ChunkKey
   pub tried : ℕ
   pub chunk : ChunkKey
-  pub kept : Bool

@@ -29,14 +29,12 @@ impl Model for Reading {
     ghost invariant = { λ reading. reading.at < length reading.parts };
 }
 
-/// The chunks of the block that is read now, and the one of them that is asked for, after those before it were asked for in vain; and whether
-/// the block's location was kept.
+/// The chunks of the block that is read now, and the one of them that is asked for, after those before it were asked for in vain.
 #[derive(Drop)]
 pub struct Fetching {
     chunks: Gathered<ChunkKey>,
     tried: usize,
     chunk: ChunkKey,
-    kept: bool,
 }
 
 impl Model for Fetching {
@@ -45,7 +43,7 @@ impl Model for Fetching {
 
     ghost Value = { stages.Fetching };
 
-    ghost view = { λ fetching. record { chunks = fetching.chunks; tried = fetching.tried; chunk = fetching.chunk; kept = fetching.kept } };
+    ghost view = { λ fetching. record { chunks = fetching.chunks; tried = fetching.tried; chunk = fetching.chunk } };
 
     ghost invariant = { λ fetching. fetching.tried < length fetching.chunks };
 }
@@ -192,7 +190,6 @@ fn fetch_on(
                         chunks,
                         tried,
                         chunk,
-                        kept: false,
                     },
                 },
             }
@@ -216,49 +213,11 @@ impl Fetching {
         self.chunk
     }
 
-    /// Where a read goes on with the chunks of a block at a location that was kept: it asks for the first, and where there is none, anew
-    /// where the block lies. It takes no memory.
-    pub fn begin_kept(
-        reading: Reading,
-        blk: BlkId,
-        chunks: Gathered<ChunkKey>,
-    ) -> Next<Read, Answer>
-        ensures { result ≡ rules.fetched_kept reading blk chunks (slice_get chunks 0) }
-    {
-        match chunks.as_slice().get(0) {
-            None => Next::Goes {
-                state: Read::Relocate { reading, blk },
-            },
-            Some(chunk) => {
-                let chunk = *chunk;
-                Next::Goes {
-                    state: Read::Fetch {
-                        reading,
-                        fetching: Fetching {
-                            chunks,
-                            tried: 0,
-                            chunk,
-                            kept: true,
-                        },
-                    },
-                }
-            }
-        }
-    }
-
-    /// Where a read goes on after the chunk was asked for in vain: it asks for the next one, and at a location that was kept, anew where the
-    /// block lies. The reply came from that place; that there is no further one is odd. It takes no memory.
+    /// Where a read goes on after the chunk was asked for in vain: it asks for the next one. The reply came from that place; that there is
+    /// no further one is odd. It takes no memory.
     pub fn fetch_next(self, place: Place, reading: Reading) -> Next<Read, Answer>
-        ensures { result ≡ rules.not_got place reading self self.kept }
+        ensures { result ≡ rules.fetch_on place reading self.chunks (self.tried + 1) }
     {
-        if self.kept {
-            return Next::Goes {
-                state: Read::Relocate {
-                    reading,
-                    blk: self.chunk.blk,
-                },
-            };
-        }
         let tried = self.tried + 1;
         fetch_on(place, reading, self.chunks, tried)
     }

@@ -72,11 +72,6 @@ pub enum Read {
         reading: Reading,
         blk: BlkId,
     },
-    /// The same anew, after a chunk was not got at a location that was kept.
-    Relocate {
-        reading: Reading,
-        blk: BlkId,
-    },
     /// A chunk of the block is asked for.
     Fetch {
         reading: Reading,

@@ -24,7 +24,7 @@ use Rattle.file_rules.specs.Finds.{find_ask, file_refusal}
 use Rattle.file_rules.specs.Open.{opening, open_learns, taken}
 use Rattle.world_runs.specs.declared.event.Event.{Event}
 use Rattle.world_runs.specs.OwnRuns.{stored_after}
-use Rattle.claim_words.specs.Opened.{opened_at, learnt_of}
+use Rattle.claim_words.specs.Opened.{opened_at, opens_of}
 use Rattle.claim_words.specs.Points.{done_answer, file_key}
 use Rattle.claim_words.specs.TreeSteps.{says}
 use Rattle.telling_laws.specs.Parts.{NextTells, PartTells}
@@ -38,7 +38,7 @@ use Rattle.files_told.proofs.Replies.{RefusesFile, done_no, opens_yes, take_yes,
 
 -- of the reply its actor keeps just the file that was opened
 keeps_opened : (op : OpId) (c : Command) (f : FileId) (path : List (List ℕ)) (x : AnyReply) → c ≡ commands.Open path
-    → open_learns op (Take f path) x ≡ learnt_of (Some c) (any.File (files.TakeToken f op)) x
+    → open_learns op (Take f path) x ≡ opens_of (Some c) (any.File (files.TakeToken f op)) x
 keeps_opened op c f path x is =
     rw is (elim (is_opened x) as (λ b. (if b then Opens path f op ∷ [] else []) ≡ opened_at (Some (commands.Open path)) f op b)
     [ true ↦ refl | false ↦ refl ])

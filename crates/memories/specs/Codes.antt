@@ -6,8 +6,6 @@ use Rattle.tect_ids.specs.declared.ids.Counts.{Counts}
 use Rattle.tect_ids.specs.declared.ids.FileId.{FileId}
 use Rattle.tect_ids.specs.declared.ids.OpId.{OpId}
 use Rattle.tect_ids.specs.Codes.{file_code, op_code}
-use Rattle.sealed_cache.specs.Caches.{Caches}
-use Rattle.sealed_cache.specs.Codes.{caches_code}
 use Rattle.program_forms.specs.Memories.{OpenedFile, OpenedFiles}
 use Rattle.memories.specs.Knowing.{Known}
 
@@ -25,7 +23,6 @@ counts_code =
 
 abbrev pub known_code : Coded Known
 known_code =
-    code_by (ℕ × (Counts × (ℕ × (OpenedFiles × Caches))))
-    (coded× coded_ℕ (coded× counts_code (coded× coded_ℕ (coded× opened_files_code caches_code))))
-    (λ k. (k.actor, (k.counts, (k.memory.serial, (k.memory.opened, k.memory.caches)))))
-    (λ p. record { actor = p.0; counts = p.1.0; memory = record { serial = p.1.1.0; opened = p.1.1.1.0; caches = p.1.1.1.1 } }) (λ _. refl)
+    code_by (ℕ × (Counts × (ℕ × OpenedFiles))) (coded× coded_ℕ (coded× counts_code (coded× coded_ℕ opened_files_code)))
+    (λ k. (k.actor, (k.counts, (k.memory.serial, k.memory.opened))))
+    (λ p. record { actor = p.0; counts = p.1.0; memory = record { serial = p.1.1.0; opened = p.1.1.1 } }) (λ _. refl)

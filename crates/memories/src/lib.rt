@@ -1,4 +1,4 @@
-//! What an actor knows between its commands: how many objects it made, which files it opened, and what it keeps of sealed objects.
+//! What an actor knows between its commands: how many objects it made, and which files it opened.
 #![tactic(auto)]
 
 mod memory;

@@ -2,24 +2,18 @@ ghost use Rattle.std.specs.Prelude.{◌≡◌, ◌+◌, ◌^◌, ◌<◌, [], �
 ghost use Rattle.std.specs.Option.{option_copied};
 ghost use Rattle.std.specs.FinMap.{get};
 ghost use Rattle.tect_ids.specs.Places.{HasPlaces};
-ghost use Rattle.program_forms.specs.Memories.{opening_memory, learnt, Opens, Lists, ListsBlocks, Locates};
-ghost use Rattle.program_forms.specs.Memories.{kept_name, kept_listing, kept_blocks, kept_location};
-ghost use Rattle.program_forms.specs.Memories.{listing_used, blocks_used, location_used};
+ghost use Rattle.program_forms.specs.Memories.{opening_memory, learnt, Opens};
 ghost use Rattle.memories.specs.Knowing.{IsActor, number_for};
 
 use crate::opened_files::{OpenedFile, OpenedFiles};
 use crate::path_key::PathKey;
-use sealed_cache::{SealedBlocks, SealedCache, SealedListing};
 use std::alloc::Global;
 use std::marker::Model;
 use tect_calls::MadeFile;
-use tect_ids::{
-    BlkId, Counts, DirId, FileId, Items, Listed, Location, Name, NoMemory, Node, OpId, RowPart,
-    Token,
-};
+use tect_ids::{Counts, NoMemory, OpId, Token};
 
-/// What an actor knows between its commands: its number, the serial of the next object that it makes, how many shards there are, the
-/// files that it opened, and what it keeps of sealed objects.
+/// What an actor knows between its commands: its number, the serial of the next object that it makes, how many shards there
+/// are, and the files that it opened.
 #[derive(Drop)]
 pub struct Memory {
     alloc: Global,
@@ -27,7 +21,6 @@ pub struct Memory {
     serial: u32,
     counts: Counts,
     opened: OpenedFiles,
-    caches: SealedCache,
 }
 
 impl Model for Memory {
@@ -39,14 +32,14 @@ impl Model for Memory {
 
     ghost coded = { known_code };
 
-    ghost view = { λ m. record { actor = m.actor; counts = m.counts; memory = record { serial = m.serial; opened = m.opened; caches = m.caches } } };
+    ghost view = { λ m. record { actor = m.actor; counts = m.counts; memory = record { serial = m.serial; opened = m.opened } } };
 
     ghost invariant = { λ m. IsActor m.actor × HasPlaces m.counts };
 }
 
 impl Memory {
-    /// What an actor knows at the start: it has made, opened and kept nothing. Actors are numbered from 1 to 65, and each layer has 1 to 64
-    /// shards.
+    /// What an actor knows at the start: it has made and opened nothing, and that takes no memory. Actors are numbered from 1 to 65, and each
+    /// layer has 1 to 64 shards.
     pub fn start(alloc: Global, actor: u32, counts: Counts) -> Result<Memory, NoMemory>
         requires actor { IsActor actor }
         requires places { HasPlaces counts }
@@ -58,7 +51,6 @@ impl Memory {
             serial: 1,
             counts,
             opened: OpenedFiles::new(alloc),
-            caches: SealedCache::start(alloc)?,
         })
     }
 
@@ -115,80 +107,5 @@ impl Memory {
         ensures places { HasPlaces result }
     {
         self.counts
-    }
-
-    /// The node that has the name in the listing kept for the directory; none where no listing is kept for it, and `Some(None)` where one
-    /// is that has no such name. What was found is now the latest used one. It takes no memory.
-    pub fn kept_name(&mut self, dir: DirId, name: &Name) -> Option<Option<Node>>
-        ensures value { result ≡ kept_name self.old.memory dir name.now }
-        ensures used { self.new ≡ record self.old { memory = listing_used dir self.old.memory } }
-    {
-        self.caches.node_in(dir, name)
-    }
-
-    /// What is kept for the directory is now the latest used listing. It takes no memory.
-    pub fn use_listing(&mut self, dir: DirId)
-        ensures { self.new ≡ record self.old { memory = listing_used dir self.old.memory } }
-    {
-        self.caches.use_listing(dir);
-    }
-
-    /// What is kept for the file is now the latest used list of blocks. It takes no memory.
-    pub fn use_blocks(&mut self, file: FileId)
-        ensures { self.new ≡ record self.old { memory = blocks_used file self.old.memory } }
-    {
-        self.caches.use_blocks(file);
-    }
-
-    /// What is kept for the block is now the latest used location. It takes no memory.
-    pub fn use_location(&mut self, blk: BlkId)
-        ensures { self.new ≡ record self.old { memory = location_used blk self.old.memory } }
-    {
-        self.caches.use_location(blk);
-    }
-
-    /// The entries kept for the sealed directory. It is refused only where the count of their owners is full.
-    pub fn kept_listing(&self, dir: DirId) -> Result<Option<Items<Listed>>, NoMemory>
-        ensures { IfOk result (λ items. items ≡ kept_listing self.now.memory dir) }
-    {
-        self.caches.share_listing(dir)
-    }
-
-    /// The blocks kept for the sealed file. It is refused only where the count of their owners is full.
-    pub fn kept_blocks(&self, file: FileId) -> Result<Option<Items<RowPart>>, NoMemory>
-        ensures { IfOk result (λ rows. rows ≡ kept_blocks self.now.memory file) }
-    {
-        self.caches.share_blocks(file)
-    }
-
-    /// The location kept for the block. It is refused only where the count of its owners is full.
-    pub fn kept_location(&self, blk: BlkId) -> Result<Option<Location>, NoMemory>
-        ensures { IfOk result (λ location. location ≡ kept_location self.now.memory blk) }
-    {
-        self.caches.share_location(blk)
-    }
-
-    /// Keeps the entries of a sealed directory, in place of what was kept for it. For want of memory nothing is kept.
-    pub fn keep_listing(&mut self, dir: DirId, listing: SealedListing) -> Result<(), NoMemory>
-        ensures kept { OnOk result (self.new ≡ record self.old { memory = learnt (Lists dir listing ∷ []) self.old.memory }) }
-        ensures unchanged { OnErr result (self.new ≡ self.old) }
-    {
-        self.caches.keep_listing(dir, listing)
-    }
-
-    /// Keeps the blocks of a sealed file, in place of what was kept for it. For want of memory nothing is kept.
-    pub fn keep_blocks(&mut self, file: FileId, blocks: SealedBlocks) -> Result<(), NoMemory>
-        ensures kept { OnOk result (self.new ≡ record self.old { memory = learnt (ListsBlocks file blocks ∷ []) self.old.memory }) }
-        ensures unchanged { OnErr result (self.new ≡ self.old) }
-    {
-        self.caches.keep_blocks(file, blocks)
-    }
-
-    /// Keeps where a block lies, in place of what was kept for it. For want of memory nothing is kept.
-    pub fn keep_location(&mut self, blk: BlkId, location: Location) -> Result<(), NoMemory>
-        ensures kept { OnOk result (self.new ≡ record self.old { memory = learnt (Locates blk location ∷ []) self.old.memory }) }
-        ensures unchanged { OnErr result (self.new ≡ self.old) }
-    {
-        self.caches.keep_location(blk, location)
     }
 }

@@ -41,7 +41,7 @@ use Rattle.part_laws.specs.Releases.{release_deciding}
 use Rattle.world_runs.specs.declared.event.Event.{Event}
 use Rattle.world_runs.specs.OwnRuns.{stored_after}
 use Rattle.claim_words.specs.Commands.{content_in}
-use Rattle.claim_words.specs.Opened.{learnt_of}
+use Rattle.claim_words.specs.Opened.{opens_of}
 use Rattle.claim_words.specs.TreeSteps.{Told, tree_step, where_refused, says, tree_steps}
 use Rattle.claim_words.specs.Points.{of_op, Seen, done_answer, FindsSource, IsRefusal, Decides}
 use Rattle.claim_words.specs.Because.{because}
@@ -116,7 +116,7 @@ module _ (counts : Counts) where
   -- ---- the hold is granted
 
   -- a grant opens nothing
-  grant_opens : (c : Option Command) (n : Node) (hold : Hold) (k : Key) (x : AnyReply) → [] ≡ learnt_of c (grant_ask n hold k) x
+  grant_opens : (c : Option Command) (n : Node) (hold : Hold) (k : Key) (x : AnyReply) → [] ≡ opens_of c (grant_ask n hold k) x
   grant_opens c (Dir d) hold k x = refl
   grant_opens c (File f) hold k x = refl
 

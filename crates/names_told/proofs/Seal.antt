@@ -31,7 +31,7 @@ use Rattle.program_rules.specs.declared.operation.Operation.TheVariants as opera
 use Rattle.program_rules.specs.Seal.{seal, seal_ask, found, sealed}
 use Rattle.world_runs.specs.declared.event.Event.{Event}
 use Rattle.world_runs.specs.OwnRuns.{stored_after}
-use Rattle.claim_words.specs.Opened.{learnt_of}
+use Rattle.claim_words.specs.Opened.{opens_of}
 use Rattle.claim_words.specs.TreeSteps.{says}
 use Rattle.claim_words.specs.Points.{done_answer, file_key}
 use Rattle.claim_words.specs.Because.{because}
@@ -161,7 +161,7 @@ module _ (counts : Counts) where
   -- ---- the laws
 
   -- a seal opens nothing
-  seal_opens : (c : Option Command) (n : Node) (x : AnyReply) → [] ≡ learnt_of c (seal_ask n) x
+  seal_opens : (c : Option Command) (n : Node) (x : AnyReply) → [] ≡ opens_of c (seal_ask n) x
   seal_opens c (Dir d) x = refl
   seal_opens c (File f) x = refl
 

@@ -4,7 +4,7 @@ ghost use Rattle.store_rules.specs.Views.{is_opened};
 ghost use Rattle.program_forms.specs.Memories.{learnt};
 ghost use Rattle.program_parts.specs.declared.next.Next.TheVariants.{Comes};
 ghost use Rattle.file_rules.specs.declared.states.Open.TheVariants.{Take};
-ghost use Rattle.file_rules.specs.Open.{open_starts, open_turns, open_asks, taken, open_hears, open_learns};
+ghost use Rattle.file_rules.specs.Open.{open_starts, open_asks, taken, open_hears, open_learns};
 
 use crate::places::{place_of_dir, place_of_file};
 use crate::refusals::file_refused;
@@ -22,32 +22,6 @@ pub fn start(path: PathKey, name: Name, dir: DirId) -> Open
     Open::Find {
         key: Key { dir, name },
         path,
-    }
-}
-
-/// Where it goes on by what is kept of the directory of its file. It takes no memory.
-pub fn turn(opening: Open, memory: &mut Memory) -> Next<Open, Answer>
-    ensures state { result ≡ (open_turns memory.old.memory opening).state }
-    ensures memory { memory.new ≡ record memory.old { memory = (open_turns memory.old.memory opening).memory } }
-{
-    match opening {
-        Open::Find { key, path } => match memory.kept_name(key.dir, &key.name) {
-            None => Next::Goes {
-                state: Open::Find { key, path },
-            },
-            Some(None) => Next::Comes {
-                result: Answer::NoName,
-            },
-            Some(Some(Node::Dir(_))) => Next::Comes {
-                result: Answer::IsDir,
-            },
-            Some(Some(Node::File(file))) => Next::Goes {
-                state: Open::Take { file, path },
-            },
-        },
-        Open::Take { file, path } => Next::Goes {
-            state: Open::Take { file, path },
-        },
     }
 }
 

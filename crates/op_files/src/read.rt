@@ -1,7 +1,7 @@
 ghost use Rattle.std.specs.Prelude.{◌≡◌, IfOk, IfErr, option_map};
 ghost use Rattle.store_rules.specs.Places.{request_place};
 ghost use Rattle.store_rules.specs.Views.{as_block_list, as_location, as_bytes};
-ghost use Rattle.file_rules.specs.declared.states.Read.TheVariants.{Fetch};
+ghost use Rattle.file_rules.specs.declared.states.Read.TheVariants.{Locate, Fetch};
 ghost use Rattle.file_rules.specs.Read.{read_starts, read_asks, begins_reading, begins_fetching, got, read_hears};
 ghost use Rattle.file_rules.specs.Read as rules;
 
@@ -31,7 +31,7 @@ pub fn ask(read: &Read) -> Result<Asked, NoMemory>
     match read {
         Read::Find { key } => Ok(name_look(key.clone()?)),
         Read::List { file } => Ok(file_list_blocks(*file)),
-        Read::Locate { blk, .. } | Read::Relocate { blk, .. } => Ok(block_get_block(*blk)),
+        Read::Locate { blk, .. } => Ok(block_get_block(*blk)),
         Read::Fetch { fetching, .. } => Ok(disk_get(fetching.chunk())),
     }
 }
@@ -54,18 +54,7 @@ pub fn hear(read: Read, memory: &Memory, reply: &AnyReply) -> Result<Next<Read, 
             }
         }
         Read::Locate { reading, blk } => {
-            let place = place_of_blk(memory, blk);
-            match hear_locate(alloc, reading, blk, place, reply) {
-                Ok(next) => Ok(next),
-                Err(reading) => Err(Read::Locate { reading, blk }),
-            }
-        }
-        Read::Relocate { reading, blk } => {
-            let place = place_of_blk(memory, blk);
-            match hear_locate(alloc, reading, blk, place, reply) {
-                Ok(next) => Ok(next),
-                Err(reading) => Err(Read::Relocate { reading, blk }),
-            }
+            hear_locate(alloc, reading, blk, place_of_blk(memory, blk), reply)
         }
         Read::Fetch { reading, fetching } => {
             let place = place_of_disk(memory, fetching.chunk().disk);
@@ -110,16 +99,16 @@ fn hear_locate(
     blk: BlkId,
     place: Place,
     reply: &AnyReply,
-) -> Result<Next<Read, Answer>, Reading>
+) -> Result<Next<Read, Answer>, Read>
     ensures ok { IfOk result (λ next. next ≡ begins_fetching place reading blk (as_location reply.now)) }
-    ensures err { IfErr result (λ same. same ≡ reading) }
+    ensures err { IfErr result (λ same. same ≡ Locate reading blk) }
 {
     match placed(alloc, blk, reply) {
         Ok(None) => Ok(Next::Comes {
             result: Answer::Odd { place },
         }),
         Ok(Some(chunks)) => Ok(Fetching::begin(place, reading, chunks)),
-        Err(NoMemory) => Err(reading),
+        Err(NoMemory) => Err(Read::Locate { reading, blk }),
     }
 }
 

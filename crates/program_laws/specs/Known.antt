@@ -1,18 +1,12 @@
 -- What a command knows where it stands, when its answer is decided, and what is so of its actor's memory.
 use Rattle.std.specs.Prelude.{◌≡◌, ℕ, ◌<◌, ◌≤◌, ◌^◌, Bool, true, false, ◌||◌, eqb, List, [], ◌∷◌, Option, None, Some}
 use Rattle.std.specs.FinMap.{get}
-use Rattle.std.specs.List.{slice_get}
 use Rattle.tect_ids.specs.declared.ids.BlkId.{BlkId}
-use Rattle.tect_ids.specs.declared.ids.DirId.{DirId}
-use Rattle.tect_ids.specs.declared.ids.FileId.{FileId}
 use Rattle.tect_ids.specs.declared.ids.Hold.{Hold}
 use Rattle.tect_ids.specs.declared.ids.Node.{Node}
 use Rattle.tect_ids.specs.declared.ids.Node.TheVariants.{Dir, File}
 use Rattle.tect_ids.specs.declared.ids.OpId.{OpId}
 use Rattle.tect_ids.specs.declared.ids.Tag.{Tag}
-use Rattle.tect_ids.specs.declared.values.Listed.{Listed}
-use Rattle.tect_ids.specs.declared.values.Location.{Location}
-use Rattle.tect_ids.specs.declared.values.RowPart.{RowPart}
 use Rattle.tect_ids.specs.declared.answer.Answer.{Answer}
 use Rattle.tect_ids.specs.declared.answer.Answer.TheVariants as answers
 use Rattle.tect_ids.specs.declared.command.Command.{Command}
@@ -20,13 +14,9 @@ use Rattle.tect_ids.specs.Keys.{op_eq, node_eq, blk_eq}
 use Rattle.tect_ids.specs.Numbers.{object_number}
 use Rattle.store_rules.specs.declared.any.AnyReq.{AnyReq}
 use Rattle.program_forms.specs.Appends.{command_bytes}
-use Rattle.program_forms.specs.Memories.{Memory, OpenedFile, Learnt, Opens, Lists, ListsBlocks, Locates}
-use Rattle.program_forms.specs.Memories.{kept_listing, kept_blocks, kept_location}
+use Rattle.program_forms.specs.Memories.{Memory, OpenedFile, Learnt, Opens}
 use Rattle.program_forms.specs.Kinds.{Does, Asks, Says}
 use Rattle.store_pasts.specs.Worlds.{World}
-use Rattle.store_pasts.specs.Contents.{sealed_length}
-use Rattle.store_pasts.specs.Learned.{LocationTaught}
-use Rattle.store_pasts.specs.Roles.{EntriesTaught}
 use Rattle.store_pasts.specs.Pasts.{was_made}
 use Rattle.store_pasts.specs.Later.{actor_of, maker_of, Touched, Within}
 use Rattle.store_pasts.specs.Requests.{Needs, makes, touched_by}
@@ -61,27 +51,17 @@ pub record IsOpenedFile (w : World) (a : ℕ) (o : OpenedFile) : Type 0 where
   pub made : was_made w.ghost (File o.file) ≡ true
   pub own : o.token.actor ≡ a
 
--- each listed block is sealed and as long as listed
-abbrev pub AreSealedBlocks : World → List RowPart → Type 0
-AreSealedBlocks w rows = (i : ℕ) (p : RowPart) → slice_get rows i ≡ Some p → sealed_length (get w.store.blocks p.blk) ≡ Some p.len
-
 -- so is all that a reply tells the actor
 abbrev pub AllLearnt : World → ℕ → List Learnt → Type 0
 AllLearnt w a [] = Unit {0}
 AllLearnt w a (Opens path f t ∷ ls) = IsOpenedFile w a record { file = f; token = t } × AllLearnt w a ls
-AllLearnt w a (Lists d items ∷ ls) = EntriesTaught w items × AllLearnt w a ls
-AllLearnt w a (ListsBlocks f rows ∷ ls) = AreSealedBlocks w rows × AllLearnt w a ls
-AllLearnt w a (Locates b location ∷ ls) = LocationTaught w b location × AllLearnt w a ls
 
--- what is so of an actor's memory: nothing was made yet from its serial on, and what is kept of its opens and of sealed objects is so
+-- what is so of an actor's memory: nothing was made yet from its serial on, and what is kept of its opens is so
 pub record Remembers (w : World) (a : ℕ) (m : Memory) : Type 0 where
   pub files : 1 ≤ a → (i : ℕ) → m.serial ≤ i → i < 2 ^ 32 → was_made w.ghost (File record { 0 = object_number a i }) ≡ false
   pub dirs : 1 ≤ a → (i : ℕ) → m.serial ≤ i → i < 2 ^ 32 → was_made w.ghost (Dir record { 0 = object_number a i }) ≡ false
   pub blocks : 1 ≤ a → (i : ℕ) → m.serial ≤ i → i < 2 ^ 32 → w.ghost.born record { 0 = object_number a i } ≡ None
   pub opened : (path : List (List ℕ)) (o : OpenedFile) → get m.opened path ≡ Some o → IsOpenedFile w a o
-  pub listings : (d : DirId) (items : List Listed) → kept_listing m d ≡ Some items → EntriesTaught w items
-  pub block_lists : (f : FileId) (rows : List RowPart) → kept_blocks m f ≡ Some rows → AreSealedBlocks w rows
-  pub locations : (b : BlkId) (location : Location) → kept_location m b ≡ Some location → LocationTaught w b location
 
 -- the op's actor is numbered, and its serial is a small number
 pub record IsActor (op : OpId) (m : Memory) : Type 0 where

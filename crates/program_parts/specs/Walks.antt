@@ -1,5 +1,4 @@
--- The walk along a path: each name is looked up in turn, in a kept listing of its directory or else by a request; then comes the operation,
--- in the directory to which the path led.
+-- The walk along a path: each name is looked up in turn; then comes the operation, in the directory to which the path led.
 use Rattle.std.specs.Prelude.{ℕ, Option, Some, None, List, [], ◌∷◌}
 use Rattle.tect_ids.specs.declared.ids.Counts.{Counts}
 use Rattle.tect_ids.specs.declared.ids.DirId.{DirId}
@@ -25,7 +24,6 @@ use Rattle.program_parts.specs.declared.walking.Walking.{Walking}
 use Rattle.program_parts.specs.declared.walking.Walking.TheVariants.{Way, There}
 use Rattle.program_parts.specs.Parts.{Part, within, turned_within}
 use Rattle.program_parts.specs.Refused.{refusal}
-use Rattle.program_parts.specs.Kept.{finds_kept}
 
 -- the walk along these names from that directory, and the operation where they lead
 abbrev pub walk_on : {O S : Type 0} → (O → DirId → S) → DirId → List (List ℕ) → O → Walking O S
@@ -38,23 +36,9 @@ walked enters place k ns o x None = Comes (refusal place k x)
 walked enters place k ns o x (Some (nodes.Dir d)) = Goes (walk_on enters d ns o)
 walked enters place k ns o x (Some (nodes.File f)) = Comes answers.NotDir
 
--- on to the directory that was found on the way
-abbrev pub onto_dir : {S : Type 0} → Memory → (DirId → Turned (Next S Answer)) → Node → Turned (Next S Answer)
-onto_dir m on (nodes.Dir d) = on d
-onto_dir m on (nodes.File f) = record { memory = m; state = Comes answers.NotDir }
-
--- along the names that kept listings have, one after another, and on with the operation's own look-ups
-abbrev pub way_turns : {O S : Type 0} → (O → DirId → S) → Part S Answer → Counts → OpId → O → Memory → DirId → List ℕ → List (List ℕ)
-    → Turned (Next (Walking O S) Answer)
-way_turns enters P c op o m d n [] =
-    finds_kept m d n (Way d n [] o) (λ now. onto_dir now (λ x. turned_within There (P.turns c now op (enters o x))))
-way_turns enters P c op o m d n (next ∷ ns) =
-    finds_kept m d n (Way d n (next ∷ ns) o) (λ now. onto_dir now (λ x. way_turns enters P c op o now x next ns))
-
-abbrev pub walk_turns : {O S : Type 0} → (O → DirId → S) → Part S Answer → Counts → Memory → OpId → Walking O S
-    → Turned (Next (Walking O S) Answer)
-walk_turns enters P c m op (Way d n ns o) = way_turns enters P c op o m d n ns
-walk_turns enters P c m op (There s) = turned_within There (P.turns c m op s)
+abbrev pub walk_turns : {O S : Type 0} → Part S Answer → Counts → Memory → OpId → Walking O S → Turned (Next (Walking O S) Answer)
+walk_turns P c m op (Way d n ns o) = record { memory = m; state = Goes (Way d n ns o) }
+walk_turns P c m op (There s) = turned_within There (P.turns c m op s)
 
 abbrev pub walk_asks : {O S : Type 0} → Part S Answer → Counts → Memory → OpId → Walking O S → AnyReq
 walk_asks P c m op (Way d n ns o) = any.Name (names.Look (key_in d n))
@@ -71,4 +55,4 @@ walk_learns P op (There s) q x = P.learns op s q x
 
 -- a walk, and then the operation, which begins so in the directory to which the path led
 abbrev pub walking : {O S : Type 0} → (O → DirId → S) → Part S Answer → Part (Walking O S) Answer
-walking enters P = record { turns = walk_turns enters P; asks = walk_asks P; hears = walk_hears enters P; learns = walk_learns P }
+walking enters P = record { turns = walk_turns P; asks = walk_asks P; hears = walk_hears enters P; learns = walk_learns P }

@@ -1,4 +1,4 @@
--- Lists the entries of a directory: those that are kept, or else by a request; those of a sealed directory are kept then.
+-- Lists the entries of a directory.
 use Rattle.std.specs.Prelude.{Option, Some, None, List as Items}
 use Rattle.tect_ids.specs.declared.ids.DirId.{DirId}
 use Rattle.tect_ids.specs.declared.ids.Place.{Place}
@@ -10,11 +10,9 @@ use Rattle.store_rules.specs.declared.any.AnyReq.TheVariants.{Name}
 use Rattle.store_rules.specs.declared.any.AnyReply.{AnyReply}
 use Rattle.store_rules.specs.Places.{request_place}
 use Rattle.store_rules.specs.Views.{as_listing}
-use Rattle.program_forms.specs.Memories.{Memory, kept_listing, listing_used, keeps_listing}
-use Rattle.program_forms.specs.Kinds.{Turned}
 use Rattle.program_parts.specs.declared.next.Next.{Next}
 use Rattle.program_parts.specs.declared.next.Next.TheVariants.{Goes, Comes}
-use Rattle.program_parts.specs.Parts.{Part}
+use Rattle.program_parts.specs.Parts.{Part, looks_nothing, learns_nothing}
 use Rattle.program_parts.specs.Refused.{dir_refusal}
 use Rattle.program_rules.specs.declared.states.List.{List}
 
@@ -22,18 +20,10 @@ abbrev pub listed : Place → AnyReply → Option (Items Listed) → Next List A
 listed place x None = Comes (dir_refusal place x)
 listed place x (Some items) = Comes (Entries items)
 
--- the entries that are kept, if any are
-abbrev pub list_kept : List → Option (Items Listed) → Next List Answer
-list_kept s None = Goes s
-list_kept s (Some items) = Comes (Entries items)
-
-abbrev pub list_turns : Memory → List → Turned (Next List Answer)
-list_turns m s = record { memory = listing_used s.dir m; state = list_kept s (kept_listing m s.dir) }
-
 abbrev pub list : Part List Answer
 list = record {
-  turns = λ c m op s. list_turns m s;
+  turns = looks_nothing;
   asks = λ c m op s. Name (names.List s.dir);
   hears = λ c m op s q x. listed (request_place c q) x (as_listing x);
-  learns = λ op s q x. keeps_listing s.dir x;
+  learns = learns_nothing;
 }

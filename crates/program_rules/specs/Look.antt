@@ -14,12 +14,9 @@ use Rattle.store_rules.specs.declared.any.AnyReply.{AnyReply}
 use Rattle.store_rules.specs.Names.{key_in}
 use Rattle.store_rules.specs.Places.{request_place}
 use Rattle.store_rules.specs.Views.{as_found, as_parent}
-use Rattle.program_forms.specs.Memories.{Memory}
-use Rattle.program_forms.specs.Kinds.{Turned}
 use Rattle.program_parts.specs.declared.next.Next.{Next}
 use Rattle.program_parts.specs.declared.next.Next.TheVariants.{Goes, Comes}
-use Rattle.program_parts.specs.Parts.{Part, learns_nothing}
-use Rattle.program_parts.specs.Kept.{finds_kept}
+use Rattle.program_parts.specs.Parts.{Part, looks_nothing, learns_nothing}
 use Rattle.program_parts.specs.Refused.{refusal, dir_refusal}
 use Rattle.program_rules.specs.declared.states.Look.{Look}
 use Rattle.program_rules.specs.declared.states.Look.TheVariants.{Check, Entry}
@@ -27,11 +24,6 @@ use Rattle.program_rules.specs.declared.states.Look.TheVariants.{Check, Entry}
 abbrev pub look_starts : Option (List ℕ) → DirId → Look
 look_starts None d = Check d
 look_starts (Some n) d = Entry (key_in d n)
-
--- an entry is looked up in a kept listing of its directory
-abbrev pub look_turns : Memory → Look → Turned (Next Look Answer)
-look_turns m (Check d) = record { memory = m; state = Goes (Check d) }
-look_turns m (Entry k) = finds_kept m k.dir k.name (Entry k) (λ now n. record { memory = now; state = Comes (Found n) })
 
 abbrev pub look_asks : Look → AnyReq
 look_asks (Check d) = Name (names.CheckDir d)
@@ -51,7 +43,7 @@ look_hears place (Entry k) x = looked place k x (as_found x)
 
 abbrev pub look : Part Look Answer
 look = record {
-  turns = λ c m op s. look_turns m s;
+  turns = looks_nothing;
   asks = λ c m op s. look_asks s;
   hears = λ c m op s q x. look_hears (request_place c q) s x;
   learns = learns_nothing;

@@ -22,13 +22,10 @@ use Rattle.store_rules.specs.Places.{request_place}
 use Rattle.store_rules.specs.Views.{as_found, is_granted, as_swapped}
 use Rattle.tect_calls.specs.declared.tokens.Freed.{Freed}
 use Rattle.tect_calls.specs.Readings.{swapped_freed}
-use Rattle.program_forms.specs.Memories.{Memory}
-use Rattle.program_forms.specs.Kinds.{Turned}
 use Rattle.program_parts.specs.declared.next.Next.{Next}
 use Rattle.program_parts.specs.declared.next.Next.TheVariants.{Goes, Comes}
-use Rattle.program_parts.specs.Parts.{Part, within, learns_nothing}
+use Rattle.program_parts.specs.Parts.{Part, within, looks_nothing, learns_nothing}
 use Rattle.program_parts.specs.Refused.{refusal}
-use Rattle.program_parts.specs.Kept.{finds_kept}
 use Rattle.program_parts.specs.Releases.{release_ask, then_release}
 use Rattle.program_rules.specs.declared.states.Rename.{Rename}
 use Rattle.program_rules.specs.declared.states.Rename.TheVariants.{Find, Grant, Swap, Release}
@@ -48,12 +45,6 @@ rename_asks op (Release r) = release_ask (r.first).node (r.first).hold
 abbrev pub to_grant : DirId → Node → Option OldAndNew → Next Rename Answer
 to_grant d node None = Comes Done
 to_grant d node (Some p) = Goes (Grant d p node)
-
--- the old name is looked up in a kept listing of the directory
-abbrev pub rename_turns : Memory → Rename → Turned (Next Rename Answer)
-rename_turns m (Find d from to) =
-    finds_kept m d from (Find d from to) (λ now n. record { memory = now; state = to_grant d n (pair_of from to (name_eq from to)) })
-rename_turns m s = record { memory = m; state = Goes s }
 
 abbrev pub found_old : Place → DirId → List ℕ → List ℕ → AnyReply → Option Node → Next Rename Answer
 found_old place d from to x None = Comes (refusal place (key_in d from) x)
@@ -76,7 +67,7 @@ rename_hears place op (Release r) x = within Release (then_release r.second r.an
 
 abbrev pub rename : Part Rename Answer
 rename = record {
-  turns = λ c m op s. rename_turns m s;
+  turns = looks_nothing;
   asks = λ c m op s. rename_asks op s;
   hears = λ c m op s q x. rename_hears (request_place c q) op s x;
   learns = learns_nothing;

@@ -15,13 +15,10 @@ use Rattle.store_rules.specs.declared.any.AnyReply.{AnyReply}
 use Rattle.store_rules.specs.Names.{key_in}
 use Rattle.store_rules.specs.Places.{request_place}
 use Rattle.store_rules.specs.Views.{as_found, is_sealed}
-use Rattle.program_forms.specs.Memories.{Memory}
-use Rattle.program_forms.specs.Kinds.{Turned}
 use Rattle.program_parts.specs.declared.next.Next.{Next}
 use Rattle.program_parts.specs.declared.next.Next.TheVariants.{Goes, Comes}
-use Rattle.program_parts.specs.Parts.{Part, learns_nothing}
+use Rattle.program_parts.specs.Parts.{Part, looks_nothing, learns_nothing}
 use Rattle.program_parts.specs.Refused.{refusal, dir_refusal}
-use Rattle.program_parts.specs.Kept.{finds_kept}
 use Rattle.file_rules.specs.Finds.{find_ask, file_refusal}
 use Rattle.program_rules.specs.declared.states.Seal.{Seal}
 use Rattle.program_rules.specs.declared.states.Seal.TheVariants.{Find, Close}
@@ -38,11 +35,6 @@ seal_ask (nodes.File f) = any.File (files.SealFile f)
 abbrev pub seal_asks : Seal → AnyReq
 seal_asks (Find k) = find_ask k
 seal_asks (Close n) = seal_ask n
-
--- the last name is looked up in a kept listing of its directory
-abbrev pub seal_turns : Memory → Seal → Turned (Next Seal Answer)
-seal_turns m (Find k) = finds_kept m k.dir k.name (Find k) (λ now n. record { memory = now; state = Goes (Close n) })
-seal_turns m (Close n) = record { memory = m; state = Goes (Close n) }
 
 abbrev pub found : Place → Key → AnyReply → Option Node → Next Seal Answer
 found place k x None = Comes (refusal place k x)
@@ -63,7 +55,7 @@ seal_hears place (Close n) x = sealed place n x (is_sealed x)
 
 abbrev pub seal : Part Seal Answer
 seal = record {
-  turns = λ c m op s. seal_turns m s;
+  turns = looks_nothing;
   asks = λ c m op s. seal_asks s;
   hears = λ c m op s q x. seal_hears (request_place c q) s x;
   learns = learns_nothing;

@@ -88,27 +88,6 @@ impl SealedCache {
         self.locations.get(&blk.0)
     }
 
-    /// The listing kept for the directory, which stays where it is. It takes no memory.
-    pub fn peek_listing(&self, dir: DirId) -> Option<&SealedListing>
-        ensures { option_copied result ≡ found dir_eq dir self.now.listings }
-    {
-        self.listings.peek(&dir.0)
-    }
-
-    /// The blocks kept for the file, which stay where they are. It takes no memory.
-    pub fn peek_blocks(&self, file: FileId) -> Option<&SealedBlocks>
-        ensures { option_copied result ≡ found file_eq file self.now.blocks }
-    {
-        self.block_lists.peek(&file.0)
-    }
-
-    /// The location kept for the block, which stays where it is. It takes no memory.
-    pub fn peek_location(&self, blk: BlkId) -> Option<&Location>
-        ensures { option_copied result ≡ found blk_eq blk self.now.locations }
-    {
-        self.locations.peek(&blk.0)
-    }
-
     /// Keeps the listing for the directory as the latest used one, in place of one that was kept for it; beyond 64 the last is dropped.
     /// For want of memory, which never comes where one is kept for the directory, it is not kept and nothing changes.
     #[tactic(auto, using(crate::proofs::ByNumber::found_dir))]

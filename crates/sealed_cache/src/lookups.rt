@@ -21,58 +21,40 @@ impl SealedCache {
         }
     }
 
-    /// The listing kept for the directory is now the latest used one. It takes no memory.
-    pub fn use_listing(&mut self, dir: DirId)
-        ensures { self.new ≡ use_listing dir self.old }
+    /// The entries kept for the directory, as one more owner of them, and they are now the latest used ones. It takes no memory; it is
+    /// refused only where some are kept and the count of owners is full, and they are the latest used ones then too.
+    pub fn share_listing(&mut self, dir: DirId) -> Result<Option<Items<Listed>>, NoMemory>
+        ensures value { IfOk result (λ items. items ≡ found dir_eq dir self.old.listings) }
+        ensures used { self.new ≡ use_listing dir self.old }
+        ensures not_kept { found dir_eq dir self.old.listings ≡ None → IsOk result }
     {
-        let _listing = self.listing(dir);
-    }
-
-    /// The blocks kept for the file are now the latest used ones. It takes no memory.
-    pub fn use_blocks(&mut self, file: FileId)
-        ensures { self.new ≡ use_blocks file self.old }
-    {
-        let _blocks = self.blocks(file);
-    }
-
-    /// The location kept for the block is now the latest used one. It takes no memory.
-    pub fn use_location(&mut self, blk: BlkId)
-        ensures { self.new ≡ use_location blk self.old }
-    {
-        let _location = self.location(blk);
-    }
-
-    /// The entries kept for the directory, as one more owner of them. It takes no memory; it is refused only where some are kept and the
-    /// count of owners is full.
-    pub fn share_listing(&self, dir: DirId) -> Result<Option<Items<Listed>>, NoMemory>
-        ensures value { IfOk result (λ items. items ≡ found dir_eq dir self.now.listings) }
-        ensures not_kept { found dir_eq dir self.now.listings ≡ None → IsOk result }
-    {
-        match self.peek_listing(dir) {
+        match self.listing(dir) {
             Some(listing) => Ok(Some(listing.items().clone()?)),
             None => Ok(None),
         }
     }
 
-    /// The blocks kept for the file, as one more owner of them. It takes no memory; it is refused only where some are kept and the count of
-    /// owners is full.
-    pub fn share_blocks(&self, file: FileId) -> Result<Option<Items<RowPart>>, NoMemory>
-        ensures value { IfOk result (λ rows. rows ≡ found file_eq file self.now.blocks) }
-        ensures not_kept { found file_eq file self.now.blocks ≡ None → IsOk result }
+    /// The blocks kept for the file, as one more owner of them, and they are now the latest used ones. It takes no memory; it is refused
+    /// only where some are kept and the count of owners is full, and they are the latest used ones then too.
+    pub fn share_blocks(&mut self, file: FileId) -> Result<Option<Items<RowPart>>, NoMemory>
+        ensures value { IfOk result (λ rows. rows ≡ found file_eq file self.old.blocks) }
+        ensures used { self.new ≡ use_blocks file self.old }
+        ensures not_kept { found file_eq file self.old.blocks ≡ None → IsOk result }
     {
-        match self.peek_blocks(file) {
+        match self.blocks(file) {
             Some(blocks) => Ok(Some(blocks.rows().clone()?)),
             None => Ok(None),
         }
     }
 
-    /// The location kept for the block, as one more owner of its rows. It takes no memory; it is refused only where one is kept and the
-    /// count of owners is full.
-    pub fn share_location(&self, blk: BlkId) -> Result<Option<Location>, NoMemory>
-        ensures value { IfOk result (λ location. location ≡ found blk_eq blk self.now.locations) }
-        ensures not_kept { found blk_eq blk self.now.locations ≡ None → IsOk result }
+    /// The location kept for the block, as one more owner of its rows, and it is now the latest used one. It takes no memory; it is
+    /// refused only where one is kept and the count of owners is full, and it is the latest used one then too.
+    pub fn share_location(&mut self, blk: BlkId) -> Result<Option<Location>, NoMemory>
+        ensures value { IfOk result (λ location. location ≡ found blk_eq blk self.old.locations) }
+        ensures used { self.new ≡ use_location blk self.old }
+        ensures not_kept { found blk_eq blk self.old.locations ≡ None → IsOk result }
     {
-        match self.peek_location(blk) {
+        match self.location(blk) {
             Some(location) => Ok(Some(same_location(location)?)),
             None => Ok(None),
         }

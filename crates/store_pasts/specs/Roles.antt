@@ -1,6 +1,6 @@
 -- The role of each request: what it does to the past, which nodes it makes and names, what has to be known before it is made, and what
 -- its reply teaches. What it does with a hold stands in store_rules' Holds.
-use Rattle.std.specs.Prelude.{◌≡◌, ◌≢◌, ℕ, List, Bool, true, false, Option, Some, None, is_some}
+use Rattle.std.specs.Prelude.{◌≡◌, ◌≢◌, Bool, true, false, Option, Some, None, is_some}
 use Rattle.std.specs.FinMap.{get}
 use Rattle.tect_ids.specs.declared.ids.BlkId.{BlkId}
 use Rattle.tect_ids.specs.declared.ids.DirId.{DirId}
@@ -9,9 +9,7 @@ use Rattle.tect_ids.specs.declared.ids.Node.{Node}
 use Rattle.tect_ids.specs.declared.ids.Node.TheVariants.{Dir, File}
 use Rattle.tect_ids.specs.declared.ids.Tag.{Tag}
 use Rattle.tect_ids.specs.declared.key.Key.{Key}
-use Rattle.tect_ids.specs.declared.values.Listed.{Listed}
 use Rattle.tect_ids.specs.Keys.{tag_eq}
-use Rattle.sealed_cache.specs.Sealed.{node_in}
 use Rattle.store_rules.specs.declared.names.Replaced.{Replaced}
 use Rattle.store_rules.specs.declared.names.NameReq.{NameReq}
 use Rattle.store_rules.specs.declared.names.NameReq.TheVariants as names
@@ -26,7 +24,7 @@ use Rattle.store_rules.specs.declared.any.AnyReq.TheVariants as any
 use Rattle.store_rules.specs.declared.any.AnyReply.{AnyReply}
 use Rattle.store_rules.specs.Names.{key_in}
 use Rattle.store_rules.specs.Store.{Store}
-use Rattle.store_rules.specs.Views.{as_found, as_listing, is_made, is_granted, as_bound, as_unbound, as_swapped}
+use Rattle.store_rules.specs.Views.{as_found, is_made, is_granted, as_bound, as_unbound, as_swapped}
 use Rattle.store_rules.specs.Views.{as_attached, as_block_list, as_location, as_bytes}
 use Rattle.store_pasts.specs.Contents.{disk_at, rows_in}
 use Rattle.store_pasts.specs.Ghosts.{Ghost, World, ghost_made, ghost_granted, ghost_bound, ghost_unbound}
@@ -57,14 +55,6 @@ GrantNeeds w n h k = (w.ghost.given h ≡ None) × (was_made w.ghost (Dir k.dir)
 abbrev pub FoundTaught : World → Option Node → Type 0
 FoundTaught v None = Unit {0}
 FoundTaught v (Some n) = (was_made v.ghost n ≡ true) × (is_some (v.ghost.home n) ≡ true)
-
--- so was each that a listing names
-abbrev pub EntriesTaught : World → List Listed → Type 0
-EntriesTaught v items = (name : List ℕ) (n : Node) → node_in items name ≡ Some n → FoundTaught v (Some n)
-
-abbrev pub ListingTaught : World → Option (List Listed) → Type 0
-ListingTaught v None = Unit {0}
-ListingTaught v (Some items) = EntriesTaught v items
 
 -- a new node is made, its hold is granted, and nothing names it
 abbrev pub MadeTaught : World → Node → Hold → Key → AnyReply → Type 0
@@ -127,7 +117,7 @@ plain = record {
 abbrev pub name_role : NameReq → Role
 name_role (names.CheckDir d) = plain
 name_role (names.Look k) = record plain { taught = λ v x. FoundTaught v (as_found x) }
-name_role (names.List d) = record plain { taught = λ v x. ListingTaught v (as_listing x) }
+name_role (names.List d) = plain
 name_role (names.MakeDir d p h k) =
     record plain {
       ghost = λ s g. ghost_made g (Dir d) h k;

@@ -26,7 +26,7 @@ use Rattle.part_laws.proofs.Within.{within_decided, within_turned}
 use Rattle.world_runs.specs.declared.event.Event.{Event}
 use Rattle.world_runs.specs.declared.event.Event.TheVariants.{Own}
 use Rattle.world_runs.specs.declared.event.Happening.TheVariants.{Began, Acted}
-use Rattle.claim_words.specs.Opened.{learnt_of, opened_in}
+use Rattle.claim_words.specs.Opened.{opens_of, opened_in}
 use Rattle.claim_words.specs.TreeSteps.{tree_steps}
 use Rattle.claim_words.specs.Commands.{command_of}
 use Rattle.claim_words.specs.Points.{of_op}
@@ -50,9 +50,9 @@ pub record TellsAt {S : Type 0} (counts : Counts) (d : Doing S Answer) (D : Deci
   pub heard : (m : Memory) (op : OpId) (q : AnyReq) (x : AnyReply) (a : Answer) → now ≡ Some a
       → next_decided D (d.hears counts m op q x) ≡ Some a
   pub learns : (h : List Event) (op : OpId) (c : Command) (m : Memory) (x : AnyReply) → Before h op c → now ≡ None
-      → d.learns op (d.asks counts m op) x ≡ learnt_of (Some c) (d.asks counts m op) x
+      → d.learns op (d.asks counts m op) x ≡ opens_of (Some c) (d.asks counts m op) x
   pub learns_none : (op : OpId) (c : Command) (m : Memory) (x : AnyReply) (a : Answer) → now ≡ Some a
-      → d.learns op (d.asks counts m op) x ≡ learnt_of (Some c) (d.asks counts m op) x
+      → d.learns op (d.asks counts m op) x ≡ opens_of (Some c) (d.asks counts m op) x
   pub opened : (m : Memory) (op : OpId) → (d.turns counts m op).memory.opened ≡ m.opened
 
 abbrev pub TellsIn : {S : Type 0} → Counts → Part S Answer → Deciding S Answer → Telling S → S → Type 0
@@ -104,7 +104,7 @@ pub record WaitsAt {S : Type 0} (counts : Counts) (P : Part S Answer) (D : Decid
   pub stays : (h : List Event) (e : Event) (op : OpId) (c : Command) → is_of op e ≡ false → T.Before h op c s
       → T.Before (h ++ e ∷ []) op c s
   pub learns : (h : List Event) (op : OpId) (c : Command) (m : Memory) (x : AnyReply) → T.Before h op c s
-      → P.learns op s (P.asks counts m op s) x ≡ learnt_of (Some c) (P.asks counts m op s) x
+      → P.learns op s (P.asks counts m op s) x ≡ opens_of (Some c) (P.asks counts m op s) x
 
 -- what is told before an answer, where none is decided
 pub told_before : {S : Type 0} (D : Deciding S Answer) (T : Telling S) (h : List Event) (op : OpId) (c : Command) (s : S)
@@ -167,7 +167,7 @@ then_release_decided None a = refl
 then_release_decided (Some f) a = refl
 
 -- a release opens nothing
-pub release_opens : (c : Option Command) (n : Node) (h : Hold) (x : AnyReply) → [] ≡ learnt_of c (release_ask n h) x
+pub release_opens : (c : Option Command) (n : Node) (h : Hold) (x : AnyReply) → [] ≡ opens_of c (release_ask n h) x
 release_opens c (nodes.Dir d) h x = refl
 release_opens c (nodes.File f) h x = refl
 
@@ -249,15 +249,15 @@ module _ {S : Type 0} {counts : Counts} {P : Part S Answer} {D : Deciding S Answ
   next_says m op (Comes r) a says = ap (λ (d : Does Answer). said_by d) says
 
   state_learnt : (h : List Event) (op : OpId) (c : Command) (m : Memory) (s : S) (x : AnyReply) (o : Option Answer) → D.decided s ≡ o
-      → OfDecided (T.Before h op c s) (T.because h op c) o → P.learns op s (P.asks counts m op s) x ≡ learnt_of (Some c) (P.asks counts m op s) x
+      → OfDecided (T.Before h op c s) (T.because h op c) o → P.learns op s (P.asks counts m op s) x ≡ opens_of (Some c) (P.asks counts m op s) x
   state_learnt h op c m s x None is before = L.learns h op c m s x before is
   state_learnt h op c m s x (Some a) is tells = L.learns_none op c m s x a is
 
   next_learnt : (h : List Event) (op : OpId) (c : Command) (m : Memory) (n : Next S Answer) (q : AnyReq) (x : AnyReply)
       → next_asks P counts m op n ≡ Asks q → Tells (next_deciding D) (next_telling T) h op c n
-      → next_learns P op n q x ≡ learnt_of (Some c) q x
+      → next_learns P op n q x ≡ opens_of (Some c) q x
   next_learnt h op c m (Goes s) q x asks tells =
-      subst (λ (r : AnyReq). P.learns op s r x ≡ learnt_of (Some c) r x)
+      subst (λ (r : AnyReq). P.learns op s r x ≡ opens_of (Some c) r x)
       (same_ask (P.asks counts m op s) q (ap (λ (d : Does Answer). asked_by d) asks))
       (state_learnt h op c m s x (D.decided s) refl tells)
   next_learnt h op c m (Comes r) q x asks tells = absurd (let k : None ≡ Some q = ap (λ (d : Does Answer). asked_by d) asks in cc)

@@ -35,7 +35,7 @@ use Rattle.world_runs.proofs.Refusals.{refused-rest}
 use Rattle.whole_runs.proofs.Refusals.{refused-front}
 use Rattle.whole_runs.proofs.Standings.{runs_at, Asking, asks_of, Saying, says_of, does_say, went_on_number, ended_number, own_grows}
 use Rattle.claim_words.specs.Commands.{content_in}
-use Rattle.claim_words.specs.Opened.{learnt_of, learnt_by, opened_in}
+use Rattle.claim_words.specs.Opened.{opens_of, learnt_by, opened_in}
 use Rattle.claim_words.specs.TreeSteps.{told_of, tree_steps, IsTreeRun}
 use Rattle.claim_words.specs.Points.{of_op}
 use Rattle.claim_words.specs.Headline.{begun_by, or_later, command_of, ExplainsBy, HadNoRoom}
@@ -240,11 +240,11 @@ module _ (S : Type 0) (counts : Counts) (P : Programs S) (D : Deciding S Answer)
     acted_opened : (q : AnyReq) (x : AnyReply) (how : Heard) (state : S) → s.running ≡ Some record { op = op; at = Goes state }
         → next_does P.kind m.counts s.memory op state ≡ Asks q
         → (memory_heard P.kind m.counts s.memory op state q x how).opened
-        ≡ opened_by (kept_of how (learnt_of (command_of h op) q x)) s.memory.opened
+        ≡ opened_by (kept_of how (opens_of (command_of h op) q x)) s.memory.opened
     acted_opened q x how state is asks =
         let k : RunningTells h op.actor s.number (Some record { op = op; at = Goes state }) = rw is at (t.tells op.actor) in
         let was : StandTells h op (Goes state) = k.2 in
-        let learns : P.kind.learns op (turned P.kind counts s.memory op state).state q x ≡ learnt_of (Some was.0) q x =
+        let learns : P.kind.learns op (turned P.kind counts s.memory op state).state q x ≡ opens_of (Some was.0) q x =
         L.learns h op was.0 s.memory state q x asks (turned_tells h op was.0 s.memory state was.2) in
         rw (learns, was.1, L.opened s.memory op state) refl
 

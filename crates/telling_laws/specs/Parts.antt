@@ -23,11 +23,10 @@ use Rattle.world_runs.specs.declared.event.Event.{Event}
 use Rattle.world_runs.specs.declared.event.Event.TheVariants.{Own}
 use Rattle.world_runs.specs.declared.event.Happening.TheVariants.{Acted}
 use Rattle.world_runs.specs.OwnRuns.{stored_after}
-use Rattle.claim_words.specs.Opened.{learnt_of}
-use Rattle.claim_words.specs.Points.{way, of_op, Walked, Point, KnownPoint}
+use Rattle.claim_words.specs.Opened.{opens_of}
+use Rattle.claim_words.specs.Points.{way, of_op, Walked, Point}
 use Rattle.claim_words.specs.TreeSteps.{told_of, tree_steps, IsTreeRun}
-use Rattle.tree_model.specs.Tree.{opening_tree}
-use Rattle.telling_laws.specs.Telling.{is_of, tree_of, IsSeen, Telling, Tells, Recalls, LeavesKept}
+use Rattle.telling_laws.specs.Telling.{is_of, tree_of, IsSeen, Telling, Tells}
 
 -- what the history tells where the part goes on, or explains what it has come to
 abbrev pub NextTells : {S : Type 0} → Deciding S Answer → Telling S → List Event → OpId → Command → Next S Answer → Type 0
@@ -43,8 +42,7 @@ abbrev pub next_telling : {S : Type 0} → Telling S → Telling (Next S Answer)
 next_telling T = record { Before = NextBefore T; because = T.because }
 
 pub record PartTells {S : Type 0} (counts : Counts) (P : Part S Answer) (D : Deciding S Answer) (T : Telling S) : Type 0 where
-  pub turns : (h : List Event) (op : OpId) (c : Command) (m : Memory) (s : S) → IsTreeRun opening_tree (tree_steps h)
-      → Recalls h op.actor m → T.Before h op c s → D.decided s ≡ None
+  pub turns : (h : List Event) (op : OpId) (c : Command) (m : Memory) (s : S) → T.Before h op c s → D.decided s ≡ None
       → NextTells D T h op c (P.turns counts m op s).state
   pub hears : (h : List Event) (op : OpId) (c : Command) (m : Memory) (s : S) (x : AnyReply) (how : Heard)
       → IsSeen h (P.asks counts m op s) → x ≡ store_reply (stored_after opening_store h) (P.asks counts m op s)
@@ -57,17 +55,17 @@ pub record PartTells {S : Type 0} (counts : Counts) (P : Part S Answer) (D : Dec
   pub turned : (m : Memory) (op : OpId) (s : S) → IsTurned D (D.decided s) (P.turns counts m op s).state
   pub heard : (m : Memory) (op : OpId) (s : S) (q : AnyReq) (x : AnyReply) (a : Answer) → D.decided s ≡ Some a
       → next_decided D (P.hears counts m op s q x) ≡ Some a
-  -- of a reply its actor keeps just what that tells, and nothing once it is decided; its look-ups leave what is kept
+  -- of a reply its actor keeps just what it opened, and nothing once it is decided; its look-ups leave what it opened
   pub learns : (h : List Event) (op : OpId) (c : Command) (m : Memory) (s : S) (x : AnyReply) → T.Before h op c s → D.decided s ≡ None
-      → P.learns op s (P.asks counts m op s) x ≡ learnt_of (Some c) (P.asks counts m op s) x
+      → P.learns op s (P.asks counts m op s) x ≡ opens_of (Some c) (P.asks counts m op s) x
   pub learns_none : (op : OpId) (c : Command) (m : Memory) (s : S) (x : AnyReply) (a : Answer) → D.decided s ≡ Some a
-      → P.learns op s (P.asks counts m op s) x ≡ learnt_of (Some c) (P.asks counts m op s) x
-  pub kept : (m : Memory) (op : OpId) (s : S) → LeavesKept m (P.turns counts m op s).memory
+      → P.learns op s (P.asks counts m op s) x ≡ opens_of (Some c) (P.asks counts m op s) x
+  pub opened : (m : Memory) (op : OpId) (s : S) → (P.turns counts m op s).memory.opened ≡ m.opened
 
 -- ---- a walk before an operation that fits the command
 
 abbrev pub WalkBefore : {O S : Type 0} → (Command → O → Type 0) → Telling S → List Event → OpId → Command → Walking O S → Type 0
-WalkBefore fits T h op c (Way d n ns o) = Walked (tree_steps h) op.actor root (way c) (of_op op (tree_steps h)) d (n ∷ ns) × fits c o
+WalkBefore fits T h op c (Way d n ns o) = Walked root (way c) (of_op op (tree_steps h)) d (n ∷ ns) × fits c o
 WalkBefore fits T h op c (There s) = T.Before h op c s
 
 abbrev pub walk_telling : {O S : Type 0} → (Command → O → Type 0) → Telling S → Telling (Walking O S)
@@ -77,10 +75,9 @@ walk_telling fits T = record { Before = WalkBefore fits T; because = T.because }
 pub record WalkTells {O S : Type 0} (begins : O → DirId → S) (fits : Command → O → Type 0) (D : Deciding S Answer) (T : Telling S) : Type 0
   where
     pub undecided : (o : O) (d : DirId) → D.decided (begins o d) ≡ None
-    pub before : (h : List Event) (op : OpId) (c : Command) (o : O) (d : DirId) → Walked (tree_steps h) op.actor root (way c) (of_op op (tree_steps h)) d []
+    pub before : (h : List Event) (op : OpId) (c : Command) (o : O) (d : DirId) → Walked root (way c) (of_op op (tree_steps h)) d []
         → fits c o → T.Before h op c (begins o d)
     pub point : (h : List Event) (op : OpId) (c : Command) (a : Answer) → Point (tree_steps h) op c a → T.because h op c a
-    pub known : (h : List Event) (op : OpId) (c : Command) (a : Answer) → KnownPoint (tree_steps h) op c a → T.because h op c a
 
 -- ---- the release, whose answer is decided from the first
 

@@ -3,11 +3,8 @@ use Rattle.std.specs.Prelude.{◌≡◌, ℕ, Bool, true, false, Option, Some, N
 use Rattle.std.specs.FinMap.{get}
 use Rattle.tect_ids.specs.declared.ids.BlkId.{BlkId}
 use Rattle.tect_ids.specs.declared.ids.Counts.{Counts}
-use Rattle.tect_ids.specs.declared.ids.DirId.{DirId}
-use Rattle.tect_ids.specs.declared.ids.FileId.{FileId}
 use Rattle.tect_ids.specs.declared.ids.OpId.{OpId}
 use Rattle.tect_ids.specs.declared.key.ChunkKey.{ChunkKey}
-use Rattle.tect_ids.specs.declared.values.Listed.{Listed}
 use Rattle.tect_ids.specs.declared.values.RowPart.{RowPart}
 use Rattle.tect_ids.specs.declared.command.Command.{Command}
 use Rattle.tect_ids.specs.declared.answer.Answer.{Answer}
@@ -21,7 +18,7 @@ use Rattle.program_laws.specs.Known.{Deciding}
 use Rattle.tree_model.specs.Tree.{Tree, opening_tree}
 use Rattle.program_forms.specs.declared.heard.Heard.{Heard}
 use Rattle.program_forms.specs.declared.standing.Standing.TheVariants.{Goes}
-use Rattle.program_forms.specs.Memories.{Memory, kept_listing, kept_blocks}
+use Rattle.program_forms.specs.Memories.{Memory}
 use Rattle.program_forms.specs.Kinds.{Asks, Says, Programs, turned, next_does, state_heard}
 use Rattle.world_runs.specs.declared.event.Event.{Event}
 use Rattle.world_runs.specs.declared.event.Event.TheVariants.{Own, Dumped}
@@ -29,9 +26,8 @@ use Rattle.world_runs.specs.declared.event.Happening.TheVariants.{Began, Acted}
 use Rattle.world_runs.specs.Moments.{IsWorldRun, moment}
 use Rattle.world_runs.specs.OwnRuns.{stored_after}
 use Rattle.claim_words.specs.Commands.{makes_block, maker_of, content_of, content_in}
-use Rattle.claim_words.specs.Opened.{learnt_of, opened_in}
+use Rattle.claim_words.specs.Opened.{opens_of, opened_in}
 use Rattle.claim_words.specs.TreeSteps.{told_of, tree_steps, tree_after, IsTreeRun}
-use Rattle.claim_words.specs.Shown.{WasShownEntries, WasShownBlocks}
 use Rattle.claim_words.specs.Points.{of_op}
 use Rattle.claim_words.specs.Headline.{HeadlineBy, command_of}
 use Rattle.telling_laws.specs.View.{Shows, AllKnown, MakesNew, attaches}
@@ -85,25 +81,13 @@ OfDecided A B (Some a) = B a
 abbrev pub Tells : {S : Type 0} → Deciding S Answer → Telling S → List Event → OpId → Command → S → Type 0
 Tells D T h op c s = OfDecided (T.Before h op c s) (T.because h op c) (D.decided s)
 
--- what an actor keeps of sealed objects, it was shown by that history
-pub record Recalls (h : List Event) (a : ℕ) (m : Memory) : Type 0 where
-  pub entries : (d : DirId) (items : List Listed) → kept_listing m d ≡ Some items → WasShownEntries (tree_steps h) a d items
-  pub blocks : (f : FileId) (rows : List RowPart) → kept_blocks m f ≡ Some rows → WasShownBlocks (tree_steps h) a f rows
-
--- look-ups leave what was opened, and what is kept
-pub record LeavesKept (m n : Memory) : Type 0 where
-  pub opened : n.opened ≡ m.opened
-  pub entries : (d : DirId) → kept_listing n d ≡ kept_listing m d
-  pub blocks : (f : FileId) → kept_blocks n f ≡ kept_blocks m f
-
 -- What is owed of programs, in a world of so many shards.
 pub record TellingLaws {S : Type 0} (counts : Counts) (P : Programs S) (D : Deciding S Answer) (T : Telling S) : Type 0 where
   -- as a served command begins, its op has begun no other and taken no step, and its actor knows which files it opened
   pub begins : (h : List Event) (op : OpId) (c : Command) (m : Memory) → P.serves c ≡ true → command_of h op ≡ None
       → of_op op (tree_steps h) ≡ [] → m.opened ≡ opened_in h op.actor → Tells D T (h ++ Own op (Began c) ∷ []) op c (P.starts counts m c)
   -- by its look-ups in its actor's memory it goes on, or finds its answer
-  pub turns : (h : List Event) (op : OpId) (c : Command) (m : Memory) (s : S) → IsTreeRun opening_tree (tree_steps h)
-      → Recalls h op.actor m → T.Before h op c s → D.decided s ≡ None
+  pub turns : (h : List Event) (op : OpId) (c : Command) (m : Memory) (s : S) → T.Before h op c s → D.decided s ≡ None
       → Tells D T h op c (turned P.kind counts m op s).state
   -- at the store's reply to its request, which the tree allows, if it is a step
   pub hears : (h : List Event) (op : OpId) (c : Command) (m : Memory) (s : S) (q : AnyReq) (x : AnyReply) (how : Heard)
@@ -124,20 +108,18 @@ pub record TellingLaws {S : Type 0} (counts : Counts) (P : Programs S) (D : Deci
   -- what is said was decided
   pub says : (m : Memory) (op : OpId) (s : S) (a : Answer) → next_does P.kind counts m op s ≡ Says a
       → D.decided (turned P.kind counts m op s).state ≡ Some a
-  -- of its replies its actor keeps just what these tell of what it opened and of sealed objects
+  -- of its replies its actor keeps just what it opened
   pub learns : (h : List Event) (op : OpId) (c : Command) (m : Memory) (s : S) (q : AnyReq) (x : AnyReply)
       → next_does P.kind counts m op s ≡ Asks q → Tells D T h op c (turned P.kind counts m op s).state
-      → P.kind.learns op (turned P.kind counts m op s).state q x ≡ learnt_of (Some c) q x
-  pub kept : (m : Memory) (op : OpId) (s : S) → LeavesKept m (turned P.kind counts m op s).memory
+      → P.kind.learns op (turned P.kind counts m op s).state q x ≡ opens_of (Some c) q x
+  -- its look-ups leave what it opened
+  pub opened : (m : Memory) (op : OpId) (s : S) → (turned P.kind counts m op s).memory.opened ≡ m.opened
 
 -- in each run each answer is explained by the history before it
 abbrev pub RunsAreExplained : {S : Type 0} → Counts → Programs S → Telling S → Type 0
 RunsAreExplained counts P T = (es : List Event) → IsWorldRun P counts es → HeadlineBy T.because es
 
--- at each moment of each run each actor knows which files it opened, and what it keeps it was shown
-abbrev pub RunsRecall : {S : Type 0} → Counts → Programs S → Type 0
-RunsRecall counts P = (es : List Event) → IsWorldRun P counts es → (a : ℕ) → Recalls es a ((moment P counts es).actors a).memory
-
+-- at each moment of each run each actor knows which files it opened
 abbrev pub RunsRemember : {S : Type 0} → Counts → Programs S → Type 0
 RunsRemember counts P = (es : List Event) → IsWorldRun P counts es → (a : ℕ)
     → ((moment P counts es).actors a).memory.opened ≡ opened_in es a
